@@ -4,6 +4,7 @@ use Rattle.std.specs.Option.{option_map}
 use Rattle.std.proofs.lemmas.Option.{slice_get-map}
 use mathlib.Core.List.{IsPrefix}
 use Rattle.col_core.proofs.CallerLemmas.{slice_longer}
+pub use Rattle.log_node.proofs.CallerLemmas.{get_map as at_image}
 
 module _ {A : Type 0} where
   pub prefix_length : (xs ys : List A) → IsPrefix xs ys → length xs ≤ length ys
@@ -15,7 +16,3 @@ module _ {A : Type 0} where
   pub at_end : (xs : List A) (x : A) → slice_get (xs ++ x ∷ []) (length xs) ≡ Some x
   at_end [] x = refl
   at_end (y ∷ xs) x = at_end xs x
-
-pub at_image : {A B : Type 0} (f : A → B) (xs : List A) (i : ℕ) (x : A) → slice_get xs i ≡ Some x
-    → slice_get (map f xs) i ≡ Some (f x)
-at_image f xs i x e = slice_get-map f xs i ∙ ap (option_map f) e

@@ -1,18 +1,16 @@
 -- The nodes of a line in rising key, and a fold that goes on over its first ones.
-use Rattle.std.proofs.Common.{◌≡◌, inl, inr, ℕ, ◌+◌, true, ◌<◌, ◌≤◌, List, [], ◌∷◌, ◌++◌, length, take, get_or, length-take-le, refl, ap, sym, subst, ◌∙◌, arith}
-use Rattle.std.specs.Prelude.{nat_le}
+use Rattle.std.proofs.Common.{◌≡◌, inl, inr, ℕ, true, ◌≤◌, List, [], ◌∷◌, ◌++◌, length, take, length-take-le, Result, Ok, Err, refl, ap, sym, subst, ◌∙◌, arith}
+use Rattle.std.specs.Prelude.{OnOk, nat_le}
 use Rattle.std.specs.List.{AllZip}
 use Rattle.std.proofs.lemmas.Bool.{le-leb}
-use Rattle.std.proofs.lemmas.List.{map-append, take_more}
 use Rattle.log_node.specs.declared.ids.Key.{Key}
 use Rattle.log_node.specs.Order.{key_below}
 use Rattle.log_node.specs.Seen.{PlacedNode}
-use Rattle.object_fold.specs.Nodes.{ObjectNode, object_node}
+use Rattle.object_fold.specs.Nodes.{ObjectNode, object_node, object_nodes}
 use Rattle.col_core.specs.Log.{Log}
 use Rattle.col_core.proofs.CallerLemmas.{In, choice, in_filter}
 use Rattle.playback.specs.Merging.{AreRising}
 use Rattle.lawful_run.specs.Objects.{AreObjectNodes, IsObjectNode}
-use Rattle.log_client.specs.Objects.{FoldsFirst, object_nodes}
 use Rattle.log_client.specs.Reading.{keys_of}
 use Rattle.log_client.proofs.CallerLemmas.{made_from, made_of, rising_head, rising_tail}
 use Rattle.atomic_map.specs.Writes.{items_up_to}
@@ -99,15 +97,7 @@ first_whole end n line part taken within le low =
     let same : n ≡ end = omega (arith, le, low, long) in
     ap (λ (k : ℕ). take k line) same ∙ taken
 
--- one node more is folded
-pub folds_next : (line : List PlacedNode) (n count : ℕ) (item d : PlacedNode) (Old New : List ObjectNode → Type 0)
-    → n < length line → get_or line n d ≡ item
-    → ((nodes : List ObjectNode) → Old nodes → New (nodes ++ object_node item ∷ [])) → n ≡ count
-    → FoldsFirst line count Old → FoldsFirst line (n + 1) New
-folds_next line n count item d Old New lt is feeds here f = (
-  omega (arith, lt),
-  subst New
-      (ap (λ (x : PlacedNode). object_nodes (take n line) ++ object_node x ∷ []) (sym is)
-      ∙ (sym (map-append object_node (take n line) (get_or line n d ∷ [])) ∙ ap object_nodes (sym (take_more line n d lt))))
-      (feeds (object_nodes (take n line)) (subst (λ (m : ℕ). Old (object_nodes (take m line))) (sym here) f.1)),
-)
+-- what follows from what holds at Ok
+pub ok_so : {A E : Type 0} (r : Result A E) (P Q : Type 0) → (P → Q) → OnOk r P → OnOk r Q
+ok_so (Ok a) P Q so p = so p
+ok_so (Err e) P Q so p = tt

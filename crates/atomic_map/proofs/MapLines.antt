@@ -17,20 +17,25 @@ use Rattle.col_core.specs.Computed.{dated}
 use Rattle.col_core.specs.History.{clock, entries, line}
 use Rattle.col_core.specs.Legal.{IsColumnHistory}
 use Rattle.log_node.proofs.CallerLemmas.{has-low}
+use Rattle.object_fold.specs.declared.kept_line.KeptLine.{KeptLine}
+use Rattle.object_fold.specs.Tables.{value_at}
+use Rattle.object_fold.specs.Folds.{FoldsFirst}
 use Rattle.col_core.proofs.CallerLemmas.{In, clocks_rise, contains_in, in_append, in_filter, in_left, in_line, in_right}
 use Rattle.lawful_run.specs.Asks.{keys_of as pair_keys, shards}
 use Rattle.log_client.specs.declared.store.Store.{Store}
 use Rattle.log_client.specs.declared.client.Client.{Client}
 use Rattle.log_client.specs.Appends.{AreColoursOf}
 use Rattle.log_client.specs.Clients.{IsClient, line_of, seen_of, tracks_of}
-use Rattle.log_client.specs.Objects.{AreColours, FoldsFirst}
+use Rattle.log_client.specs.Objects.{AreColours}
 use Rattle.log_client.specs.Reading.{RestsOn, home_seen, keys_of}
 use Rattle.log_client.specs.StampedReads.{IsAboveSeen, ReadsGoOn}
-use Rattle.log_client.proofs.CallerLemmas.{client_sees_on, follows_later, line_first, line_rises, made_from, rests_same, shards_of_store, tracks_long}
+use Rattle.log_client.proofs.CallerLemmas.{client_sees_on, folds_none, follows_later, line_first, line_rises, made_from, rests_same, shards_of_store, tracks_long}
+use Rattle.atomic_map.specs.declared.line_writes.LastWrite.{LastWrite}
 use Rattle.atomic_map.specs.declared.line_writes.LineWrites.{LineWrites}
 use Rattle.atomic_map.specs.declared.atomic.AtomicMap.{AtomicMap}
-use Rattle.atomic_map.specs.Writes.{AreFew, HoldsWrites, items_up_to}
-use Rattle.atomic_map.specs.Several.{CanGoOn, HasSameLast, IsAtomicMapOf, IsFolded, Opens}
+use Rattle.atomic_map.specs.Colours.{AreFew}
+use Rattle.atomic_map.specs.Writes.{HoldsWrites, items_up_to}
+use Rattle.atomic_map.specs.Several.{CanGoOn, HasSameLast, IsAtomicMapOf, IsFolded, IsLineOf, Opens}
 use Rattle.atomic_map.proofs.LineLemmas.{front_up_to}
 
 -- COLOURS
@@ -83,8 +88,10 @@ lines_later s c d m is on of = record {
     within = subst (λ (n : ℕ). All (λ k. k < n) m.colours) (sym (tracks_long s c d is on.client)) of.colours.within;
     few = of.colours.few;
   };
-  lines = λ colour one at.
-      follows_later c d colour one.count (HoldsWrites m.colours one) on.grows (of.lines colour one at);
+  lines = λ colour one at. let kept = of.lines colour one at in record {
+    colours_are = kept.colours_are;
+    folds = follows_later c d colour one.count (HoldsWrites one.state) on.grows kept.folds;
+  };
 }
 
 -- whatever is known of reads
@@ -100,24 +107,41 @@ opens_none m = record { same = (refl, refl, refl); lines = λ colour one at. inl
 pub opens_same : (m n p : AtomicMap) → HasSameLast n p → p.lines.items ≡ n.lines.items → Opens m n → Opens m p
 opens_same m n p same items o = record {
   same = (same.0 ∙ o.same.0, same.1 ∙ o.same.1, same.2 ∙ o.same.2);
-  lines = λ colour one at. o.lines colour one (ap (λ (l : List LineWrites). slice_get l colour) (sym items) ∙ at);
+  lines = λ colour one at. o.lines colour one (ap (λ (l : List (KeptLine LineWrites)). slice_get l colour) (sym items) ∙ at);
 }
 
-pub opens_more : (m n p : AtomicMap) (new : LineWrites) → HasSameLast n p → p.lines.items ≡ n.lines.items ++ new ∷ []
-    → new.count ≡ 0 → new.writes.entries ≡ [] → Opens m n → Opens m p
-opens_more m n p new same items none empty o = record {
+pub opens_more : (m n p : AtomicMap) (new : KeptLine LineWrites) → HasSameLast n p → p.lines.items ≡ n.lines.items ++ new ∷ []
+    → new.count ≡ 0 → new.state.colours ≡ n.colours → new.state.writes.entries ≡ [] → Opens m n → Opens m p
+opens_more m n p new same items none colours empty o = record {
   same = (same.0 ∙ o.same.0, same.1 ∙ o.same.1, same.2 ∙ o.same.2);
-  lines = λ colour one at. elim (split n.lines.items colour one (ap (λ (l : List LineWrites). slice_get l colour) (sym items) ∙ at)) [
+  lines = λ colour one at. elim (split n.lines.items colour one (ap (λ (l : List (KeptLine LineWrites)). slice_get l colour) (sym items) ∙ at)) [
     | inl early ↦ o.lines colour one early
-    | inr is ↦ inr (ap (λ (x : LineWrites). x.count) (sym is) ∙ none, ap (λ (x : LineWrites). x.writes.entries) (sym is) ∙ empty)
+    | inr is ↦ inr (
+      ap (λ (x : KeptLine LineWrites). x.count) (sym is) ∙ none,
+      ap (λ (x : KeptLine LineWrites). x.state.colours) (sym is) ∙ (colours ∙ o.same.1),
+      ap (λ (x : KeptLine LineWrites). x.state.writes.entries) (sym is) ∙ empty,
+    )
   ];
 } where
-  split : (xs : List LineWrites) (k : ℕ) (one : LineWrites) → slice_get (xs ++ new ∷ []) k ≡ Some one
+  split : (xs : List (KeptLine LineWrites)) (k : ℕ) (one : KeptLine LineWrites) → slice_get (xs ++ new ∷ []) k ≡ Some one
       → (slice_get xs k ≡ Some one) ⊎ (new ≡ one)
   split [] zero one e = inr (let f : new ≡ one = cc (e) in f)
   split [] (suc k) one e = absurd (let f : ⊥ = cc (e) in f)
   split (x ∷ xs) zero one e = inl e
   split (x ∷ xs) (suc k) one e = split xs k one e
+
+pub opens_map : (c : Client) (m n : AtomicMap) → Opens m n → IsAtomicMapOf c m → IsAtomicMapOf c n
+opens_map c m n o of = record {
+  colours = subst (AreColours c) (sym o.same.1) of.colours;
+  lines = λ colour one at. elim (o.lines colour one at) [
+    | inl early ↦ subst (λ (cs : List ℕ). IsLineOf c cs colour one) (sym o.same.1) (of.lines colour one early)
+    | inr new ↦ record {
+      colours_are = new.1 ∙ sym o.same.1;
+      folds = folds_none (line_of c colour) one.count (HoldsWrites one.state) new.0
+          (λ key. ap (λ (es : List (List ℕ × LastWrite)). value_at es key) new.2);
+    }
+  ];
+}
 
 pub opens_goes : (c : Client) (m n : AtomicMap) (stamp : ℕ) (ks : List ℕ) → Opens m n → All (CanGoOn c m stamp) ks
     → All (CanGoOn c n stamp) ks
@@ -170,7 +194,7 @@ can_go_on s c d m set stamp is on of of_set few above =
       few = few k inside;
       rising = line_rises s d on.client k;
       low = λ one at.
-          let f = of.lines k one at in
+          let f = (of.lines k one at).folds in
           let le = f.0 in
           let p = (on.grows k).1 in
           let high = All-contains (λ n. clock (seen_of c c.region n) ≤ stamp) (members set) k above (contains_in (members set) k i) in
@@ -181,12 +205,12 @@ can_go_on s c d m set stamp is on of of_set few above =
 
 -- WHILE THEY FOLD ON
 
-set_there : (xs : List LineWrites) (n : ℕ) (x y : LineWrites) → slice_get xs n ≡ Some y → slice_get (set xs n x) n ≡ Some x
+set_there : (xs : List (KeptLine LineWrites)) (n : ℕ) (x y : KeptLine LineWrites) → slice_get xs n ≡ Some y → slice_get (set xs n x) n ≡ Some x
 set_there [] n x y e = absurd (let f : ⊥ = cc (e) in f)
 set_there (z ∷ xs) zero x y e = refl
 set_there (z ∷ xs) (suc n) x y e = set_there xs n x y e
 
-set_elsewhere : (xs : List LineWrites) (n j : ℕ) (x : LineWrites) → j ≢ n → slice_get (set xs n x) j ≡ slice_get xs j
+set_elsewhere : (xs : List (KeptLine LineWrites)) (n j : ℕ) (x : KeptLine LineWrites) → j ≢ n → slice_get (set xs n x) j ≡ slice_get xs j
 set_elsewhere [] n j x ne = refl
 set_elsewhere (z ∷ xs) zero zero x ne = absurd (ne refl)
 set_elsewhere (z ∷ xs) zero (suc j) x ne = refl
@@ -213,15 +237,19 @@ none_folded c m stamp all of goes = record {
   whole = All-nil (IsFolded c m stamp);
 }
 
+-- where none is left, all are folded
+pub all_folded : (c : Client) (m n : AtomicMap) (stamp : ℕ) (first all : List ℕ) → FoldsLines c m n stamp first [] all
+    → All (IsFolded c n stamp) all
+all_folded c m n stamp first all f = subst (All (IsFolded c n stamp)) (sym (append-nil first) ∙ f.apart) f.whole
+
 -- the next of the colours is one of theirs
 pub next_of : (P : ℕ → Type 0) (first : List ℕ) (k : ℕ) (left all : List ℕ) → first ++ k ∷ left ≡ all → All P all → P k
 next_of P first k left all apart each =
     All-contains P all k each (contains_in all k (subst (In k) apart (in_right k first (k ∷ left) (inl refl))))
 
-module _ (c : Client) (m n : AtomicMap) (stamp k : ℕ) (first left all : List ℕ) (old : LineWrites)
+module _ (c : Client) (m n : AtomicMap) (stamp k : ℕ) (first left all : List ℕ) (old : KeptLine LineWrites)
     (f : FoldsLines c m n stamp first (k ∷ left) all) (many : MAX_COLOURS ≤ length m.lines.items)
-    (value : old ≡ slice_index_or n.lines.items k old) (shown : List PlacedNode) (shown_is : shown ≡ line_of c k)
-    (colours : List ℕ) (colours_are : colours ≡ n.colours) where
+    (value : old ≡ slice_index_or n.lines.items k old) (shown : List PlacedNode) (shown_is : shown ≡ line_of c k) where
   goes : CanGoOn c n stamp k
   goes = next_of (CanGoOn c n stamp) first k left all f.apart f.goes
 
@@ -232,25 +260,23 @@ module _ (c : Client) (m n : AtomicMap) (stamp k : ℕ) (first left all : List �
       slice_get_read n.lines.items (length n.lines.items) k old refl (omega (arith, few, long, many)) value
 
   -- the next line can fold on
-  pub next_few : AreFew colours
-  next_few = subst AreFew (sym colours_are) (few_tested n.colours f.map.colours.few)
-
-  pub next_folds : FoldsFirst shown old.count (HoldsWrites colours old)
+  pub next_folds : FoldsFirst shown old.count (HoldsWrites old.state)
   next_folds =
-      subst (λ (l : List PlacedNode). FoldsFirst l old.count (HoldsWrites colours old)) (sym shown_is)
-      (subst (λ (cs : List ℕ). FoldsFirst (line_of c k) old.count (HoldsWrites cs old)) (sym colours_are)
-      (f.map.lines k old there))
+      subst (λ (l : List PlacedNode). FoldsFirst l old.count (HoldsWrites old.state)) (sym shown_is)
+      (f.map.lines k old there).folds
 
   pub next_low : old.count ≤ length (items_up_to stamp shown)
   next_low =
       subst (λ (l : List PlacedNode). old.count ≤ length (items_up_to stamp l)) (sym shown_is) (goes.low old there)
 
-  module _ (new : LineWrites) (folds_shown : FoldsFirst shown new.count (HoldsWrites colours new))
+  module _ (new : KeptLine LineWrites) (stays : new.state.colours ≡ old.state.colours)
+      (folds_shown : FoldsFirst shown new.count (HoldsWrites new.state))
       (low_shown : new.count ≤ length (items_up_to stamp shown)) where
-    folds : FoldsFirst (line_of c k) new.count (HoldsWrites n.colours new)
-    folds =
-        subst (λ (l : List PlacedNode). FoldsFirst l new.count (HoldsWrites n.colours new)) shown_is
-        (subst (λ (cs : List ℕ). FoldsFirst shown new.count (HoldsWrites cs new)) colours_are folds_shown)
+    is_line : IsLineOf c n.colours k new
+    is_line = record {
+      colours_are = stays ∙ (f.map.lines k old there).colours_are;
+      folds = subst (λ (l : List PlacedNode). FoldsFirst l new.count (HoldsWrites new.state)) shown_is folds_shown;
+    }
 
     low : new.count ≤ length (items_up_to stamp (line_of c k))
     low = subst (λ (l : List PlacedNode). new.count ≤ length (items_up_to stamp l)) shown_is low_shown
@@ -260,9 +286,9 @@ module _ (c : Client) (m n : AtomicMap) (stamp k : ℕ) (first left all : List �
     then_map = record n { lines = with_item n.lines k new }
 
     -- the line of a colour is the new one, or as it was
-    at_colour : (P : LineWrites → Type 0) (j : ℕ) → (j ≡ k → P new)
-        → ((one : LineWrites) → slice_get n.lines.items j ≡ Some one → P one)
-        → (one : LineWrites) → slice_get then_map.lines.items j ≡ Some one → P one
+    at_colour : (P : KeptLine LineWrites → Type 0) (j : ℕ) → (j ≡ k → P new)
+        → ((one : KeptLine LineWrites) → slice_get n.lines.items j ≡ Some one → P one)
+        → (one : KeptLine LineWrites) → slice_get then_map.lines.items j ≡ Some one → P one
     at_colour P j here other one at = elim (cases_eq j k) [
       | inl e ↦
           (let same : new ≡ one =
@@ -276,8 +302,8 @@ module _ (c : Client) (m n : AtomicMap) (stamp k : ℕ) (first left all : List �
     pub next_map : IsAtomicMapOf c then_map
     next_map = record {
       colours = f.map.colours;
-      lines = λ j. at_colour (λ one. FoldsFirst (line_of c j) one.count (HoldsWrites n.colours one)) j
-          (λ e. subst (λ (i : ℕ). FoldsFirst (line_of c i) new.count (HoldsWrites n.colours new)) (sym e) folds) (f.map.lines j);
+      lines = λ j. at_colour (IsLineOf c n.colours j) j
+          (λ e. subst (λ (i : ℕ). IsLineOf c n.colours i new) (sym e) is_line) (f.map.lines j);
     }
 
     next_goes : (j : ℕ) → CanGoOn c n stamp j → CanGoOn c then_map stamp j

@@ -12,9 +12,11 @@ use Rattle.log_node.specs.declared.node.Node.{Node}
 use Rattle.log_node.specs.Seen.{PlacedNode}
 use Rattle.log_node.specs.Sets.{members}
 use Rattle.log_node.specs.Vectors.{at}
-use Rattle.object_fold.specs.Nodes.{ObjectNode, object_node}
+use Rattle.object_fold.specs.declared.kept_line.KeptLine.{KeptLine}
+use Rattle.object_fold.specs.Nodes.{ObjectNode, object_node, object_nodes}
 use Rattle.object_fold.specs.Tables.{value_at}
 use Rattle.object_fold.specs.Maps.{Value, values_among}
+use Rattle.object_fold.specs.Folds.{last_after}
 use Rattle.col_core.specs.History.{line}
 use Rattle.col_core.specs.Log.{Log}
 use Rattle.col_core.proofs.CallerLemmas.{In, contains_in, in_contains, in_filter, in_filter-back}
@@ -27,7 +29,6 @@ use Rattle.log_client.specs.declared.answers.StampedRead.{StampedRead}
 use Rattle.log_client.specs.declared.faults.SyncFault.{SyncFault}
 use Rattle.log_client.specs.Fits.{Fits}
 use Rattle.log_client.specs.Clients.{IsClient, caller_of, holds_of, line_of, seen_of, starts_of}
-use Rattle.log_client.specs.Objects.{last_after, object_nodes}
 use Rattle.log_client.specs.Reading.{home_seen, keys_of}
 use Rattle.log_client.specs.StampedReads.{HasRead, HoldsUpTo, ReadHidden, ReadRefused, ReadsAs, ReadsOn, ShowsItem}
 use Rattle.log_client.proofs.CallerLemmas.{line_is_own, line_rises, made_from, made_of}
@@ -38,18 +39,19 @@ use Rattle.atomic_map.specs.Writes.{items_up_to, last_write, later_write, value_
 use Rattle.atomic_map.specs.Several.{GetsAll, IsAtomicMapOf, IsFolded, latest_in, values_by_lines, values_in, write_in}
 use Rattle.atomic_map.proofs.LatestWrites.{value_by_lines}
 use Rattle.atomic_map.proofs.LineLemmas.{beside, beside_back, rises_items, rises_nodes, rises_up_to}
+use Rattle.col_core.proofs.CallerLemmas.{in_take as in_front}
 
 -- BY WHAT IS FOLDED
 
 -- the last write by one line more
-pub latest_next : (lines : List LineWrites) (first : List ℕ) (k : ℕ) (key : List ℕ) (one : LineWrites)
+pub latest_next : (lines : List (KeptLine LineWrites)) (first : List ℕ) (k : ℕ) (key : List ℕ) (one : KeptLine LineWrites)
     (old write next : Option LastWrite) → slice_get lines k ≡ Some one → old ≡ latest_in lines first key
-    → write ≡ value_at one.writes.entries key → next ≡ later_write old write → next ≡ latest_in lines (first ++ k ∷ []) key
+    → write ≡ value_at one.state.writes.entries key → next ≡ later_write old write → next ≡ latest_in lines (first ++ k ∷ []) key
 latest_next lines first k key one old write next there of is later =
     later
     ∙ (ap (λ (w : Option LastWrite). later_write w write) of
     ∙ (ap (later_write (latest_in lines first key))
-    (is ∙ ap (λ (o : Option LineWrites). write_in o key) (sym there))
+    (is ∙ ap (λ (o : Option (KeptLine LineWrites)). write_in o key) (sym there))
     ∙ sym (fold_push (λ (w : Option LastWrite) (n : ℕ). later_write w (write_in (slice_get lines n) key)) None first k)))
 
 -- what is folded up to a stamp are the last writes of the client's own lines
@@ -60,11 +62,13 @@ latest_is : (c : Client) (m : AtomicMap) (stamp : ℕ) (ks : List ℕ) → IsAto
 latest_is c m stamp [] of each key old = refl
 latest_is c m stamp (k ∷ ks) of each key old =
     let f = each k (inl refl) in
+    let kept = of.lines k f.line f.there in
     let here : write_in (slice_get m.lines.items k) key
     ≡ last_write m.colours (object_nodes (items_up_to stamp (line_of c k))) key =
-    ap (λ (o : Option LineWrites). write_in o key) f.there
-    ∙ ((of.lines k f.line f.there).1 key
-    ∙ ap (λ (l : List PlacedNode). last_write m.colours (object_nodes l) key) f.whole) in
+    ap (λ (o : Option (KeptLine LineWrites)). write_in o key) f.there
+    ∙ (kept.folds.1 key
+    ∙ (ap (λ (cs : List ℕ). last_write cs (object_nodes (take f.line.count (line_of c k))) key) kept.colours_are
+    ∙ ap (λ (l : List PlacedNode). last_write m.colours (object_nodes l) key) f.whole)) in
     latest_is c m stamp ks of (λ n i. each n (inr i)) key (later_write old (write_in (slice_get m.lines.items k) key))
     ∙ ap (λ (w : Option LastWrite). fold (λ write n. later_write write (last_write m.colours
     (object_nodes (items_up_to stamp (line_of c n))) key)) (later_write old w) ks) here
@@ -109,12 +113,6 @@ has_nodes log Among (key ∷ keys) found =
       among : (n : ObjectNode) → Among n → (rest : HasNodes log keys Among) → (m : ObjectNode) → In m (n ∷ rest.nodes) → Among m
       among n is rest m (inl e) = subst Among e is
       among n is rest m (inr i) = rest.among m i
-
-in_front : {A : Type 0} (n : ℕ) (xs : List A) (x : A) → In x (take n xs) → In x xs
-in_front zero xs x i = absurd i
-in_front (suc n) [] x i = absurd i
-in_front (suc n) (y ∷ xs) x (inl e) = inl e
-in_front (suc n) (y ∷ xs) x (inr i) = inr (in_front n xs x i)
 
 module _ (s : Store) (d : Client) (ks : List ℕ) (stamp : ℕ) (keys : List Key) (is : IsClient s d)
     (has : HasRead d ks stamp keys) (held : All (HoldsUpTo d stamp) ks) (rest : Rest) (fits : Fits (holds_of d) rest) where

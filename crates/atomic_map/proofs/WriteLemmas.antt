@@ -47,14 +47,15 @@ last_more colours nodes node key =
       by_bool false = refl
 
 -- writes that stand for nodes, after one more
-pub one_more : (colours : List ℕ) (old new : LineWrites) (nodes : List ObjectNode) (node : ObjectNode)
+pub one_more : (old new : LineWrites) (nodes : List ObjectNode) (node : ObjectNode) → new.colours ≡ old.colours
     → ((key : List ℕ) → value_at new.writes.entries key
-    ≡ write_then colours node key (value_at old.writes.entries key) (form_of node.text))
-    → HoldsWrites colours old nodes → HoldsWrites colours new (nodes ++ node ∷ [])
-one_more colours old new nodes node step stands key =
+    ≡ write_then old.colours node key (value_at old.writes.entries key) (form_of node.text))
+    → HoldsWrites old nodes → HoldsWrites new (nodes ++ node ∷ [])
+one_more old new nodes node same step stands key =
     step key
-    ∙ (ap (λ (w : Option LastWrite). write_then colours node key w (form_of node.text)) (stands key)
-    ∙ sym (last_more colours nodes node key))
+    ∙ (ap (λ (w : Option LastWrite). write_then old.colours node key w (form_of node.text)) (stands key)
+    ∙ (sym (last_more old.colours nodes node key)
+    ∙ ap (λ (cs : List ℕ). last_write cs (nodes ++ node ∷ []) key) (sym same)))
 
 -- what holds of all writes at Ok
 pub ok_for_all : {A E B : Type 0} (r : Result A E) (P : B → Type 0) (Q : Type 0) → ((b : B) → OnOk r (P b))

@@ -3,7 +3,8 @@ use Rattle.std.specs.Prelude.{◌≡◌, ◌⊎◌, ℕ, ◌<◌, ◌≤◌, Lis
 use Rattle.std.specs.List.{fold}
 use Rattle.log_node.specs.declared.ids.Key.{Key}
 use Rattle.log_node.specs.declared.limits.TheConstants.{MAX_COLOURS}
-use Rattle.object_fold.specs.Nodes.{ObjectNode}
+use Rattle.object_fold.specs.declared.kept_line.KeptLine.{KeptLine}
+use Rattle.object_fold.specs.Nodes.{ObjectNode, object_nodes}
 use Rattle.object_fold.specs.Tables.{value_at}
 use Rattle.object_fold.specs.Maps.{Value, values_among}
 use Rattle.col_core.specs.Log.{Log}
@@ -21,7 +22,7 @@ use Rattle.log_client.specs.Calls.{IsExplained}
 use Rattle.log_client.specs.Clients.{line_of, tracks_of}
 use Rattle.log_client.specs.Reading.{keys_of}
 use Rattle.log_client.specs.StampedReads.{ReadHidden, ReadRefused, ReadsAs}
-use Rattle.log_client.specs.Objects.{AreColours, Follows, IsAwayFrom, object_nodes}
+use Rattle.log_client.specs.Objects.{AreColours, Follows, IsAwayFrom}
 use Rattle.atomic_map.specs.declared.line_writes.LastWrite.{LastWrite}
 use Rattle.atomic_map.specs.declared.line_writes.LineWrites.{LineWrites}
 use Rattle.atomic_map.specs.declared.atomic.AtomicMap.{AtomicMap}
@@ -29,12 +30,17 @@ use Rattle.atomic_map.specs.Writes.{HoldsWrites, items_up_to, last_write, later_
 
 -- WHAT IS KEPT
 
--- The map is kept beside the client: its colours are the client's, and what is folded of a colour are the first nodes of the own
--- line that the client has played of it.
+-- The line of a colour is kept, of a map with these colours: what is folded are the first nodes of the own line that the client
+-- has played of it.
+pub record IsLineOf (c : Client) (colours : List ℕ) (colour : ℕ) (line : KeptLine LineWrites) : Type 0 where
+  pub colours_are : line.state.colours ≡ colours
+  pub folds : Follows c colour line.count (HoldsWrites line.state)
+
+-- The map is kept beside the client: its colours are the client's, and so are the lines that it has.
 pub record IsAtomicMapOf (c : Client) (m : AtomicMap) : Type 0 where
   pub colours : AreColours c m.colours
-  pub lines : (colour : ℕ) (line : LineWrites) → slice_get m.lines.items colour ≡ Some line
-      → Follows c colour line.count (HoldsWrites m.colours line)
+  pub lines : (colour : ℕ) (line : KeptLine LineWrites) → slice_get m.lines.items colour ≡ Some line
+      → IsLineOf c m.colours colour line
 
 -- the one map is the other one, and what is folded may differ
 abbrev pub IsSameMap : AtomicMap → AtomicMap → Type 0
@@ -47,37 +53,38 @@ HasSameLast m n = (n.home ≡ m.home) × (n.colours ≡ m.colours) × (n.last �
 -- the one map has the other one's lines, and maybe more, of which nothing is folded
 pub record Opens (old new : AtomicMap) : Type 0 where
   pub same : HasSameLast old new
-  pub lines : (colour : ℕ) (line : LineWrites) → slice_get new.lines.items colour ≡ Some line
-      → (slice_get old.lines.items colour ≡ Some line) ⊎ ((line.count ≡ 0) × (line.writes.entries ≡ []))
+  pub lines : (colour : ℕ) (line : KeptLine LineWrites) → slice_get new.lines.items colour ≡ Some line
+      → (slice_get old.lines.items colour ≡ Some line)
+      ⊎ ((line.count ≡ 0) × (line.state.colours ≡ old.colours) × (line.state.writes.entries ≡ []))
 
 -- The colour is one of the client, whose own line of it rises, and of that no node is folded that has a greater stamp than this.
 pub record CanGoOn (c : Client) (m : AtomicMap) (stamp colour : ℕ) : Type 0 where
   pub within : colour < length (tracks_of c)
   pub few : colour < MAX_COLOURS
   pub rising : AreRising (keys_of (line_of c colour))
-  pub low : (line : LineWrites) → slice_get m.lines.items colour ≡ Some line
+  pub low : (line : KeptLine LineWrites) → slice_get m.lines.items colour ≡ Some line
       → line.count ≤ length (items_up_to stamp (line_of c colour))
 
 -- what is folded of the colour are the nodes of the client's own line up to the stamp
 pub record IsFolded (c : Client) (m : AtomicMap) (stamp colour : ℕ) : Type 0 where
-  pub line : LineWrites
+  pub line : KeptLine LineWrites
   pub there : slice_get m.lines.items colour ≡ Some line
   pub whole : take line.count (line_of c colour) ≡ items_up_to stamp (line_of c colour)
 
 -- WHAT IS READ
 
 -- a key's last write in a line, if there is one
-abbrev pub write_in : Option LineWrites → List ℕ → Option LastWrite
+abbrev pub write_in : Option (KeptLine LineWrites) → List ℕ → Option LastWrite
 write_in None key = None
-write_in (Some line) key = value_at line.writes.entries key
+write_in (Some line) key = value_at line.state.writes.entries key
 
 -- a key's last write in the lines of these colours
-abbrev pub latest_in : List LineWrites → List ℕ → List ℕ → Option LastWrite
+abbrev pub latest_in : List (KeptLine LineWrites) → List ℕ → List ℕ → Option LastWrite
 latest_in lines colours key =
     fold (λ write colour. later_write write (write_in (slice_get lines colour) key)) None colours
 
 -- the values of keys by the lines of these colours
-abbrev pub values_in : List LineWrites → List ℕ → List (List ℕ) → List Value
+abbrev pub values_in : List (KeptLine LineWrites) → List ℕ → List (List ℕ) → List Value
 values_in lines colours keys = map (λ key. value_left (latest_in lines colours key)) keys
 
 -- A key's last write in the own lines, up to a stamp, that a client holds of some colours; the map has the first ones.

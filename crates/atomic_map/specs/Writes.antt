@@ -1,9 +1,8 @@
 -- What nodes write under a key last.
-use Rattle.std.specs.Prelude.{◌≡◌, IsTrue, ℕ, nat_le, nat_lt, List, Option, Some, None, if◌then◌else◌}
-use Rattle.std.specs.List.{filter, fold, list_all}
+use Rattle.std.specs.Prelude.{◌≡◌, ℕ, nat_le, List, Option, Some, None, if◌then◌else◌}
+use Rattle.std.specs.List.{filter, fold}
 use Rattle.std.specs.Str.{bytes_eq}
 use Rattle.log_node.specs.declared.ids.Key.{Key}
-use Rattle.log_node.specs.declared.limits.TheConstants.{MAX_COLOURS}
 use Rattle.log_node.specs.declared.forms.Pair.{Pair}
 use Rattle.log_node.specs.declared.forms.Form.{Form}
 use Rattle.log_node.specs.declared.forms.Form.TheVariants as forms
@@ -16,10 +15,6 @@ use Rattle.object_fold.specs.Tables.{value_at}
 use Rattle.object_fold.specs.Maps.{Value}
 use Rattle.atomic_map.specs.declared.line_writes.LastWrite.{LastWrite}
 use Rattle.atomic_map.specs.declared.line_writes.LineWrites.{LineWrites}
-
--- no colour is beyond those that a set can have
-abbrev pub AreFew : List ℕ → Type 0
-AreFew colours = IsTrue (list_all (λ colour. nat_lt colour MAX_COLOURS) colours)
 
 -- the key's last write after a pair is put by the node with this key
 abbrev pub put_with : Key → List ℕ → Option LastWrite → Pair → Option LastWrite
@@ -51,9 +46,9 @@ write_after key old nodes = fold (λ write node. write_with node.key key write (
 abbrev pub last_write : List ℕ → List ObjectNode → List ℕ → Option LastWrite
 last_write colours nodes key = write_after key None (nodes_of (shard_of colours key) nodes)
 
--- the line's writes are the last ones among these nodes, in a map with these colours
-abbrev pub HoldsWrites : List ℕ → LineWrites → List ObjectNode → Type 0
-HoldsWrites colours line nodes = (key : List ℕ) → value_at line.writes.entries key ≡ last_write colours nodes key
+-- the line's writes are the last ones among these nodes
+abbrev pub HoldsWrites : LineWrites → List ObjectNode → Type 0
+HoldsWrites line nodes = (key : List ℕ) → value_at line.writes.entries key ≡ last_write line.colours nodes key
 
 -- the value that a last write leaves, if there is one
 abbrev pub value_left : Option LastWrite → Value

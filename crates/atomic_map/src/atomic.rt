@@ -4,20 +4,24 @@ ghost use Rattle.std.specs.List.{All};
 ghost use Rattle.std.specs.Option.{option_copied};
 ghost use Rattle.log_node.specs.Sets.{members};
 ghost use Rattle.object_form.specs.Forms.{ArePairs, form_text};
+ghost use Rattle.object_fold.specs.Folds.{last_after};
 ghost use Rattle.lawful_run.specs.Asks.{shards, keys_of};
+ghost use Rattle.log_client.specs.Calls.{AnswersEach};
 ghost use Rattle.log_client.specs.Clients.{IsClient};
 ghost use Rattle.log_client.specs.Reading.{RestsOn, raised_colours, synced_colours};
-ghost use Rattle.log_client.specs.Objects.{AreColours, StandsIn, PutRefused, last_after};
+ghost use Rattle.log_client.specs.Objects.{AreColours, StandsIn, PutRefused};
+ghost use Rattle.atomic_map.specs.Colours.{AreFew};
 ghost use Rattle.atomic_map.specs.Writes.{value_left};
 ghost use Rattle.atomic_map.specs.Several.{CanGoOn, IsAtomicMapOf, IsFolded, IsSameMap, HasSameLast, GetsAll, GetAllRefused, Opens, latest_in, values_by_lines, values_in};
 
-use crate::line_writes::{LastWrite, LineWrites, later_write};
+use crate::line_fold::{fold_on, later_write};
+use crate::line_writes::{LastWrite, LineWrites};
 use fuzzy_io::Gate;
 use log_client::{
     Appended, Client, ObjectFault, StampedRead, Store, copied_pairs, key_shards, pair_shards,
 };
 use log_node::{ColourList, Colours, Form, Item, Key, Keys, ListOf, MAX_COLOURS, Pairs, Text};
-use object_fold::Values;
+use object_fold::{KeptLine, Values};
 use std::alloc::{AllocError, Global};
 use std::sync::Wait;
 
@@ -27,7 +31,7 @@ use std::sync::Wait;
 pub struct AtomicMap {
     pub(crate) home: u8,
     pub(crate) colours: ColourList,
-    pub(crate) lines: Vec<LineWrites>,
+    pub(crate) lines: Vec<KeptLine<LineWrites>>,
     pub(crate) last: Option<Key>,
 }
 
@@ -95,11 +99,14 @@ impl AtomicMap {
 
     // Lines for all colours, of which nothing is folded where they are new.
     fn open_lines(&mut self, alloc: Global) -> Result<(), AllocError>
+        requires { AreFew self.old.colours }
         ensures opens { Opens self.old self.new }
         ensures all { OnOk result (MAX_COLOURS ≤ length self.new.lines.items) }
     {
         for _place in self.lines.len()..MAX_COLOURS as usize {
-            self.lines.push(LineWrites::new(alloc))?;
+            let copy = Vec::from_slice(alloc, self.colours.as_slice())?;
+            let line = LineWrites::open(alloc, ListOf::from(copy));
+            self.lines.push(KeptLine::new(line))?;
         }
         Ok(())
     }
@@ -121,9 +128,9 @@ impl AtomicMap {
         ensures whole { OnOk result (All (IsFolded client.now self.new stamp) (members set)) }
     {
         for colour in set.members() {
-            self.lines[colour as usize].fold_on(
+            fold_on(
+                &mut self.lines[colour as usize],
                 alloc,
-                self.colours.as_slice(),
                 client.line(colour),
                 stamp,
             )?;
@@ -138,7 +145,7 @@ impl AtomicMap {
     {
         let mut latest = None;
         for colour in set.members() {
-            latest = later_write(latest, self.lines[colour as usize].get(key));
+            latest = later_write(latest, self.lines[colour as usize].state.get(key));
         }
         latest
     }
@@ -217,6 +224,7 @@ impl AtomicMap {
         ensures stays { OnErr result (self.new.last ≡ self.old.last) }
         ensures raises { IfOk result (λ r. raised_colours r.1.raises ≡ shards self.old.colours keys.now) }
         ensures syncs { IfOk result (λ r. synced_colours r.1.syncs ≡ shards self.old.colours keys.now) }
+        ensures played { IfOk result (λ r. AnswersEach client.old client.new r.1.syncs) }
         ensures away { client.old.region ≢ self.old.home → result ≡ Err (ObjectFault.NotHome self.old.home) }
         ensures err { IfErr result (GetAllRefused self.old.home store.now client.old client.new
             (shards self.old.colours keys.now)) }

@@ -2,6 +2,7 @@
 #![tactic(auto)]
 
 mod atomic;
+mod line_fold;
 mod line_writes;
 
 pub use atomic::AtomicMap;

@@ -15,16 +15,13 @@ use Rattle.log_client.specs.Clients.{played_of}
 use Rattle.log_client.proofs.CallerLemmas.{IsPlacedIn, PlayedIn, of_region, zip_at, zip_long}
 use Rattle.causal_map.specs.declared.kept_writes.KeptWrites.{KeptWrites}
 use Rattle.causal_map.specs.Played.{chain_node, chain_nodes, chain_nodes_after, ArePlayed, KeepsFirst}
+use Rattle.log_node.proofs.CallerLemmas.{count_by-cons as counted}
 
 abbrev pub node_of_region : ℕ → PlacedNode → Bool
 node_of_region r item = item.node.region == r
 
 abbrev pub chain_of_region : ℕ → ChainNode → Bool
 chain_of_region r node = node.region == r
-
-counted : {A : Type 0} (test : A → Bool) (y : A) (ys : List A)
-    → count_by test (y ∷ ys) ≡ cond (test y) 1 0 + count_by test ys
-counted test y ys = sum_by-cons (λ x. cond (test x) 1 0) y ys
 
 -- the node at a place of the list
 pub chain_at : (earlier items : List PlacedNode) (n : ℕ) (node : ChainNode)

@@ -1,5 +1,5 @@
 // The causal map.
-ghost use Rattle.std.specs.Prelude.{◌≡◌, ◌<◌, IsTrue, ◌∷◌, [], length, None, IfOk, IfErr};
+ghost use Rattle.std.specs.Prelude.{◌≡◌, ◌<◌, IsTrue, ◌∷◌, [], length, None, IfOk, IfErr, OnErr};
 ghost use Rattle.object_form.specs.Forms.{is_word, form_text};
 ghost use Rattle.log_client.specs.Calls.{AnswersSync};
 ghost use Rattle.log_client.specs.Clients.{IsClient, Helps, tracks_of};
@@ -25,6 +25,7 @@ pub struct CausalMap {
 impl CausalMap {
     /// The map of a colour, of which nothing is folded. Takes no memory.
     pub fn open(alloc: Global, colour: u8) -> Result<CausalMap, AllocError>
+        ensures memory { OnErr result ⊥ }
         ensures of { IfOk result (λ map. map.colour ≡ colour) }
         ensures map { (client : Client) → colour < length (tracks_of client) → colour < MAX_COLOURS
             → IfOk result (IsCausalMapOf client) }

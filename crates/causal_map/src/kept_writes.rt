@@ -1,4 +1,5 @@
-// What of a causal map is folded, and kept.
+// What of a causal map is folded, and kept. A node is fed with what it needs, so the fold goes on in the order of play, and no
+// `KeptLine` keeps it.
 ghost use Rattle.std.specs.Prelude.{◌≡◌, [], length, IfOk, OnOk};
 ghost use Rattle.object_fold.specs.Causal.{IsCausalAnswer};
 ghost use Rattle.object_fold.specs.CausalStates.{IsCausalMap};

@@ -31,17 +31,10 @@ use Rattle.chain_store.specs.declared.told.Told.{Told}
 use Rattle.chain_store.specs.Entered.{AreBelow}
 use Rattle.chain_store.specs.Histories.{Names, EntersAs, Brings, FitsColumn, HasIds, IsOfMaker}
 use Rattle.chain_store.specs.Columns.{IsOfHistory, newest_in, newest_nodes, told_by, last_of, single_told, told_propose}
+pub use Rattle.log_node.proofs.CallerLemmas.{get_longer as get_old}
+pub use Rattle.log_node.proofs.CallerLemmas.{get_last}
 
 -- places of a list with one element more at its end
-
-pub get_last : {A : Type 0} (xs : List A) (x : A) → slice_get (xs ++ x ∷ []) (length xs) ≡ Some x
-get_last [] x = refl
-get_last (y ∷ xs) x = get_last xs x
-
-pub get_old : {A : Type 0} (xs ys : List A) (n : ℕ) (y : A) → slice_get xs n ≡ Some y → slice_get (xs ++ ys) n ≡ Some y
-get_old [] ys n y e = absurd (let f : ⊥ = cc in f)
-get_old (z ∷ xs) ys zero y e = e
-get_old (z ∷ xs) ys (suc n) y e = get_old xs ys n y e
 
 pub get_cases : {A : Type 0} (xs : List A) (x : A) (n : ℕ) (y : A) → slice_get (xs ++ x ∷ []) n ≡ Some y
     → (slice_get xs n ≡ Some y) ⊎ (x ≡ y)

@@ -25,10 +25,7 @@ use Rattle.chain_store.specs.Histories.{entries_in, maker, HasIds}
 use Rattle.chain_store.specs.Columns.{Stands, tag_of}
 use Rattle.chain_store.proofs.Entering.{column_ids, entered_named, entered_region}
 use Rattle.chain_store.specs.Passes.{ColumnCell, ColumnPass, IsHolder, ShowsHistory, dated_in, tag_in}
-
-pub ok_as : {T E : Type 0} (r : Result T E) (P Q : T → Type 0) → ((x : T) → P x → Q x) → IfOk r P → IfOk r Q
-ok_as (Ok x) P Q f h = f x h
-ok_as (Err e) P Q f h = tt
+pub use Rattle.log_node.proofs.CallerLemmas.{ok_then as ok_as}
 
 -- entries of a number
 

@@ -9,19 +9,12 @@ use Rattle.log_node.specs.declared.limits.TheConstants.{MAX_COLOURS}
 use Rattle.log_node.specs.declared.ids.Colours.{Colours}
 use Rattle.log_node.specs.Sets.{has, members}
 use Rattle.col_core.proofs.CallerLemmas.{if_true}
+pub use Rattle.log_node.proofs.CallerLemmas.{get_within as got}
+pub use Rattle.log_node.proofs.CallerLemmas.{get_map_back as image_at}
+pub use Rattle.log_node.proofs.CallerLemmas.{get_map as at_image}
 
 pub all_by : {A : Type 0} (P : A → Type 0) (xs : List A) → ((i : ℕ) (x : A) → slice_get xs i ≡ Some x → P x) → All P xs
 all_by P xs h = λ i d lt. h i (get_or xs i d) (slice_get-get_or xs i d lt)
-
-pub image_at : {A B : Type 0} (f : A → B) (xs : List A) (i : ℕ) (y : B) → slice_get (map f xs) i ≡ Some y
-    → (x : A) × (slice_get xs i ≡ Some x) × (f x ≡ y)
-image_at f [] i y e = absurd cc
-image_at f (x ∷ xs) zero y e = (x, refl, cc e)
-image_at f (x ∷ xs) (suc i) y e = image_at f xs i y e
-
-pub at_image : {A B : Type 0} (f : A → B) (xs : List A) (i : ℕ) (x : A) → slice_get xs i ≡ Some x
-    → slice_get (map f xs) i ≡ Some (f x)
-at_image f xs i x e = slice_get-map f xs i ∙ ap (option_map f) e
 
 -- an element at a place is one of the list
 pub contained : {A : Type 0} (xs : List A) (i : ℕ) (x : A) → slice_get xs i ≡ Some x → Contains xs x
@@ -42,11 +35,6 @@ got_second {A} [] ys i x e = let z : i ≡ 0 + i = omega arith in subst (λ (k :
 got_second {A} (y ∷ xs) ys i x e =
     let z : suc (length xs + i) ≡ suc (length xs) + i = omega arith in
     subst (λ (k : ℕ). slice_get ((y ∷ xs) ++ ys) k ≡ Some x) z (got_second xs ys i x e)
-
-pub got : {A : Type 0} (xs : List A) (i : ℕ) → i < length xs → (x : A) × (slice_get xs i ≡ Some x)
-got [] i lt = absurd (omega (arith, lt))
-got (x ∷ xs) zero lt = (x, refl)
-got (x ∷ xs) (suc i) lt = got xs i (omega (arith, lt))
 
 -- a place of the images of n numbers
 pub range_place : {A : Type 0} (f : ℕ → A) (a n i : ℕ) (y : A) → slice_get (map f (range_with_len a n)) i ≡ Some y

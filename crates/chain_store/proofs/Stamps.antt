@@ -29,6 +29,7 @@ use Rattle.chain_store.specs.Regions.{tag_at}
 use Rattle.chain_store.specs.Holds.{IsHold, GivesIn, seen_in}
 use Rattle.chain_store.proofs.Moving.{get_dropped}
 use Rattle.chain_store.proofs.Resting.{lawful_seen}
+use Rattle.log_node.proofs.CallerLemmas.{get_map as get_mapped}
 
 -- a key of the line
 pub line_stamped : (own regions : ℕ) (history : List Entry) → IsColumnHistory own regions (dated own history)
@@ -64,12 +65,6 @@ get_taken zero xs n y e = absurd (let f : ⊥ = cc (e) in f)
 get_taken (suc k) [] n y e = absurd (let f : ⊥ = cc (e) in f)
 get_taken (suc k) (x ∷ xs) zero y e = e
 get_taken (suc k) (x ∷ xs) (suc n) y e = get_taken k xs n y e
-
-get_mapped : {A B : Type 0} (f : A → B) (xs : List A) (n : ℕ) (x : A) → slice_get xs n ≡ Some x
-    → slice_get (map f xs) n ≡ Some (f x)
-get_mapped f [] n x e = absurd (let z : ⊥ = cc (e) in z)
-get_mapped f (y ∷ ys) zero x e = let z : y ≡ x = cc (e) in ap (λ w. Some (f w)) z
-get_mapped f (y ∷ ys) (suc n) x e = get_mapped f ys n x e
 
 -- a beginning of what was told lawfully is lawful
 pub lawful_front : (t : Tag) (log whole : List Told) → IsPrefix log whole → IsLawfulTold t whole → IsLawfulTold t log

@@ -6,6 +6,8 @@ use Rattle.std.proofs.lemmas.Option.{same_Some}
 use mathlib.Core.List.{IsPrefix}
 use Rattle.col_core.specs.Keeping.{updated, updated_at}
 use Rattle.col_core.proofs.CallerLemmas.{choice}
+pub use Rattle.log_node.proofs.CallerLemmas.{get_map_back as image_at}
+pub use Rattle.log_node.proofs.CallerLemmas.{get_map as map_at}
 
 module _ {A : Type 0} where
   pub prefix_self : (xs : List A) → IsPrefix xs xs
@@ -58,18 +60,6 @@ module _ {A : Type 0} where
   drop_longer (suc n) [] more [] p = (drop (suc n) more, refl)
   drop_longer (suc n) [] more (h ∷ hs) p = let e = p.1 in absurd (let f : ⊥ = cc in f)
   drop_longer (suc n) (x ∷ xs) more hs p = drop_longer n xs more hs p
-
-pub image_at : {A B : Type 0} (f : A → B) (xs : List A) (n : ℕ) (y : B) → slice_get (map f xs) n ≡ Some y
-    → (x : A) × (slice_get xs n ≡ Some x) × (f x ≡ y)
-image_at f [] n y e = absurd (let g : ⊥ = cc in g)
-image_at f (x ∷ xs) zero y e = (x, refl, same_Some (f x) y e)
-image_at f (x ∷ xs) (suc n) y e = image_at f xs n y e
-
-pub map_at : {A B : Type 0} (f : A → B) (xs : List A) (n : ℕ) (x : A) → slice_get xs n ≡ Some x
-    → slice_get (map f xs) n ≡ Some (f x)
-map_at f [] n x e = absurd (let g : ⊥ = cc in g)
-map_at {A} {B} f (y ∷ xs) zero x e = ap (λ (z : A). Some (f z)) (same_Some y x e)
-map_at f (y ∷ xs) (suc n) x e = map_at f xs n x e
 
 -- at another value
 pub at_new : {A : Type 0} (P : A → Type 0) (f : ℕ → A) (n : ℕ) (x : A) (m : ℕ) → (m ≡ n → P x)

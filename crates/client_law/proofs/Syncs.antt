@@ -25,6 +25,8 @@ use Rattle.client_law.specs.Moves.{home_dated, LooksThere, SyncsStand, ShowsTher
 use Rattle.client_law.proofs.Lists.{at_new, map_at}
 use Rattle.client_law.proofs.Keeping.{own_chain, seen_on, known_on, under_on, made_on, starts_on, reached_on}
 use Rattle.client_law.proofs.Events.{seen_here}
+use Rattle.log_node.proofs.CallerLemmas.{count_by-cons as counted}
+use Rattle.log_node.proofs.CallerLemmas.{all_zip_of}
 
 pub whole : (new : Seen) (caller : Caller) (colour : ℕ)
     → take (length (new caller.own colour)) (new caller.own colour) ≡ new caller.own colour
@@ -59,13 +61,6 @@ syncs_stand old new rest caller kept colour snapshot on k l = record {
       omega (arith, a, b);
 }
 
-all_zip_of : {A B : Type 0} (R S : A → B → Type 0) → ((x : A) (y : B) → R x y → S x y)
-    → (xs : List A) (ys : List B) → AllZip R xs ys → AllZip S xs ys
-all_zip_of R S f [] [] a = tt
-all_zip_of R S f [] (y ∷ ys) a = absurd a
-all_zip_of R S f (x ∷ xs) [] a = absurd a
-all_zip_of R S f (x ∷ xs) (y ∷ ys) a = (f x y a.0, all_zip_of R S f xs ys a.1)
-
 pub plays_stand : PlaysStand
 plays_stand new rest caller kept colour snapshot nodes p = record {
   order = p.order;
@@ -85,9 +80,6 @@ plays_stand new rest caller kept colour snapshot nodes p = record {
   }
 
 -- WHAT WAS PLAYED
-
-counted : {A : Type 0} (p : A → Bool) (y : A) (ys : List A) → count_by p (y ∷ ys) ≡ cond (p y) 1 0 + count_by p ys
-counted p y ys = sum_by-cons (λ x. cond (p x) 1 0) y ys
 
 some_counted : {A : Type 0} (p : A → Bool) (xs : List A) → 0 < count_by p xs
     → (i : ℕ) × (x : A) × (slice_get xs i ≡ Some x) × (p x ≡ true)

@@ -104,6 +104,7 @@ pub record HasBegun (old new : Seen) (rest : Rest) (caller : Caller) (kept : Kep
   pub steps : (colour : ℕ) → EachStep caller old new colour (IsStepOf node.id)
   pub before : (colour : ℕ) → kept.seen caller.own colour ≤ length (old caller.own colour)
 
+-- An append that has begun so begins its row in the log that is seen, with the client's steps of late.
 abbrev pub RowsBegin : Type 0
 RowsBegin = (old new : Seen) (rest : Rest) (caller : Caller) (kept : Kept) (node : Node)
     → SeesOn caller old new → HasBegun old new rest caller kept node
@@ -148,6 +149,7 @@ pub record StandInAll (old new : Seen) (rest : Rest) (caller : Caller) (kept : K
   pub colours : map (λ (p : PointPiece). p.colour) points ≡ members node.colours
   pub each : All (StandsThere old new caller node stamp) points
 
+-- It stands so in the log that is seen, under a stamp above the floor and behind all that was known to stand.
 abbrev pub SeveralStand : Type 0
 SeveralStand = (old new : Seen) (rest : Rest) (caller : Caller) (kept : Kept) (node : Node) (stamp : ℕ)
     (points : List PointPiece)
@@ -172,6 +174,7 @@ pub record IsSettledThere (new : Seen) (rest : Rest) (caller : Caller) (node : N
   pub closed : open_entry node.id (entries (new caller.own colour)) ≡ None
   pub done : ((why : Why) × (mark ≡ marks.Fenced why)) ⊎ IsTrue (has_entered node.id (new caller.own colour))
 
+-- What is settled so is settled in the log that is seen, for good.
 abbrev pub SettledForGood : Type 0
 SettledForGood = (new : Seen) (rest : Rest) (caller : Caller) (node : Node) (colour : ℕ)
     → IsSettledThere new rest caller node colour → IsSettledIn (log_of new rest) caller node colour
@@ -205,12 +208,14 @@ pub record EndsAtColour (new : Seen) (rest : Rest) (node : Node) (colour : ℕ) 
       → (mark : Mark) × (mark ≢ marks.None) × (mark ≢ marks.Fenced StampEnd)
       × HasMark (log_of new rest) node other mark) (members node.colours)
 
+-- An append that has begun, ends so and is settled everywhere is gone at the stamps' end in the log that is seen.
 abbrev pub GoneAtEnd : Type 0
 GoneAtEnd = (old new : Seen) (rest : Rest) (caller : Caller) (kept : Kept) (node : Node) (colour : ℕ)
     → SeesOn caller old new → HasBegun old new rest caller kept node → EndsAtColour new rest node colour
     → IsSettledEverywhere new rest caller node
     → IsGoneAtEnd (log_of new rest) caller kept node colour (steps_since caller old new)
 
+-- An append that has begun, is gone for want of memory and is settled everywhere is gone so in the log that is seen.
 abbrev pub GoneForMemory : Type 0
 GoneForMemory = (old new : Seen) (rest : Rest) (caller : Caller) (kept : Kept) (node : Node)
     → SeesOn caller old new → HasBegun old new rest caller kept node
@@ -228,6 +233,7 @@ pub record StopsThere (old new : Seen) (rest : Rest) (caller : Caller) (node : N
   pub no_later : (n colour : ℕ) → slice_get (members node.colours) n ≡ Some colour
       → EachStep caller old new colour (IsStepWithin n (length (members node.colours)) steps)
 
+-- An append that has begun and has stopped so has stopped after these steps in the log that is seen.
 abbrev pub StopsStand : Type 0
 StopsStand = (old new : Seen) (rest : Rest) (caller : Caller) (kept : Kept) (node : Node) (steps : ℕ)
     → SeesOn caller old new → HasBegun old new rest caller kept node

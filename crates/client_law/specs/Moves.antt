@@ -32,6 +32,7 @@ pub record LooksThere (new : Seen) (caller : Caller) (kept : Kept) (colour : ℕ
   pub is_cut : snapshot ≡ cut caller.own (home_dated new caller colour)
   pub not_trimmed : IsWithin (base caller.own caller.regions (home_dated new caller colour)) (kept.starts colour)
 
+-- Such a look is that of a sync in the log that is seen, with all that was known to stand in its snapshot.
 abbrev pub SyncsStand : Type 0
 SyncsStand = (old new : Seen) (rest : Rest) (caller : Caller) (kept : Kept) (colour : ℕ) (snapshot : Counts)
     → SeesOn caller old new → IsKeptBy old caller kept → LooksThere new caller kept colour snapshot
@@ -60,6 +61,7 @@ pub record PlaysKeys (new : Seen) (caller : Caller) (kept : Kept) (colour : ℕ)
   pub keys : AllZip (λ place (item : PlacedNode). (head : Head)
       × Stands (chain caller.own (home_dated new caller colour)) place head × (item.head.key ≡ head.key)) order nodes
 
+-- Such node lines are those of a sync in the log that is seen.
 abbrev pub PlaysStand : Type 0
 PlaysStand = (new : Seen) (rest : Rest) (caller : Caller) (kept : Kept) (colour : ℕ) (snapshot : Counts)
     (nodes : List PlacedNode) → PlaysThere new rest caller kept colour snapshot nodes
@@ -120,6 +122,7 @@ pub record PullsThere (old new : Seen) (rest : Rest) (caller : Caller) (region c
   pub holds : length (line (take place (new region colour)))
       ≤ length (chain caller.own (dated caller.own (take (seen_after carry) (new caller.own colour))) region)
 
+-- Such gives and such a carry are a pull in the log that is seen.
 abbrev pub PullsStand : Type 0
 PullsStand = (old new : Seen) (rest : Rest) (caller : Caller) (kept : Kept) (region colour nodes place : ℕ) (carry : At)
     (too_low : List ℕ) → SeesOn caller old new → IsKeptBy old caller kept
@@ -140,6 +143,7 @@ pub record MakesPull (caller : Caller) (region colour gives carries : ℕ) (old 
   pub others : (r c : ℕ) → (c ≢ colour) ⊎ ((r ≢ region) × (r ≢ caller.own))
       → own_steps caller.client (new r c) ≡ own_steps caller.client (old r c)
 
+-- What is kept after a pull whose gives and carry were the client's only steps.
 abbrev pub KeptAfterPull : Type 0
 KeptAfterPull = (old new : Seen) (rest : Rest) (caller : Caller) (kept : Kept) (region colour nodes place : ℕ)
     (carry : At) (too_low : List ℕ)

@@ -20,7 +20,8 @@ use Rattle.script_text.specs.declared.script.What.TheVariants as whats
 use Rattle.report_text.specs.declared.report.Answer.TheVariants as answers
 use Rattle.report_text.specs.declared.report.PointPiece.{PointPiece}
 use Rattle.lawful_run.specs.Callers.{Caller, node_of}
-use Rattle.lawful_run.specs.Asks.{AsksToAppend, Appending, Stopping, manner_of}
+use Rattle.lawful_run.specs.Asks.{Appending, Stopping}
+use Rattle.lawful_run.specs.Deeds.{AsksToAppend, manner_of}
 use Rattle.lawful_run.specs.Appends.{kept_after_points}
 use Rattle.lawful_run.specs.Reads.{greatest_stamp}
 use Rattle.lawful_run.specs.Moves.{OnlyGives, kept_after_pull, kept_after_giving}
@@ -47,6 +48,7 @@ pub record IsAsked (old new : Seen) (caller : Caller) (kept : Kept) (what : What
   pub keeps : IsKeptBy old caller kept
   pub asks : AsksToAppend caller kept what colours text
 
+-- The reply to an append that stands in one colour: its stamp, and its point.
 abbrev pub StoodAlone : Type 0
 StoodAlone = (old new : Seen) (rest : Rest) (caller : Caller) (kept : Kept) (what : What) (colours : Colours)
     (text : List ℕ) (colour stamp place position : ℕ) → IsAsked old new caller kept what colours text
@@ -56,6 +58,7 @@ StoodAlone = (old new : Seen) (rest : Rest) (caller : Caller) (kept : Kept) (wha
     (answers.Stood stamp None (record { colour = colour; at = Event place; position = position } ∷ [])) []
     (kept_after_single kept caller.own colour place stamp position)
 
+-- The reply to an append that stands in several colours: its stamp, its row, and its points.
 abbrev pub StoodInAll : Type 0
 StoodInAll = (old new : Seen) (rest : Rest) (caller : Caller) (kept : Kept) (what : What) (colours : Colours)
     (text : List ℕ) (stamp : ℕ) (points : List PointPiece) → IsAsked old new caller kept what colours text
@@ -64,12 +67,14 @@ StoodInAll = (old new : Seen) (rest : Rest) (caller : Caller) (kept : Kept) (wha
     → Explains (log_of new rest) caller kept what (answers.Stood stamp (Some kept.rows) points) []
     (kept_after_standing caller old new kept stamp points)
 
+-- The reply to an append to one colour for which no stamp was left: the colour.
 abbrev pub EndedAlone : Type 0
 EndedAlone = (old new : Seen) (rest : Rest) (caller : Caller) (kept : Kept) (what : What) (colours : Colours)
     (text : List ℕ) (colour : ℕ) → IsAsked old new caller kept what colours text
     → manner_of what ≢ Stopping → members colours ≡ colour ∷ [] → IsAtEnd (new caller.own colour) kept.floor
     → Explains (log_of new rest) caller kept what (answers.StampEnd colour) [] kept
 
+-- The reply to an append to several colours that is gone at the stamps' end: the least colour that had none left.
 abbrev pub EndedInColour : Type 0
 EndedInColour = (old new : Seen) (rest : Rest) (caller : Caller) (kept : Kept) (what : What) (colours : Colours)
     (text : List ℕ) (colour : ℕ) → IsAsked old new caller kept what colours text
@@ -79,6 +84,7 @@ EndedInColour = (old new : Seen) (rest : Rest) (caller : Caller) (kept : Kept) (
     → Explains (log_of new rest) caller kept what (answers.StampEnd colour) []
     (kept_after_steps caller old new kept)
 
+-- The reply to an append to several colours that is gone for want of memory.
 abbrev pub WentForMemory : Type 0
 WentForMemory = (old new : Seen) (rest : Rest) (caller : Caller) (kept : Kept) (what : What) (colours : Colours)
     (text : List ℕ) → IsAsked old new caller kept what colours text
@@ -87,6 +93,7 @@ WentForMemory = (old new : Seen) (rest : Rest) (caller : Caller) (kept : Kept) (
     → IsSettledEverywhere new rest caller (node_of caller kept colours text)
     → Explains (log_of new rest) caller kept what answers.NoMemory [] (kept_after_steps caller old new kept)
 
+-- The reply to an append that stopped after one step or more.
 abbrev pub StoppedWithin : Type 0
 StoppedWithin = (old new : Seen) (rest : Rest) (caller : Caller) (kept : Kept) (colours : Colours) (text : List ℕ)
     (steps : ℕ) → SeesOn caller old new → HasBegun old new rest caller kept (node_of caller kept colours text)
@@ -94,6 +101,7 @@ StoppedWithin = (old new : Seen) (rest : Rest) (caller : Caller) (kept : Kept) (
     → Explains (log_of new rest) caller kept (whats.Stop (steps + 1) colours text) (answers.Stopped (steps + 1)) []
     (kept_after_steps caller old new kept)
 
+-- The reply to a sync: its look, its snapshot, and the nodes that it played.
 abbrev pub SyncedThere : Type 0
 SyncedThere = (old new : Seen) (rest : Rest) (caller : Caller) (kept : Kept) (colour : ℕ) (snapshot : Counts)
     (nodes : List PlacedNode) → SeesOn caller old new → IsKeptBy old caller kept
@@ -103,6 +111,7 @@ SyncedThere = (old new : Seen) (rest : Rest) (caller : Caller) (kept : Kept) (co
     (length nodes)) nodes
     (kept_after_sync kept caller.own colour (length (new caller.own colour)) snapshot (greatest_stamp nodes))
 
+-- The reply to a sync of a client that lacks nodes which are trimmed: the base.
 abbrev pub LackedThere : Type 0
 LackedThere = (old new : Seen) (rest : Rest) (caller : Caller) (kept : Kept) (colour : ℕ) (shown : Counts)
     → SeesOn caller old new → IsKeptBy old caller kept
@@ -110,6 +119,7 @@ LackedThere = (old new : Seen) (rest : Rest) (caller : Caller) (kept : Kept) (co
     → IsFalse (is_within shown (kept.starts colour))
     → Explains (log_of new rest) caller kept (whats.Sync colour) (answers.Trimmed colour shown) [] kept
 
+-- The reply to a pull: how many nodes it carried, its last give, and its carry.
 abbrev pub PulledThere : Type 0
 PulledThere = (old new : Seen) (rest : Rest) (caller : Caller) (kept : Kept) (region colour nodes place : ℕ)
     (carry : At) (too_low : List ℕ) → SeesOn caller old new → IsKeptBy old caller kept
@@ -117,12 +127,14 @@ PulledThere = (old new : Seen) (rest : Rest) (caller : Caller) (kept : Kept) (re
     → Explains (log_of new rest) caller kept (whats.Pull region colour) (answers.Pulled nodes (Event place) carry) []
     (kept_after_pull kept caller.own region colour place carry too_low)
 
+-- The reply to a pull that found no memory, and carried nothing.
 abbrev pub GaveForMemory : Type 0
 GaveForMemory = (new : Seen) (rest : Rest) (caller : Caller) (kept : Kept) (region colour looked : ℕ)
     (too_low gives : List ℕ) → OnlyGives (log_of new rest) caller kept region colour looked too_low gives
     → Explains (log_of new rest) caller kept (whats.Pull region colour) answers.NoMemory []
     (kept_after_giving kept caller.own region colour looked too_low gives)
 
+-- The reply to a trim by the client's last snapshot: the event, and the base after it.
 abbrev pub TrimmedTo : Type 0
 TrimmedTo = (old new : Seen) (rest : Rest) (caller : Caller) (kept : Kept) (colour place : ℕ) (shown : Counts)
     → SeesOn caller old new → IsKeptBy old caller kept → length (old caller.own colour) ≤ place

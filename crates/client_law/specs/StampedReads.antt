@@ -24,6 +24,7 @@ RaisesThere old new caller stamp colour (Look seen) =
     (length (old caller.own colour) ≤ seen) × (seen ≤ length (new caller.own colour))
     × (stamp ≤ clock (take seen (new caller.own colour)))
 
+-- Such a raise is one of a stamped read in the log that is seen.
 abbrev pub RaiseStands : Type 0
 RaiseStands = (old new : Seen) (rest : Rest) (caller : Caller) (kept : Kept) (stamp colour : ℕ) (at : At)
     → SeesOn caller old new → IsKeptBy old caller kept → RaisesThere old new caller stamp colour at
@@ -67,6 +68,7 @@ pub record ReadsThere (old middle new : Seen) (rest : Rest) (caller : Caller) (k
   pub raising : Raises (log_of middle rest) caller stamp kept raises raised
   pub syncing : ClearSyncs (log_of new rest) caller stamp raised syncs synced
 
+-- Such a read is a stamped read in the log that is seen; the floor is then at its stamp or above.
 abbrev pub ReadsStand : Type 0
 ReadsStand = (old middle new : Seen) (rest : Rest) (caller : Caller) (kept raised synced : Kept) (colours : List ℕ)
     (stamp : ℕ) (raises : List RaisePiece) (syncs : List SyncPiece)

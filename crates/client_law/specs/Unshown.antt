@@ -21,6 +21,7 @@ abbrev pub kept_unshown_several : Caller → Seen → Seen → Kept → ℕ → 
 kept_unshown_several caller old new kept stamp =
     with_made (with_row (with_floor kept stamp)) caller.own (steps_since caller old new)
 
+-- An append that stands in one colour does so in the log that is seen, also where the answer does not show it.
 abbrev pub UnshownAlone : Type 0
 UnshownAlone =
     (old new : Seen) (rest : Rest) (caller : Caller) (kept : Kept) (node : Node) (colour stamp place position : ℕ)
@@ -28,6 +29,7 @@ UnshownAlone =
     → StandsAlone old new rest caller kept node colour stamp place position
     → AppendsUnshown (log_of new rest) caller kept node stamp (kept_unshown_alone caller kept colour stamp place)
 
+-- What is kept after it, where it was the client's one step.
 abbrev pub KeptUnshownAlone : Type 0
 KeptUnshownAlone =
     (old new : Seen) (rest : Rest) (caller : Caller) (kept : Kept) (node : Node) (colour stamp place position : ℕ)
@@ -36,12 +38,14 @@ KeptUnshownAlone =
     → MakesOnly caller.client caller.own colour 1 old new
     → IsKeptBy new caller (kept_unshown_alone caller kept colour stamp place)
 
+-- So does one that stands in several colours.
 abbrev pub UnshownInAll : Type 0
 UnshownInAll = (old new : Seen) (rest : Rest) (caller : Caller) (kept : Kept) (node : Node) (stamp : ℕ)
     (points : List PointPiece)
     → SeesOn caller old new → IsKeptBy old caller kept → StandInAll old new rest caller kept node stamp points
     → AppendsUnshown (log_of new rest) caller kept node stamp (kept_unshown_several caller old new kept stamp)
 
+-- What is kept after that.
 abbrev pub KeptUnshownInAll : Type 0
 KeptUnshownInAll = (old new : Seen) (caller : Caller) (kept : Kept) (stamp : ℕ)
     → SeesOn caller old new → MakesAtHome caller.client caller.own old new → IsKeptBy old caller kept

@@ -26,3 +26,4 @@ pub use Rattle.col_core.proofs.Pasts.{Absent, Alone, IsLawfulNext, IsLawfulPast,
 pub use Rattle.col_core.proofs.Pasts.{after_event, clock, entries, standing_of, status}
 pub use Rattle.col_core.proofs.Statuses.{past_clock_within, settled_status, waits_next}
 pub use Rattle.col_core.proofs.Uniqueness.{cut_unique}
+pub use Rattle.col_core.proofs.PlainFacts.{range_has, in_flat_map-back, in_take, in_map-back, in_map, in_range, any_in, in_flat_map, all_in}

@@ -27,11 +27,7 @@ use Rattle.col_core.proofs.Pasts.{entries, IsLawfulPast}
 use Rattle.col_core.proofs.Members.{In, in_line, Rises, rises, rises-filter}
 use Rattle.col_core.proofs.Growth.{line_later}
 use Rattle.col_core.proofs.LawfulPasts.{past_of, lawful_past, lawful_front, entries-of, shown_entered}
-
-pub slice_longer : {A : Type 0} (xs ys : List A) (i : ℕ) (x : A) → slice_get xs i ≡ Some x → slice_get (xs ++ ys) i ≡ Some x
-slice_longer [] ys i x h = absurd (let f : ⊥ = cc in f)
-slice_longer (z ∷ xs) ys zero x h = h
-slice_longer (z ∷ xs) ys (suc i) x h = slice_longer xs ys i x h
+pub use Rattle.log_node.proofs.CallerLemmas.{get_longer as slice_longer}
 
 -- the past of a longer history begins with the newer events
 past_of-append : (before more : List Dated) → past_of (before ++ more) ≡ past_of more ++ past_of before

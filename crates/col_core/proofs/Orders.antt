@@ -2,7 +2,6 @@
 use Rattle.std.proofs.Common.{◌≡◌, ℕ, zero, suc, ◌+◌, ◌-◌, ◌<◌, ◌≤◌, List, [], ◌∷◌, length, Option, Some, None, Bool, true, false, cond, refl, subst, ap, sym, ◌∙◌, inl, inr, ◌⊎◌, arith}
 use Rattle.std.specs.Prelude.{◌==◌, ◌&&◌, ◌≢◌, nat_lt, nat_le, slice_get}
 use Rattle.std.specs.List.{count_by}
-use Rattle.std.proofs.lemmas.List.Sums.{sum_by-cons}
 use Rattle.std.proofs.lemmas.Bool.{eqb-true, eq-eqb, and_parts, and_from, or_left, or_right, lt-ltb, ltb-true, le-leb, leb-true, cases_order, cases_eq, true≢false}
 use Rattle.std.proofs.lemmas.Option.{slice_get_within, slice_get-get_or}
 use Rattle.log_node.specs.declared.ids.Key.{Key}
@@ -15,11 +14,10 @@ use Rattle.col_core.specs.PlayOrder.{Place, same_place, Stands, is_between, goes
 use Rattle.col_core.proofs.CutLaws.{reached_within}
 use Rattle.col_core.proofs.Basics.{by_test, if_true}
 use Rattle.col_core.proofs.KeyOrder.{below_is}
+use Rattle.log_node.proofs.CallerLemmas.{one_if as one_or_none}
+use Rattle.log_node.proofs.CallerLemmas.{count_by-cons as counted}
 
 -- counting elements that pass a test
-
-counted : {A : Type 0} (p : A → Bool) (y : A) (ys : List A) → count_by p (y ∷ ys) ≡ cond (p y) 1 0 + count_by p ys
-counted p y ys = sum_by-cons (λ x. cond (p x) 1 0) y ys
 
 counted_one : {A : Type 0} (p : A → Bool) (y : A) (ys : List A) → p y ≡ true → count_by p (y ∷ ys) ≡ 1 + count_by p ys
 counted_one p y ys q = counted p y ys ∙ ap (λ b. cond b 1 0 + count_by p ys) q
@@ -70,10 +68,6 @@ same_place-is a b e =
 
 pub same_place-itself : (a : Place) → same_place a a ≡ true
 same_place-itself a = and_from (a.region == a.region) (a.position == a.position) (eq-eqb a.region a.region refl) (eq-eqb a.position a.position refl)
-
-one_or_none : (b : Bool) → 0 < cond b 1 0 → b ≡ true
-one_or_none true h = refl
-one_or_none false h = absurd (let f : ⊥ = omega (arith, h) in f)
 
 at_most_one : (b : Bool) → cond b 1 0 ≤ 1
 at_most_one true = omega arith

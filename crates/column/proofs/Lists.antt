@@ -4,6 +4,9 @@ use Rattle.std.proofs.Common.{sym, subst, ◌∙◌, arith}
 use Rattle.std.specs.List.{AllByRecursion}
 use Rattle.std.specs.Prelude.{map, slice_get, slice_set, slice_index_or}
 use Rattle.std.proofs.lemmas.Option.{none-some, same_Some}
+pub use Rattle.log_node.proofs.CallerLemmas.{get_within as item_there}
+pub use Rattle.log_node.proofs.CallerLemmas.{get_map_back as got_map}
+pub use Rattle.log_node.proofs.CallerLemmas.{get_map as map_got}
 
 -- past the end there is nothing
 pub drop_past : {A : Type 0} (n : ℕ) (xs : List A) → length xs ≤ n → drop n xs ≡ []
@@ -86,19 +89,6 @@ map_take f zero xs = refl
 map_take f (suc n) [] = refl
 map_take {B} f (suc n) (x ∷ xs) = ap (λ (ys : List B). f x ∷ ys) (map_take f n xs)
 
--- an item of a list that was made from another
-pub got_map : {A B : Type 0} (f : A → B) (xs : List A) (n : ℕ) (y : B) → slice_get (map f xs) n ≡ Some y
-    → (x : A) × (slice_get xs n ≡ Some x) × (f x ≡ y)
-got_map f [] n y e = absurd (none-some y e)
-got_map f (x ∷ xs) zero y e = (x, refl, same_Some (f x) y e)
-got_map f (x ∷ xs) (suc n) y e = got_map f xs n y e
-
-pub map_got : {A B : Type 0} (f : A → B) (xs : List A) (n : ℕ) (x : A) → slice_get xs n ≡ Some x
-    → slice_get (map f xs) n ≡ Some (f x)
-map_got f [] n x e = absurd (none-some x e)
-map_got f (y ∷ ys) zero x e = ap (λ z. Some (f z)) (same_Some y x e)
-map_got f (y ∷ ys) (suc n) x e = map_got f ys n x e
-
 -- what stands at a place behind what was dropped
 pub dropped_at : {A : Type 0} (n : ℕ) (xs : List A) (k m : ℕ) → k + n ≡ m → slice_get (drop n xs) k ≡ slice_get xs m
 dropped_at zero xs k m is = ap (slice_get xs) (let e : k ≡ m = omega (arith, is) in e)
@@ -112,9 +102,3 @@ pub each_at : {A : Type 0} (P : A → Type 0) (xs : List A) (n : ℕ) (x : A) �
 each_at P [] n x h e = absurd (none-some x e)
 each_at P (y ∷ ys) zero x h e = subst P (same_Some y x e) h.0
 each_at P (y ∷ ys) (suc n) x h e = each_at P ys n x h.1 e
-
--- an item stands at each place
-pub item_there : {A : Type 0} (xs : List A) (i : ℕ) → i < length xs → (x : A) × (slice_get xs i ≡ Some x)
-item_there [] i l = absurd (let f : ⊥ = omega (arith, l) in f)
-item_there (x ∷ xs) zero l = (x, refl)
-item_there (x ∷ xs) (suc i) l = item_there xs i (omega (arith, l))

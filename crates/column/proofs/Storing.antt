@@ -23,11 +23,7 @@ use Rattle.column.specs.Entering.{EnteredNode}
 use Rattle.column.specs.Inside.{IsEntered, EntersNode}
 use Rattle.column.specs.Columns.{HasRow}
 use Rattle.column.proofs.Histories.{same_entries, needs_stay, needs_first}
-
--- the last item of a list
-pub got_last : {A : Type 0} (xs : List A) (x : A) → slice_get (xs ++ x ∷ []) (length xs) ≡ Some x
-got_last [] x = refl
-got_last (y ∷ ys) x = got_last ys x
+pub use Rattle.log_node.proofs.CallerLemmas.{get_last as got_last}
 
 module _ (region colour : ℕ) (journal : List Entry) (e : Entry) where
   abbrev date : Dated

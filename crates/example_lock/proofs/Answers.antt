@@ -6,6 +6,7 @@ use Rattle.log_node.specs.declared.ids.Colours.{Colours}
 use Rattle.log_node.specs.declared.ids.Key.{Key}
 use Rattle.log_node.specs.Sets.{members}
 use Rattle.object_fold.specs.Nodes.{ObjectNode, nodes_before}
+use Rattle.object_fold.specs.Folds.{last_before, told_among, told_of}
 use Rattle.col_core.specs.Keeping.{Kept}
 use Rattle.lawful_run.specs.Asks.{rising}
 use Rattle.log_client.specs.declared.store.Store.{Store}
@@ -18,7 +19,6 @@ use Rattle.log_client.specs.Appends.{AppendsAs}
 use Rattle.log_client.specs.Calls.{IsExplained}
 use Rattle.log_client.specs.Reading.{RestsOn}
 use Rattle.log_client.proofs.CallerLemmas.{explained_less}
-use Rattle.region_fold.specs.Folds.{last_before, told_among, told_of}
 use Rattle.region_fold.specs.Reads.{HasNodes, IsOwn, KeepsFold, ReadsNodes, TellRefused, TellsOwn}
 use Rattle.lock_fold.specs.declared.lock.Ticket.{Ticket}
 use Rattle.lock_fold.specs.Tickets.{tickets_after, told_behind}
@@ -92,5 +92,5 @@ write_refused s c d text written fault set is same why =
 
 -- a desk whose client goes on
 pub desk_after : (s : Store) (old new : Desk) → IsDesk s old → RestsOn s old.client new.client
-    → KeepsFold HasLock new.client (rising lock_colours) new.kept → IsDesk s new
+    → KeepsFold HasLock new.client (rising lock_colours) new.fold.kept → IsDesk s new
 desk_after s old new is on folds = record { client = on.client; colour = is.colour; folds = folds }

@@ -4,6 +4,7 @@ use Rattle.log_node.specs.declared.ids.Colours.{Colours}
 use Rattle.log_node.specs.declared.ids.Key.{Key}
 use Rattle.log_node.specs.Sets.{members, set_of}
 use Rattle.object_fold.specs.Nodes.{ObjectNode}
+use Rattle.object_fold.specs.Folds.{told_of}
 use Rattle.col_core.specs.Keeping.{Kept}
 use Rattle.lawful_run.specs.Asks.{rising}
 use Rattle.log_client.specs.declared.store.Store.{Store}
@@ -16,7 +17,6 @@ use Rattle.log_client.specs.Appends.{AppendsAs}
 use Rattle.log_client.specs.Calls.{IsExplained}
 use Rattle.log_client.specs.Clients.{IsClient}
 use Rattle.log_client.specs.StampedReads.{ReadRefused}
-use Rattle.region_fold.specs.Folds.{told_of}
 use Rattle.region_fold.specs.Reads.{HasNodes, KeepsFold, ReadsNodes, TellRefused, TellsOwn}
 use Rattle.lock_fold.specs.declared.lock.Ticket.{Ticket}
 use Rattle.lock_fold.specs.Tickets.{HasTickets, tickets_after, told_behind}
@@ -39,7 +39,7 @@ lock_set = set_of lock_colours
 pub record IsDesk (s : Store) (desk : Desk) : Type 0 where
   pub client : IsClient s desk.client
   pub colour : 0 < s.size.colours
-  pub folds : KeepsFold HasLock desk.client (rising lock_colours) desk.kept
+  pub folds : KeepsFold HasLock desk.client (rising lock_colours) desk.fold.kept
 
 -- A node with this text stands under the stamp, and this is what it is told behind the nodes before it.
 abbrev pub Writes : Store → Client → Client → List ℕ → ℕ → Option ℕ → Type 0

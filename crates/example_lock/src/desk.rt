@@ -8,7 +8,7 @@ use fuzzy_io::OpenGate;
 use lock_fold::{ASK, LEAVE, Ticket};
 use log_client::{Client, ObjectFault, Store};
 use log_node::{Colours, Text};
-use region_fold::KeptFold;
+use region_fold::RegionFold;
 use std::alloc::Global;
 use std::sync::Wait;
 
@@ -28,7 +28,7 @@ pub struct Place {
 #[derive(Drop)]
 pub struct Desk {
     client: Client,
-    kept: KeptFold<Folded>,
+    fold: RegionFold<Folded>,
 }
 
 impl Desk {
@@ -39,7 +39,7 @@ impl Desk {
     {
         Desk {
             client,
-            kept: KeptFold::open(alloc),
+            fold: RegionFold::open(alloc),
         }
     }
 
@@ -62,7 +62,7 @@ impl Desk {
         let client = &mut self.client;
         let set = Colours::of(&COLOURS);
         let (told, own, _read) = self
-            .kept
+            .fold
             .append_and_read(rt, alloc, client, store, &OpenGate, &COLOURS, set, text)?;
         Ok((own.stood.key.stamp, told))
     }
@@ -114,8 +114,8 @@ impl Desk {
         ensures ok { IfOk result (Looks store.now self.old.client self.new.client) }
         ensures err { IfErr result (LookRefused store.now self.old.client self.new.client) }
     {
-        match self.kept.read(rt, alloc, &mut self.client, store, &COLOURS) {
-            Ok(_read) => Ok(self.kept.state().holder()),
+        match self.fold.read(rt, alloc, &mut self.client, store, &COLOURS) {
+            Ok(_read) => Ok(self.fold.state().holder()),
             Err(fault) => Err(ObjectFault::Sync(fault)),
         }
     }

@@ -26,7 +26,8 @@ use Rattle.report_text.specs.declared.report.SyncPiece.{SyncPiece}
 use Rattle.object_fold.specs.Nodes.{shard_of}
 use Rattle.lawful_run.proofs.CallerLemmas.{kept_after_hidden, before_is, behind_is, one_shard}
 use Rattle.lawful_run.specs.Callers.{Caller, node_of}
-use Rattle.lawful_run.specs.Asks.{shards, colours_of, AsksToAppend, Manner, Appending, Stopping, Syncing, Moving, Getting, Reading, Committing, Dequeuing, colours_synced, manner_of}
+use Rattle.lawful_run.specs.Asks.{shards, colours_of, Manner, Appending, Stopping, Syncing, Moving, Getting, Reading, Committing, Dequeuing}
+use Rattle.lawful_run.specs.Deeds.{AsksToAppend, colours_synced, manner_of}
 use Rattle.lawful_run.specs.Appends.{Appends, AppendsUnshown, one_unshown, several_unshown, kept_after_points, HasNoStamp, none_for_one, none_for_several}
 use Rattle.lawful_run.specs.Moves.{with_places, kept_after_pull}
 use Rattle.lawful_run.specs.Reads.{kept_after_place, kept_after_piece, Raises, ClearSyncs, ReadsAt, HidesSyncs, HidesRead, RefusesRead}
@@ -88,22 +89,16 @@ pub several_may : (caller : Caller) (kept : Kept) (what : What) (colours : Colou
 several_may caller kept (whats.Append asked given) colours text asks two =
     subst (λ (c : Colours). nat_lt 1 (length (members c)) ≡ true) asks.0
     (two_or_more (length (members colours)) two)
-several_may caller kept (whats.Stop steps asked given) colours text asks two = refl
-several_may caller kept (whats.Sync colour) colours text asks two = absurd asks
-several_may caller kept (whats.Scan asked) colours text asks two = absurd asks
-several_may caller kept (whats.Pull region colour) colours text asks two = absurd asks
-several_may caller kept (whats.Trim colour) colours text asks two = absurd asks
 several_may caller kept (whats.Put object key value) colours text asks two =
     absurd (not_several (colours_of caller object) key (members colours) asks.0 two)
-several_may caller kept (whats.Get object key) colours text asks two = absurd asks
 several_may caller kept (whats.Del object key) colours text asks two =
     absurd (not_several (colours_of caller object) key (members colours) asks.0 two)
+several_may caller kept (whats.Stop steps asked given) colours text asks two = refl
 several_may caller kept (whats.PutAll object pairs) colours text asks two = refl
-several_may caller kept (whats.GetAll object keys) colours text asks two = absurd asks
-several_may caller kept (whats.Read object keys) colours text asks two = absurd asks
 several_may caller kept (whats.Commit object pairs) colours text asks two = refl
 several_may caller kept (whats.Enq object value) colours text asks two = refl
 several_may caller kept (whats.Deq object) colours text asks two = refl
+several_may caller kept _ colours text asks two = absurd asks
 
 -- READS
 place_rows : (kept : Kept) (region colour : ℕ) (at : At) → KeepsRows kept (kept_after_place kept region colour at)
@@ -245,15 +240,17 @@ module _ (log : Log) (caller : Caller) (kept : Kept) (what : What) where
   explained_begins (answers.Got value sync) nodes after e = inl (same_rows kept _ after e.10 refl)
   explained_begins (answers.GotMany values sync) nodes after e = inl (same_rows kept _ after e.7 refl)
   explained_begins (answers.GotKeys stamp shown raises syncs) nodes after e =
-      let read = reads_rows log caller kept (colours_synced caller what) stamp raises syncs e.1 e.2 in
-      elim e.7 [
+      let t = e.2 in
+      let read = reads_rows log caller kept (colours_synced caller what) stamp raises syncs e.1 t.0 in
+      elim t.5 [
         | inl g ↦ inl (same_rows kept e.1 after g.4 read)
         | inr g ↦ inl (same_rows kept _ after g.4 read)
       ]
   explained_begins (answers.Ruled conflict stamp row points read_stamp raises syncs) nodes after e =
-      let s = e.2.3 in
-      then_keeps what kept s.1 after (appends_begin log caller kept what e.2.0 e.2.1 e.2.2 s.0 row points s.1 s.2)
-      (reads_rows log caller s.1 (colours_synced caller what) read_stamp raises syncs after s.3)
+      let a = e.1.1 in
+      let s = a.3 in
+      then_keeps what kept s.1 after (appends_begin log caller kept what a.0 a.1 a.2 s.0 row points s.1 s.2)
+      (reads_rows log caller s.1 (colours_synced caller what) read_stamp raises syncs after s.3.0)
   explained_begins answers.NoTx nodes after e = inl (same_rows kept kept after e.1 refl)
   explained_begins (answers.Took value point sync) nodes after e =
       let s = e.3.3 in

@@ -1,11 +1,15 @@
 -- What a client asks is the same, however many rows it may begin.
-use Rattle.std.proofs.Common.{◌≡◌, ℕ, List, Option, Some, None, refl, subst, sym}
+use Rattle.std.proofs.Common.{◌≡◌, ℕ, List, Option, Some, None, refl, ap, subst, sym}
 use Rattle.log_node.specs.declared.ids.Colours.{Colours}
 use Rattle.col_core.specs.Keeping.{Kept}
 use Rattle.script_text.specs.declared.script.What.{What}
-use Rattle.script_text.specs.declared.script.What.TheVariants as whats
+use Rattle.script_text.specs.declared.script.Kind.{Kind}
+use Rattle.script_text.specs.declared.uses.Use.{Use}
+use Rattle.script_text.specs.declared.uses.Use.TheVariants.{OfLog, OfObject}
+use Rattle.script_text.specs.Uses.{use_of}
 use Rattle.lawful_run.specs.Callers.{Caller}
-use Rattle.lawful_run.specs.Asks.{home_asked, colours_synced, AsksToAppend}
+use Rattle.lawful_run.specs.Asks.{object_colours, object_home, kind_in, home_asked}
+use Rattle.lawful_run.specs.Deeds.{colours_reached, deed_of, colours_synced, saying_of, found_by, Says, AsksToAppend}
 use Rattle.lawful_run.specs.Refusals.{IsAway}
 
 -- the client, where it may begin so many rows
@@ -13,57 +17,22 @@ abbrev pub limited : Caller → ℕ → Caller
 limited caller rows = record caller { rows = rows }
 
 module _ (caller : Caller) (rows : ℕ) where
+  kind_same : (u : Use) → kind_in (limited caller rows) u ≡ kind_in caller u
+  kind_same (OfLog stops) = refl
+  kind_same (OfObject object read) = refl
+
   pub home_same : (what : What) → home_asked (limited caller rows) what ≡ home_asked caller what
-  home_same (whats.Append colours text) = refl
-  home_same (whats.Stop steps colours text) = refl
-  home_same (whats.Sync colour) = refl
-  home_same (whats.Scan colours) = refl
-  home_same (whats.Pull region colour) = refl
-  home_same (whats.Trim colour) = refl
-  home_same (whats.Put object key value) = refl
-  home_same (whats.Get object key) = refl
-  home_same (whats.Del object key) = refl
-  home_same (whats.PutAll object pairs) = refl
-  home_same (whats.GetAll object keys) = refl
-  home_same (whats.Read object keys) = refl
-  home_same (whats.Commit object pairs) = refl
-  home_same (whats.Enq object value) = refl
-  home_same (whats.Deq object) = refl
+  home_same what = ap object_home (kind_same (use_of what))
 
   pub synced_same : (what : What) → colours_synced (limited caller rows) what ≡ colours_synced caller what
-  synced_same (whats.Append colours text) = refl
-  synced_same (whats.Stop steps colours text) = refl
-  synced_same (whats.Sync colour) = refl
-  synced_same (whats.Scan colours) = refl
-  synced_same (whats.Pull region colour) = refl
-  synced_same (whats.Trim colour) = refl
-  synced_same (whats.Put object key value) = refl
-  synced_same (whats.Get object key) = refl
-  synced_same (whats.Del object key) = refl
-  synced_same (whats.PutAll object pairs) = refl
-  synced_same (whats.GetAll object keys) = refl
-  synced_same (whats.Read object keys) = refl
-  synced_same (whats.Commit object pairs) = refl
-  synced_same (whats.Enq object value) = refl
-  synced_same (whats.Deq object) = refl
+  synced_same what =
+      ap (λ (k : Option Kind). colours_reached (object_colours k) (deed_of what).syncs) (kind_same (use_of what))
 
   pub asks_more : (kept : Kept) (what : What) (colours : Colours) (text : List ℕ)
       → AsksToAppend (limited caller rows) kept what colours text → AsksToAppend caller kept what colours text
-  asks_more kept (whats.Append asked given) colours text asks = asks
-  asks_more kept (whats.Stop steps asked given) colours text asks = asks
-  asks_more kept (whats.Sync colour) colours text asks = asks
-  asks_more kept (whats.Scan asked) colours text asks = asks
-  asks_more kept (whats.Pull region colour) colours text asks = asks
-  asks_more kept (whats.Trim colour) colours text asks = asks
-  asks_more kept (whats.Put object key value) colours text asks = asks
-  asks_more kept (whats.Get object key) colours text asks = asks
-  asks_more kept (whats.Del object key) colours text asks = asks
-  asks_more kept (whats.PutAll object pairs) colours text asks = asks
-  asks_more kept (whats.GetAll object keys) colours text asks = asks
-  asks_more kept (whats.Read object keys) colours text asks = asks
-  asks_more kept (whats.Commit object pairs) colours text asks = asks
-  asks_more kept (whats.Enq object value) colours text asks = asks
-  asks_more kept (whats.Deq object) colours text asks = asks
+  asks_more kept what colours text =
+      subst (λ (k : Option Kind). Says (object_colours k) (saying_of k (found_by (use_of what) kept) what) colours
+      text) (kind_same (use_of what))
 
   away_from : (home : Option ℕ) → IsAway caller home → IsAway (limited caller rows) home
   away_from None away = away

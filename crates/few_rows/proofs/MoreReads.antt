@@ -17,13 +17,7 @@ use Rattle.lawful_run.specs.Asks.{Manner, Appending, Stopping, Syncing, Moving, 
 use Rattle.lawful_run.specs.Reads.{Syncs, ShowsNode, ShowsPlayed, kept_after_piece, IsTrimmed, RaisesAt, kept_after_place, Raises, ClearSyncs, ReadsAt, HidesSync, not_played, played, HidesSyncs, HidesRead, RefusesRead}
 use Rattle.lawful_run.specs.Refusals.{Hides, Refuses}
 use Rattle.few_rows.proofs.MoreFacts.{limited}
-
-all_zip_of : {A B : Type 0} (R S : A → B → Type 0) → ((x : A) (y : B) → R x y → S x y)
-    → (xs : List A) (ys : List B) → AllZip R xs ys → AllZip S xs ys
-all_zip_of R S f [] [] a = tt
-all_zip_of R S f [] (y ∷ ys) a = absurd a
-all_zip_of R S f (x ∷ xs) [] a = absurd a
-all_zip_of R S f (x ∷ xs) (y ∷ ys) a = (f x y a.0, all_zip_of R S f xs ys a.1)
+use Rattle.log_node.proofs.CallerLemmas.{all_zip_of}
 
 module _ (log : Log) (caller : Caller) (rows : ℕ) where
   pub syncs_more : (kept : Kept) (colour events : ℕ) (snapshot : Counts)

@@ -1,13 +1,16 @@
 -- What a log explains to a client that may begin few rows, it explains too where the client may begin more, if a row
 -- was left for each command that may begin one.
-use Rattle.std.proofs.Common.{◌≡◌, true, ℕ, ◌<◌, ◌≤◌, List, [], ◌∷◌, None, sym, subst, ◌∙◌, arith}
+use Rattle.std.proofs.Common.{◌≡◌, true, ℕ, ◌<◌, ◌≤◌, List, [], ◌∷◌, Option, None, sym, subst, ◌∙◌, arith}
 use Rattle.log_node.specs.declared.ids.Colours.{Colours}
 use Rattle.log_node.specs.declared.ids.Counts.{Counts}
+use Rattle.log_node.specs.declared.ids.Key.{Key}
 use Rattle.log_node.specs.declared.node.At.{At}
 use Rattle.log_node.specs.declared.node.At.TheVariants.{Event, Look}
 use Rattle.log_node.specs.Seen.{PlacedNode}
 use Rattle.log_node.specs.Sets.{members}
 use Rattle.object_fold.specs.Maps.{Value}
+use Rattle.object_fold.specs.Nodes.{ObjectNode}
+use Rattle.col_core.specs.History.{entry_key}
 use Rattle.col_core.specs.Log.{Log}
 use Rattle.col_core.specs.Keeping.{Kept}
 use Rattle.script_text.specs.declared.script.What.{What}
@@ -15,16 +18,18 @@ use Rattle.script_text.specs.declared.script.Command.{Command}
 use Rattle.report_text.specs.declared.report.Answer.{Answer}
 use Rattle.report_text.specs.declared.report.Answer.TheVariants as answers
 use Rattle.report_text.specs.declared.report.PointPiece.{PointPiece}
+use Rattle.report_text.specs.declared.report.RaisePiece.{RaisePiece}
 use Rattle.report_text.specs.declared.report.ReplyLine.{ReplyLine}
 use Rattle.report_text.specs.declared.report.SyncPiece.{SyncPiece}
 use Rattle.lawful_run.specs.Callers.{Caller, node_of}
-use Rattle.lawful_run.specs.Asks.{AsksToAppend, colours_synced, manner_of}
+use Rattle.lawful_run.specs.Deeds.{AsksToAppend, colours_synced, manner_of}
 use Rattle.lawful_run.specs.Appends.{IsFull}
 use Rattle.lawful_run.specs.Reads.{ReadsAt}
 use Rattle.lawful_run.specs.Moves.{CarriesAt, Pulls, OnlyGives, Trims}
 use Rattle.lawful_run.specs.Objects.{GetsValue, GetsValues, Takes}
+use Rattle.lawful_run.specs.Shapes.{TellsBehind, TellsRead}
 use Rattle.lawful_run.specs.Refusals.{Hides, Refuses, FindsNoMemory, nothing, gone, gave, hidden, kept_before}
-use Rattle.lawful_run.specs.Explains.{Explains, Answers, Explained, start, next}
+use Rattle.lawful_run.specs.Explains.{Explains, Answers, Explained, ShowsKeys, ShowsVerdict, start, next}
 use Rattle.script_beside.specs.Begins.{may_begin, begins_in}
 use Rattle.few_rows.proofs.Begins.{several_may, before_rows, one_that_begins, no_fewer, begun_rows}
 use Rattle.few_rows.proofs.MoreFacts.{limited, home_same, synced_same, asks_more, away_fewer}
@@ -116,6 +121,44 @@ module _ (log : Log) (caller : Caller) (rows : ℕ) (few : rows ≤ caller.rows)
       gave region colour looked too_low gives is (only_gives_more kept region colour looked too_low gives g)
   memory_more kept what after (hidden then h) = hidden then (hidden_more kept what then h)
 
+  -- what a stamped read tells
+  tells_read_more : (kept : Kept) (what : What) (stamp : ℕ) (raises : List RaisePiece) (syncs : List SyncPiece)
+      (Says : List ObjectNode → Type 0) (after : Kept)
+      → TellsRead log (limited caller rows) kept what stamp raises syncs Says after
+      → TellsRead log caller kept what stamp raises syncs Says after
+  tells_read_more kept what stamp raises syncs Says after t = (
+    subst (λ (colours : List ℕ). ReadsAt log caller kept colours stamp raises syncs after) (synced_same caller rows what)
+        (read_more log caller rows kept (colours_synced (limited caller rows) what) stamp raises syncs after t.0),
+    t.1,
+    t.2,
+    t.3,
+    t.4,
+    t.5,
+  )
+
+  -- and one behind an append
+  tells_behind_more : (kept : Kept) (what : What) (row : Option ℕ) (points : List PointPiece) (read_stamp : ℕ)
+      (raises : List RaisePiece) (syncs : List SyncPiece) (Says : Key → List ObjectNode → Type 0) (after : Kept)
+      → TellsBehind log (limited caller rows) kept what row points read_stamp raises syncs Says after
+      → TellsBehind log caller kept what row points read_stamp raises syncs Says after
+  tells_behind_more kept what row points read_stamp raises syncs Says after t =
+      let a = t.1 in
+      let s = a.3 in (
+        t.0,
+        (
+          a.0,
+          a.1,
+          asks_more caller rows kept what a.0 a.1 a.2,
+          (
+            s.0,
+            s.1,
+            append_more log caller rows few kept (node_of caller kept a.0 a.1) s.0 row points s.1 s.2,
+            tells_read_more s.1 what read_stamp raises syncs
+                (Says (entry_key s.0 (node_of caller kept a.0 a.1).id)) after s.3,
+          ),
+        ),
+      )
+
   explains_more : (kept : Kept) (what : What) (answer : Answer) (nodes : List PlacedNode) (after : Kept)
       → (may_begin what ≡ true → kept.rows < rows)
       → Explains log (limited caller rows) kept what answer nodes after
@@ -189,42 +232,10 @@ module _ (log : Log) (caller : Caller) (rows : ℕ) (few : rows ≤ caller.rows)
     gets_values_more sync e.2 values e.6,
     e.7,
   )
-  explains_more kept what (answers.GotKeys stamp shown raises syncs) nodes after left e = (
-    e.0,
-    e.1,
-    subst (λ (colours : List ℕ). ReadsAt log caller kept colours stamp raises syncs e.1) (synced_same caller rows what)
-        (read_more log caller rows kept (colours_synced (limited caller rows) what) stamp raises syncs e.1 e.2),
-    e.3,
-    e.4,
-    e.5,
-    e.6,
-    e.7,
-  )
+  explains_more kept what (answers.GotKeys stamp shown raises syncs) nodes after left e =
+      (e.0, e.1, tells_read_more kept what stamp raises syncs (ShowsKeys caller what shown e.1 after) e.1 e.2)
   explains_more kept what (answers.Ruled conflict stamp row points read_stamp raises syncs) nodes after left e =
-      let a = e.2 in
-      let s = a.3 in (
-        e.0,
-        e.1,
-        (
-          a.0,
-          a.1,
-          asks_more caller rows kept what a.0 a.1 a.2,
-          (
-            s.0,
-            s.1,
-            append_more log caller rows few kept (node_of caller kept a.0 a.1) s.0 row points s.1 s.2,
-            subst (λ (colours : List ℕ). ReadsAt log caller s.1 colours read_stamp raises syncs after)
-                (synced_same caller rows what)
-                (read_more log caller rows s.1 (colours_synced (limited caller rows) what) read_stamp raises syncs after
-                s.3),
-            s.4,
-            s.5,
-            s.6,
-            s.7,
-            s.8,
-          ),
-        ),
-      )
+      (e.0, tells_behind_more kept what row points read_stamp raises syncs (ShowsVerdict conflict stamp) after e.1)
   explains_more kept what answers.NoTx nodes after left e = e
   explains_more kept what (answers.Took value point sync) nodes after left e =
       let a = e.3 in

@@ -4,7 +4,7 @@ pub use Rattle.lawful_run.proofs.HiddenReads.{hides_without}
 pub use Rattle.lawful_run.proofs.Later.{explained_later}
 pub use Rattle.lawful_run.proofs.LaterAppends.{append_later, unshown_later}
 pub use Rattle.lawful_run.proofs.LaterReads.{raise_later, raises_later, syncs_later, clear_later, hides_syncs_later}
-pub use Rattle.lawful_run.proofs.LettingGo.{before_is, behind_is}
+pub use Rattle.lawful_run.proofs.LettingGo.{before_is, behind_is, asks_before, commit_asks}
 pub use Rattle.lawful_run.proofs.Prefixes.{get-append, get_within, prefix_get, prefix_length, prefix_take}
 pub use Rattle.lawful_run.proofs.ObjectAnswers.{explains_append, explains_get, explains_values, explains_get_trimmed, explains_get_without}
 pub use Rattle.lawful_run.proofs.ObjectAnswers.{explains_take, explains_unread, explains_unread_without, explains_away, one_shard}

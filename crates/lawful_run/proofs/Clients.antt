@@ -17,6 +17,7 @@ use Rattle.lawful_run.specs.Readings.{kept_at, kept_in, kept_of, Nowhere, told, 
 use Rattle.lawful_run.proofs.Prefixes.{get_within}
 use Rattle.lawful_run.proofs.Replies.{step_of}
 use Rattle.lawful_run.proofs.Used.{answer_use, answer_used}
+pub use Rattle.log_node.proofs.CallerLemmas.{get_within as get_there}
 
 -- a client that is shown, and the explanation by which its nodes are numbered
 pub record IsShown {script : Script} {report : Report} (run : LawfulRun script report) (client : ℕ) : Type 0 where
@@ -33,11 +34,6 @@ shown_there {script} {report} run client shown there = at (slice_get report.clie
       → o ≡ Some shown → (c : IsShown run client) × (c.shown ≡ shown)
   at None e number is = absurd (let f : ⊥ = cc (is) in f)
   at (Some c) e number is = (record { shown = c; of_client = e; numbered = number }, cc (is))
-
-pub get_there : {A : Type 0} (xs : List A) (n : ℕ) → n < length xs → (x : A) × (slice_get xs n ≡ Some x)
-get_there [] n lt = absurd (let f : ⊥ = omega (arith, lt) in f)
-get_there (x ∷ xs) zero lt = (x, refl)
-get_there (x ∷ xs) (suc n) lt = get_there xs n (omega (arith, lt))
 
 -- ids are used one after another
 ids_rise : {log : Log} {caller : Caller} {commands : List Command} {replies : List ReplyLine} {last : Kept}

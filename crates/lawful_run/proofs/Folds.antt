@@ -32,7 +32,7 @@ use Rattle.report_text.specs.declared.report.ReplyLine.{ReplyLine}
 use Rattle.report_text.specs.declared.report.ClientReport.{ClientReport}
 use Rattle.report_text.specs.declared.report.Report.{Report}
 use Rattle.lawful_run.specs.Callers.{caller_of, commands_of, node_of}
-use Rattle.lawful_run.specs.Asks.{AsksToAppend}
+use Rattle.lawful_run.specs.Deeds.{AsksToAppend}
 use Rattle.lawful_run.specs.Reads.{Syncs, ShowsKey, ReadsAt, AreRead}
 use Rattle.lawful_run.specs.Objects.{IsObjectNode, AreObjectNodes, own_played, shown_verdict}
 use Rattle.lawful_run.specs.Refusals.{kept_before}
@@ -48,15 +48,11 @@ use Rattle.lawful_run.proofs.Clients.{shown_there}
 use Rattle.lawful_run.proofs.Used.{before_ids}
 use Rattle.lawful_run.proofs.Standing.{Stands, column_is, column_within}
 use Rattle.lawful_run.proofs.Lines.{node_there, append_of}
-use Rattle.lawful_run.proofs.Returned.{asks_before, at_points}
+use Rattle.lawful_run.proofs.LettingGo.{asks_before}
+use Rattle.lawful_run.proofs.Returned.{at_points}
 use Rattle.lawful_run.proofs.Shown.{stands_in, legal_at}
 use Rattle.lawful_run.proofs.ReadOrder.{closing_order}
-
-in_take : {A : Type 0} (n : ℕ) (xs : List A) (x : A) → In x (take n xs) → In x xs
-in_take zero xs x i = absurd i
-in_take (suc n) [] x i = absurd i
-in_take (suc n) (y ∷ ys) x (inl e) = inl e
-in_take (suc n) (y ∷ ys) x (inr i) = inr (in_take n ys x i)
+use Rattle.col_core.proofs.CallerLemmas.{in_take}
 
 zip_in : {A B : Type 0} (R : A → B → Type 0) (xs : List A) (ys : List B) → AllZip R xs ys → (x : A) → In x xs → (y : B)
     × R x y
@@ -331,27 +327,29 @@ reads_are_folds script report fits run client n reply h stamp shown raises syncs
     let r = reason script report fits run client n reply _ h is in
     let x = r.explained in
     let own = (caller_of script client).own in
-    let order = read_order script report fits run client r.kept _ stamp raises syncs x.1 x.3 x.2 x.4 lines c in
-    let nodes = nodes_are script report fits run x.3 x.5
-    (read_stands script report fits run own stamp syncs lines c x.3 order) x.6 in
-    elim x.7 [
-      | inl g ↦ (x.3, order, x.5, nodes, g.0, g.1, inl ((r.command, r.asked, g.2), g.3))
-      | inr g ↦ (x.3, order, x.5, nodes, g.0, g.1, inr ((r.command, r.asked, g.2), g.3))
+    let t = x.2 in
+    let order = read_order script report fits run client r.kept _ stamp raises syncs x.1 t.1 t.0 t.2 lines c in
+    let nodes = nodes_are script report fits run t.1 t.3
+    (read_stands script report fits run own stamp syncs lines c t.1 order) t.4 in
+    elim t.5 [
+      | inl g ↦ (t.1, order, t.3, nodes, g.0, g.1, inl ((r.command, r.asked, g.2), g.3))
+      | inr g ↦ (t.1, order, t.3, nodes, g.0, g.1, inr ((r.command, r.asked, g.2), g.3))
     ]
 
 pub verdicts_are_folds : VerdictsAreFolds
 verdicts_are_folds script report fits run client n reply h conflict stamp row points read_stamp raises syncs is lines c =
     let r = reason script report fits run client n reply _ h is in
-    let x = r.explained.2 in
+    let x = r.explained.1.1 in
     let s = x.3 in
+    let t = s.3 in
     let own = (caller_of script client).own in
-    let order = read_order script report fits run client s.1 _ read_stamp raises syncs r.after s.4 s.3 s.5 lines c in
-    let nodes = nodes_are script report fits run s.4 s.6
-    (read_stands script report fits run own read_stamp syncs lines c s.4 order) s.7 in
+    let order = read_order script report fits run client s.1 _ read_stamp raises syncs r.after t.1 t.0 t.2 lines c in
+    let nodes = nodes_are script report fits run t.1 t.3
+    (read_stands script report fits run own read_stamp syncs lines c t.1 order) t.4 in
     let stands = at_points script report run client r.kept x.0 x.1 s.0 row points s.1 s.2 in (
-      s.4,
+      t.1,
       order,
-      s.6,
+      t.3,
       nodes,
       record { client = client; count = (kept_of run client n).ids },
       x.0,
@@ -359,6 +357,6 @@ verdicts_are_folds script report fits run client n reply h conflict stamp row po
       record { replied = h; command = r.command; asked = r.asked; asks = r.asks x.0 x.1 x.2; id_is = refl },
       s.0,
       subst (λ (m : ℕ). StandsAtPoints report own (record { client = client; count = m }) x.0 s.0 points) r.ids stands,
-      subst (λ (m : ℕ). verdict_of s.6 (entry_key s.0 (record { client = client; count = m }))
-          ≡ Some (shown_verdict conflict stamp)) r.ids s.8,
+      subst (λ (m : ℕ). verdict_of t.3 (entry_key s.0 (record { client = client; count = m }))
+          ≡ Some (shown_verdict conflict stamp)) r.ids t.5,
     )

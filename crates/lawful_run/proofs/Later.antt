@@ -1,6 +1,6 @@
 -- What a log explains, a later log explains as well.
 use Rattle.std.proofs.Common.{ℕ, ◌+◌, ◌<◌, ◌≤◌, List, [], ◌∷◌, length, take, None, ap, sym, subst, ◌∙◌, arith}
-use Rattle.std.specs.Prelude.{min}
+use Rattle.std.specs.Prelude.{Option, min}
 use Rattle.log_node.specs.declared.node.At.{At}
 use Rattle.log_node.specs.declared.node.At.TheVariants.{Event, Look}
 use Rattle.log_node.specs.declared.ids.Key.{Key}
@@ -10,7 +10,7 @@ use Rattle.log_node.specs.Seen.{PlacedNode}
 use Rattle.log_node.specs.Sets.{members}
 use Rattle.log_node.specs.Vectors.{at}
 use Rattle.col_core.specs.declared.Entry.{Entry}
-use Rattle.col_core.specs.History.{line}
+use Rattle.col_core.specs.History.{entry_key, line}
 use Rattle.col_core.specs.Cuts.{Dated, chain, base}
 use Rattle.col_core.specs.PlayOrder.{Place, Stands}
 use Rattle.col_core.specs.Log.{Log, IsLater, first}
@@ -21,17 +21,20 @@ use Rattle.report_text.specs.declared.report.Answer.{Answer}
 use Rattle.report_text.specs.declared.report.Answer.TheVariants as answers
 use Rattle.report_text.specs.declared.report.ReplyLine.{ReplyLine}
 use Rattle.report_text.specs.declared.report.PointPiece.{PointPiece}
+use Rattle.report_text.specs.declared.report.RaisePiece.{RaisePiece}
 use Rattle.report_text.specs.declared.report.SyncPiece.{SyncPiece}
 use Rattle.object_fold.specs.Maps.{Value}
 use Rattle.object_fold.specs.Causal.{ChainNode}
+use Rattle.object_fold.specs.Nodes.{ObjectNode}
 use Rattle.lawful_run.specs.Callers.{Caller, node_of}
-use Rattle.lawful_run.specs.Asks.{colours_synced, manner_of}
+use Rattle.lawful_run.specs.Deeds.{colours_synced, manner_of}
 use Rattle.lawful_run.specs.Appends.{Appends}
 use Rattle.lawful_run.specs.Reads.{ShowsKey, events_until}
 use Rattle.lawful_run.specs.Moves.{GivesAt, AsksFor, GivesHeld, GivesTooLow, CarriesAt, Pulls, OnlyGives, Trims}
 use Rattle.lawful_run.specs.Objects.{AreObjectNodes, own_played, GetsValue, Takes, places_within, IsChainNode, GetsValues}
+use Rattle.lawful_run.specs.Shapes.{TellsBehind, TellsRead}
 use Rattle.lawful_run.specs.Refusals.{FindsNoMemory, nothing, gone, gave, hidden, kept_before}
-use Rattle.lawful_run.specs.Explains.{Explains, Answers, Explained, start, next}
+use Rattle.lawful_run.specs.Explains.{Explains, Answers, Explained, ShowsKeys, ShowsVerdict, start, next}
 use Rattle.lawful_run.proofs.Prefixes.{prefix_take, get_within}
 use Rattle.lawful_run.proofs.LaterFacts.{all_zip_of, all_of, first_same, taken_same, still_there, entry_later, place_there, text_later, objects_later}
 use Rattle.lawful_run.proofs.LaterAppends.{append_later, unshown_later, has_no_stamp_later, stops_later, for_memory_later}
@@ -212,6 +215,42 @@ module _ (old new : Log) (later : IsLater old new) (caller : Caller) where
   memory_later kept what after (hidden then h) = hidden then
       (hides_later old new later caller kept (colours_synced caller what) (manner_of what) then h)
 
+  -- what a stamped read tells
+  tells_read_later : (kept : Kept) (what : What) (stamp : ℕ) (raises : List RaisePiece) (syncs : List SyncPiece)
+      (Says : List ObjectNode → Type 0) (after : Kept) → TellsRead old caller kept what stamp raises syncs Says after
+      → TellsRead new caller kept what stamp raises syncs Says after
+  tells_read_later kept what stamp raises syncs Says after t = (
+    read_later old new later caller kept (colours_synced caller what) stamp raises syncs after t.0,
+    t.1,
+    keys_later old new later caller kept (colours_synced caller what) stamp raises syncs after t.1 t.0 t.2,
+    t.3,
+    objects_later old new later t.1 t.3 t.4,
+    t.5,
+  )
+
+  -- and one behind an append
+  tells_behind_later : (kept : Kept) (what : What) (row : Option ℕ) (points : List PointPiece) (read_stamp : ℕ)
+      (raises : List RaisePiece) (syncs : List SyncPiece) (Says : Key → List ObjectNode → Type 0) (after : Kept)
+      → TellsBehind old caller kept what row points read_stamp raises syncs Says after
+      → TellsBehind new caller kept what row points read_stamp raises syncs Says after
+  tells_behind_later kept what row points read_stamp raises syncs Says after t =
+      let a = t.1 in
+      let s = a.3 in (
+        t.0,
+        (
+          a.0,
+          a.1,
+          a.2,
+          (
+            s.0,
+            s.1,
+            append_later old new later caller kept (node_of caller kept a.0 a.1) s.0 row points s.1 s.2,
+            tells_read_later s.1 what read_stamp raises syncs
+                (Says (entry_key s.0 (node_of caller kept a.0 a.1).id)) after s.3,
+          ),
+        ),
+      )
+
   explains_later : (kept : Kept) (what : What) (answer : Answer) (nodes : List PlacedNode) (after : Kept)
       → Explains old caller kept what answer nodes after → Explains new caller kept what answer nodes after
   explains_later kept what answers.NoMemory nodes after e = (e.0, memory_later kept what after e.1)
@@ -279,38 +318,10 @@ module _ (old new : Log) (later : IsLater old new) (caller : Caller) where
     gets_values_later sync e.2 values e.5.there e.6,
     e.7 ∙ sym (piece_same old new later caller kept sync e.5.there),
   )
-  explains_later kept what (answers.GotKeys stamp shown raises syncs) nodes after e = (
-    e.0,
-    e.1,
-    read_later old new later caller kept (colours_synced caller what) stamp raises syncs e.1 e.2,
-    e.3,
-    keys_later old new later caller kept (colours_synced caller what) stamp raises syncs e.1 e.3 e.2 e.4,
-    e.5,
-    objects_later old new later e.3 e.5 e.6,
-    e.7,
-  )
+  explains_later kept what (answers.GotKeys stamp shown raises syncs) nodes after e =
+      (e.0, e.1, tells_read_later kept what stamp raises syncs (ShowsKeys caller what shown e.1 after) e.1 e.2)
   explains_later kept what (answers.Ruled conflict stamp row points read_stamp raises syncs) nodes after e =
-      let a = e.2 in
-      let s = a.3 in (
-        e.0,
-        e.1,
-        (
-          a.0,
-          a.1,
-          a.2,
-          (
-            s.0,
-            s.1,
-            append_later old new later caller kept (node_of caller kept a.0 a.1) s.0 row points s.1 s.2,
-            read_later old new later caller s.1 (colours_synced caller what) read_stamp raises syncs after s.3,
-            s.4,
-            keys_later old new later caller s.1 (colours_synced caller what) read_stamp raises syncs after s.4 s.3 s.5,
-            s.6,
-            objects_later old new later s.4 s.6 s.7,
-            s.8,
-          ),
-        ),
-      )
+      (e.0, tells_behind_later kept what row points read_stamp raises syncs (ShowsVerdict conflict stamp) after e.1)
   explains_later kept what answers.NoTx nodes after e = e
   explains_later kept what (answers.Took value point sync) nodes after e =
       let a = e.3 in

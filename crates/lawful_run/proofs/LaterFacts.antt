@@ -14,13 +14,7 @@ use Rattle.object_fold.specs.Nodes.{ObjectNode}
 use Rattle.col_core.proofs.CallerLemmas.{outcome_stays}
 use Rattle.lawful_run.specs.Objects.{IsObjectNode, AreObjectNodes}
 use Rattle.lawful_run.proofs.Prefixes.{prefix_get, prefix_take, prefix_length, prefix_self, get_within}
-
-pub all_zip_of : {A B : Type 0} (R S : A → B → Type 0) → ((x : A) (y : B) → R x y → S x y)
-    → (xs : List A) (ys : List B) → AllZip R xs ys → AllZip S xs ys
-all_zip_of R S f [] [] a = tt
-all_zip_of R S f [] (y ∷ ys) a = absurd a
-all_zip_of R S f (x ∷ xs) [] a = absurd a
-all_zip_of R S f (x ∷ xs) (y ∷ ys) a = (f x y a.0, all_zip_of R S f xs ys a.1)
+pub use Rattle.log_node.proofs.CallerLemmas.{all_zip_of}
 
 pub all_of : {A : Type 0} (P Q : A → Type 0) → ((x : A) → P x → Q x) → (xs : List A) → All P xs → All Q xs
 all_of P Q f xs a k d lt = f (slice_index_or xs k d) (a k d lt)
@@ -28,14 +22,6 @@ all_of P Q f xs a k d lt = f (slice_index_or xs k d) (a k d lt)
 pub same_marks : (ms : List ColourMark) → AllZip IsLaterMark ms ms
 same_marks [] = tt
 same_marks (m ∷ ms) = ((refl, λ _. refl), same_marks ms)
-
-pub later_self : (log : Log) → IsLater log log
-later_self log = record {
-  histories = λ r c. prefix_self (log.histories r c);
-  lines = λ r c. prefix_self _;
-  nodes = λ client. prefix_self (log.nodes client);
-  rows = λ region r there. (r, there, record { row = refl; node = refl; marks = same_marks r.marks; last = λ _. refl });
-}
 
 -- WHAT IS READ OFF A LOG
 module _ (old new : Log) (later : IsLater old new) where

@@ -4,6 +4,7 @@ use Rattle.std.specs.Prelude.{◌≢◌}
 use Rattle.std.specs.List.{AllPairs, Contains, flat_map, range_with_len}
 use Rattle.std.proofs.lemmas.Bool.{cases_lt}
 use Rattle.col_core.proofs.CallerLemmas.{In, reverse-cons}
+pub use Rattle.col_core.proofs.CallerLemmas.{in_range}
 
 module _ {A : Type 0} where
   pub to_in : (xs : List A) (x : A) → Contains xs x → In x xs
@@ -92,10 +93,3 @@ module _ {A : Type 0} where
         ((y ≡ x) ⊎ In x ys) × In b (f x)
     turn more (inl h) = (y, inl refl, h)
     turn more (inr h) = let r = more h in (r.0, inr r.1, r.2)
-
--- the numbers of a range
-pub in_range : (a n x : ℕ) → In x (range_with_len a n) → (a ≤ x) × (x < a + n)
-in_range a zero x i = absurd i
-in_range a (suc n) x (inl e) = (omega (arith, e), omega (arith, e))
-in_range a (suc n) x (inr i) = let r = in_range (a + 1) n x i in let l = r.0 in let u = r.1 in
-    (omega (arith, l), omega (arith, u))

@@ -25,7 +25,8 @@ use Rattle.report_text.specs.declared.report.PointPiece.{PointPiece}
 use Rattle.report_text.specs.declared.report.RaisePiece.{RaisePiece}
 use Rattle.report_text.specs.declared.report.SyncPiece.{SyncPiece}
 use Rattle.lawful_run.specs.Callers.{Caller, node_of}
-use Rattle.lawful_run.specs.Asks.{kind_of, object_colours, colours_of, home_of, home_asked, colours_synced, rising, shards, AsksToAppend, Appending, Getting, Committing, Dequeuing, Manner, manner_of}
+use Rattle.lawful_run.specs.Asks.{kind_of, object_colours, colours_of, home_of, home_asked, rising, shards, Appending, Getting, Committing, Dequeuing, Manner}
+use Rattle.lawful_run.specs.Deeds.{colours_synced, AsksToAppend, manner_of}
 use Rattle.lawful_run.specs.Appends.{Appends, AppendsUnshown}
 use Rattle.lawful_run.specs.Reads.{Syncs, IsTrimmed, HidesSyncs, kept_after_piece, ReadsAt, AreRead, HidesRead, RefusesRead}
 use Rattle.lawful_run.specs.Objects.{AreObjectNodes, AreAnswers, IsChainNode, GetsValue, GetsValues, Takes, own_played, places_within, shown_verdict}
@@ -164,7 +165,7 @@ module _ (log : Log) (caller : Caller) (kept : Kept) where
       → Explains log caller kept (whats.Read object asked) (answers.GotKeys stamp shown raises syncs) []
       (with_read read object (Some (versions_after objects asked)))
   explains_read object asked stamp shown raises syncs read keys objects reads are_read nodes shows =
-      (refl, read, reads, keys, are_read, objects, nodes, inr (object, asked, refl, shows, refl))
+      (refl, read, (reads, keys, are_read, objects, nodes, inr (object, asked, refl, shows, refl)))
 
   -- A commit is explained by its append, the stamped read behind it, and the verdict on its own node among what was read.
   pub explains_verdict : (what : What) (colours : Colours) (text : List ℕ) (own : ℕ) (stood : Kept) (verdict : Value)
@@ -178,7 +179,7 @@ module _ (log : Log) (caller : Caller) (kept : Kept) where
       → Explains log caller kept what (answers.Ruled verdict stamp row points read_stamp raises syncs) [] after
   explains_verdict what colours text own stood verdict stamp row points read_stamp raises syncs after keys objects
       committing asks appends reads are_read nodes rules =
-      (refl, committing, (colours, text, asks, (own, stood, appends, reads, keys, are_read, objects, nodes, rules)))
+      (refl, (committing, (colours, text, asks, (own, stood, appends, (reads, keys, are_read, objects, nodes, rules)))))
 
   -- Its node stands, and the read or the fold behind it was refused.
   pub explains_unruled : (what : What) (colours : Colours) (text : List ℕ) (stamp colour : ℕ) (base : Counts)

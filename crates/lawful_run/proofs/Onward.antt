@@ -25,7 +25,8 @@ use Rattle.report_text.specs.declared.report.RaisePiece.{RaisePiece}
 use Rattle.report_text.specs.declared.report.SyncPiece.{SyncPiece}
 use Rattle.report_text.specs.declared.report.ReplyLine.{ReplyLine}
 use Rattle.lawful_run.specs.Callers.{Caller, node_of}
-use Rattle.lawful_run.specs.Asks.{Manner, Appending, Stopping, Syncing, Moving, Getting, Reading, Committing, Dequeuing, colours_synced, manner_of}
+use Rattle.lawful_run.specs.Asks.{Manner, Appending, Stopping, Syncing, Moving, Getting, Reading, Committing, Dequeuing}
+use Rattle.lawful_run.specs.Deeds.{colours_synced, manner_of}
 use Rattle.lawful_run.specs.Appends.{EntersAt, StandsAt, Appends, AppendsUnshown, one_unshown, several_unshown, kept_after_points, HasNoStamp, none_for_one, none_for_several}
 use Rattle.lawful_run.specs.Stops.{Stops, stopped_at_once, stopped_after}
 use Rattle.lawful_run.specs.Reads.{Syncs, kept_after_piece, RaisesAt, kept_after_place, Raises, ClearSyncs, ReadsAt, HidesSync, not_played, played, HidesSyncs, HidesRead, RefusesRead}
@@ -351,16 +352,17 @@ module _ (log : Log) (caller : Caller) (colour : ℕ)
   explained kept what (answers.GotMany values sync) nodes after e = to_same _ after e.7
       (synced kept sync.colour sync.events _ sync.counts e.5)
   explained kept what (answers.GotKeys stamp shown raises syncs) nodes after e =
-      let before = read kept (colours_synced caller what) stamp raises syncs e.1 e.2 in
-      elim e.7 [
+      let t = e.2 in
+      let before = read kept (colours_synced caller what) stamp raises syncs e.1 t.0 in
+      elim t.5 [
         | inl g ↦ to_same e.1 after g.4 before
         | inr g ↦ to_same _ after g.4 (then_on {middle = e.1} before (same refl refl))
       ]
   explained kept what (answers.Ruled conflict stamp row points read_stamp raises syncs) nodes after e =
-      let a = e.2 in
+      let a = e.1.1 in
       let s = a.3 in
       then_on (appended kept (node_of caller kept a.0 a.1) s.0 row points s.1 s.2)
-      (read s.1 _ read_stamp raises syncs after s.3)
+      (read s.1 _ read_stamp raises syncs after s.3.0)
   explained kept what answers.NoTx nodes after e = to_same kept after e.1 (same refl refl)
   explained kept what (answers.Took value point sync) nodes after e =
       let a = e.3 in

@@ -10,7 +10,7 @@ use Rattle.col_core.specs.Keeping.{Kept}
 use Rattle.script_text.specs.declared.script.Command.{Command}
 use Rattle.report_text.specs.declared.report.ReplyLine.{ReplyLine}
 use Rattle.lawful_run.specs.Callers.{Caller, node_of}
-use Rattle.lawful_run.specs.Asks.{AsksToAppend}
+use Rattle.lawful_run.specs.Deeds.{AsksToAppend}
 use Rattle.lawful_run.specs.Explains.{Answers, Explained, start, next}
 use Rattle.lawful_run.specs.Readings.{Nowhere, told, kept_at}
 use Rattle.std.proofs.lemmas.Bool.{cases_lt}

@@ -21,7 +21,8 @@ use Rattle.report_text.specs.declared.report.RaisePiece.{RaisePiece}
 use Rattle.report_text.specs.declared.report.ReplyLine.{ReplyLine}
 use Rattle.report_text.specs.declared.report.SyncPiece.{SyncPiece}
 use Rattle.lawful_run.specs.Callers.{Caller, node_of}
-use Rattle.lawful_run.specs.Asks.{Manner, Appending, Stopping, Syncing, Moving, Getting, Reading, Committing, Dequeuing, colours_synced, manner_of}
+use Rattle.lawful_run.specs.Asks.{Manner, Appending, Stopping, Syncing, Moving, Getting, Reading, Committing, Dequeuing}
+use Rattle.lawful_run.specs.Deeds.{colours_synced, manner_of}
 use Rattle.lawful_run.specs.Appends.{Appends, AppendsUnshown, one_unshown, several_unshown, kept_after_points, HasNoStamp, none_for_one, none_for_several}
 use Rattle.lawful_run.specs.Moves.{with_places, kept_after_pull}
 use Rattle.lawful_run.specs.Reads.{kept_after_place, kept_after_piece, Raises, ClearSyncs, ReadsAt, HidesSyncs, HidesRead, RefusesRead}
@@ -173,18 +174,20 @@ module _ (log : Log) (caller : Caller) (kept : Kept) where
   explained_keeps what (answers.Got value sync) nodes after e other = so_kept kept _ after e.10 refl
   explained_keeps what (answers.GotMany values sync) nodes after e other = so_kept kept _ after e.7 refl
   explained_keeps what (answers.GotKeys stamp shown raises syncs) nodes after e other =
-      elim e.7 [
+      let t = e.2 in
+      elim t.5 [
         | inl g ↦ so_kept kept e.1 after g.4
-            (reads_keep log caller kept (colours_synced caller what) stamp raises syncs e.1 e.2)
+            (reads_keep log caller kept (colours_synced caller what) stamp raises syncs e.1 t.0)
         | inr g ↦ elim other [
           | inl none ↦ absurd (none g.0 g.1 g.2)
           | inr none ↦ absurd (none stamp shown raises syncs refl)
         ]
       ]
   explained_keeps what (answers.Ruled conflict stamp row points read_stamp raises syncs) nodes after e other =
-      let s = e.2.3 in
-      reads_keep log caller s.1 (colours_synced caller what) read_stamp raises syncs after s.3
-      ∙ appends_keep (node_of caller kept e.2.0 e.2.1) s.0 row points s.1 s.2
+      let a = e.1.1 in
+      let s = a.3 in
+      reads_keep log caller s.1 (colours_synced caller what) read_stamp raises syncs after s.3.0
+      ∙ appends_keep (node_of caller kept a.0 a.1) s.0 row points s.1 s.2
   explained_keeps what answers.NoTx nodes after e other = same_kept kept after e.1
   explained_keeps what (answers.Took value point sync) nodes after e other =
       let s = e.3.3 in

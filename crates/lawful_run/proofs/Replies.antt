@@ -12,6 +12,7 @@ use Rattle.lawful_run.specs.Callers.{Caller}
 use Rattle.lawful_run.specs.Explains.{Answers, Explained, start, next}
 use Rattle.lawful_run.specs.Readings.{kept_at}
 use Rattle.lawful_run.proofs.Prefixes.{get-append, get_within}
+pub use Rattle.log_node.proofs.CallerLemmas.{get_last as get-last}
 
 -- LISTS
 pub last_or_before : {A : Type 0} (xs : List A) (x r : A) (k : ℕ) → slice_get (xs ++ x ∷ []) k ≡ Some r
@@ -24,10 +25,6 @@ last_or_before (y ∷ ys) x r (suc k) e = more (last_or_before ys x r k e) where
       ((suc k ≡ suc (length ys)) × (x ≡ r))
   more (inl c) = inl c
   more (inr f) = inr (ap suc f.0, f.1)
-
-pub get-last : {A : Type 0} (xs : List A) (x : A) → slice_get (xs ++ x ∷ []) (length xs) ≡ Some x
-get-last [] x = refl
-get-last (y ∷ ys) x = get-last ys x
 
 -- an element by its place
 pub contains_at : {A : Type 0} (xs : List A) (k : ℕ) (x : A) → slice_get xs k ≡ Some x → Contains xs x

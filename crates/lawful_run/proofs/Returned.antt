@@ -20,7 +20,7 @@ use Rattle.report_text.specs.declared.report.ReplyLine.{ReplyLine}
 use Rattle.report_text.specs.declared.report.ClientReport.{ClientReport}
 use Rattle.report_text.specs.declared.report.Report.{Report}
 use Rattle.lawful_run.specs.Callers.{Caller, caller_of, node_of}
-use Rattle.lawful_run.specs.Asks.{AsksToAppend}
+use Rattle.lawful_run.specs.Deeds.{AsksToAppend}
 use Rattle.lawful_run.specs.Appends.{Appends, AppendsUnshown, one_unshown, several_unshown, StandsUnder, StandsAt}
 use Rattle.lawful_run.specs.Columns.{IsColumnReport}
 use Rattle.lawful_run.specs.Refusals.{kept_before}
@@ -29,27 +29,9 @@ use Rattle.lawful_run.specs.Lawful.{LawfulRun}
 use Rattle.lawful_run.specs.Readings.{kept_at, kept_of, Nowhere, Under, told, StandsAtEnd, StandsAtPoints, StandsAs, ReturnedAppendsStand}
 use Rattle.lawful_run.proofs.Replies.{step_of}
 use Rattle.lawful_run.proofs.Traces.{one_of}
+use Rattle.lawful_run.proofs.LettingGo.{asks_before}
 use Rattle.lawful_run.proofs.Used.{before_ids}
 use Rattle.lawful_run.proofs.Clients.{shown_there}
-
--- what a command asks does not rest on a read that it lets go
-pub asks_before : (caller : Caller) (what : What) (kept : Kept) (colours : Colours) (text : List ℕ)
-    → AsksToAppend caller (kept_before what kept) what colours text → AsksToAppend caller kept what colours text
-asks_before caller (whats.Append asked given) kept colours text a = a
-asks_before caller (whats.Stop steps asked given) kept colours text a = a
-asks_before caller (whats.Sync colour) kept colours text a = absurd a
-asks_before caller (whats.Scan asked) kept colours text a = absurd a
-asks_before caller (whats.Pull region colour) kept colours text a = absurd a
-asks_before caller (whats.Trim colour) kept colours text a = absurd a
-asks_before caller (whats.Put object key value) kept colours text a = a
-asks_before caller (whats.Get object key) kept colours text a = absurd a
-asks_before caller (whats.Del object key) kept colours text a = a
-asks_before caller (whats.PutAll object pairs) kept colours text a = a
-asks_before caller (whats.GetAll object keys) kept colours text a = absurd a
-asks_before caller (whats.Read object keys) kept colours text a = absurd a
-asks_before caller (whats.Commit object pairs) kept colours text a = a
-asks_before caller (whats.Enq object value) kept colours text a = a
-asks_before caller (whats.Deq object) kept colours text a = a
 
 module _ (script : Script) (report : Report) (run : LawfulRun script report) (client : ℕ) (kept : Kept) where
   abbrev caller : Caller
@@ -125,7 +107,7 @@ module _ (script : Script) (report : Report) (run : LawfulRun script report) (cl
   returned what (answers.GotMany values sync) nodes after e n = absurd (n refl)
   returned what (answers.GotKeys stamp shown raises syncs) nodes after e n = absurd (n refl)
   returned what (answers.Ruled conflict stamp row points read_stamp raises syncs) nodes after e n =
-      let a = e.2 in
+      let a = e.1.1 in
       let s = a.3 in
       (a.0, a.1, a.2, (s.0, at_points a.0 a.1 s.0 row points s.1 s.2))
   returned what answers.NoTx nodes after e n = absurd (n refl)

@@ -46,14 +46,11 @@ use Rattle.lawful_run.proofs.Standing as standing
 use Rattle.lawful_run.proofs.Standing.{column_is, stands_of}
 use Rattle.lawful_run.proofs.Lines.{node_there, append_of}
 use Rattle.lawful_run.proofs.Beginnings.{split}
+use Rattle.log_node.proofs.CallerLemmas.{get_map_back as get-map}
+use Rattle.col_core.proofs.CallerLemmas.{range_has as range_in}
+use Rattle.col_core.proofs.CallerLemmas.{in_flat_map-back as in_flat}
 
 -- LISTS
-get-map : {A B : Type 0} (f : A → B) (xs : List A) (k : ℕ) (b : B) → slice_get (map f xs) k ≡ Some b → (x : A) ×
-    (slice_get xs k ≡ Some x) × (f x ≡ b)
-get-map f [] k b e = absurd (let g : ⊥ = cc in g)
-get-map f (x ∷ xs) zero b e = (x, refl, cc)
-get-map f (x ∷ xs) (suc k) b e = get-map f xs k b e
-
 pub zip_at : {A B : Type 0} (R : A → B → Type 0) (xs : List A) (ys : List B) → AllZip R xs ys → (k : ℕ) (y : B)
     → slice_get ys k ≡ Some y
     → (x : A) × (slice_get xs k ≡ Some x) × R x y
@@ -62,25 +59,6 @@ zip_at R [] (z ∷ ys) a k y e = absurd a
 zip_at R (x ∷ xs) [] a k y e = absurd a
 zip_at {A} {B} R (x ∷ xs) (z ∷ ys) a zero y e = let same : z ≡ y = cc in (x, refl, subst (R x) same a.0)
 zip_at R (x ∷ xs) (z ∷ ys) a (suc k) y e = zip_at R xs ys a.1 k y e
-
-in_flat : {A B : Type 0} (f : A → List B) (xs : List A) (x : A) (b : B) → In x xs → In b (f x) → In b (flat_map f xs)
-in_flat f [] x b i j = absurd i
-in_flat {A} {B} f (y ∷ ys) x b (inl e) j = left (f y) (flat_map f ys) (subst (λ (z : A). In b (f z)) (sym e) j) where
-  left : (us vs : List B) → In b us → In b (us ++ vs)
-  left [] vs h = absurd h
-  left (u ∷ us) vs (inl e) = inl e
-  left (u ∷ us) vs (inr h) = inr (left us vs h)
-in_flat {A} {B} f (y ∷ ys) x b (inr i) j = right (f y) (flat_map f ys) (in_flat f ys x b i j) where
-  right : (us vs : List B) → In b vs → In b (us ++ vs)
-  right [] vs h = h
-  right (u ∷ us) vs h = inr (right us vs h)
-
-range_in : (a n x : ℕ) → a ≤ x → x < a + n → In x (range_with_len a n)
-range_in a zero x le lt = absurd (let f : ⊥ = omega (arith, le, lt) in f)
-range_in a (suc n) x le lt = elim (cases_lt a x) [
-  | inl more ↦ inr (range_in (a + 1) n x (omega (arith, more)) (omega (arith, lt)))
-  | inr ge ↦ inl (omega (arith, le, ge))
-]
 
 -- CHAINS
 -- the own chain of a column has the keys of its line

@@ -25,6 +25,7 @@ use Rattle.lawful_run.specs.Appends.{AreSteps}
 use Rattle.lawful_run.specs.Refusals.{Hides, Refuses}
 use Rattle.lawful_run.specs.Reads.{kept_after_piece, RaisesAt, kept_after_place, Raises, ClearSyncs, events_until, ReadsAt, HidesSyncs, HidesRead, RefusesRead}
 use Rattle.lawful_run.specs.Moves.{GivesAt, GivesHeld, GivesTooLow, CarriesAt, Pulls, with_places}
+pub use Rattle.log_node.proofs.CallerLemmas.{contains_none as in_none}
 
 -- a single of the id stands at the place
 pub record IsSingleAt (log : Log) (region colour place : ℕ) (id : Id) : Type 0 where
@@ -64,9 +65,6 @@ step_is_none id (events.Trim counts) s = absurd s
 pub one_of : {A : Type 0} (x y : A) → Contains (x ∷ []) y → x ≡ y
 one_of x y (zero, lt, e) = e
 one_of x y (suc k, lt, e) = absurd (let f : ⊥ = omega (arith, lt) in f)
-
-pub in_none : {A : Type 0} (y : A) → Contains [] y → ⊥
-in_none y (k, lt, e) = omega (arith, lt)
 
 -- where a function has another value at one number
 pub at_updated : {A : Type 0} (P : A → Type 0) (Q : Type 0) (f : ℕ → A) (n : ℕ) (x : A) (m : ℕ) → (m ≡ n → P x → Q) →

@@ -1,22 +1,26 @@
 -- What each answer says of the id that its command used.
-use Rattle.std.proofs.Common.{◌≡◌, zero, suc, ◌+◌, List, [], ◌∷◌, None, refl, sym, subst, inl, inr, arith}
+use Rattle.std.proofs.Common.{◌≡◌, zero, suc, ◌+◌, ℕ, List, [], ◌∷◌, None, refl, sym, subst, inl, inr, arith}
 use Rattle.std.specs.Prelude.{◌≢◌}
+use Rattle.log_node.specs.declared.ids.Colours.{Colours}
 use Rattle.log_node.specs.Seen.{PlacedNode}
 use Rattle.col_core.specs.Log.{Log}
 use Rattle.col_core.specs.Keeping.{Kept}
 use Rattle.script_text.specs.declared.script.What.{What}
-use Rattle.script_text.specs.declared.script.What.TheVariants as whats
+use Rattle.script_text.specs.declared.uses.ReadUse.TheVariants.{Takes}
+use Rattle.script_text.specs.declared.uses.Use.{Use}
+use Rattle.script_text.specs.declared.uses.Use.TheVariants.{OfObject}
+use Rattle.script_text.specs.Uses.{use_of}
 use Rattle.script_text.specs.declared.script.Command.{Command}
 use Rattle.report_text.specs.declared.report.Answer.{Answer}
 use Rattle.report_text.specs.declared.report.Answer.TheVariants as answers
 use Rattle.report_text.specs.declared.report.ReplyLine.{ReplyLine}
 use Rattle.lawful_run.specs.Callers.{Caller}
-use Rattle.lawful_run.specs.Asks.{AsksToAppend, colours_synced}
-use Rattle.lawful_run.specs.Refusals.{kept_before, kept_behind}
+use Rattle.lawful_run.specs.Deeds.{AsksToAppend, colours_synced}
+use Rattle.lawful_run.specs.Refusals.{before_by, kept_before, kept_behind}
 use Rattle.lawful_run.specs.Explains.{Explains, Answers}
 use Rattle.lawful_run.specs.Readings.{Told, Nowhere, told}
 use Rattle.lawful_run.proofs.Traces.{Quiet, quiet_self, quiet_then, quiet_is, quiet_to, an_event, read, hides, refuses, pulls}
-use Rattle.lawful_run.proofs.LettingGo.{before_is, behind_is}
+use Rattle.lawful_run.proofs.LettingGo.{before_is, behind_is, asks_before}
 use Rattle.lawful_run.proofs.Uses.{Leaves, uses_then, appends_use, unshown_use, no_stamp_use, stop_use, memory_use, quiet_same}
 
 explained_use : (log : Log) (caller : Caller) (kept : Kept) (what : What) (answer : Answer) (nodes : List PlacedNode)
@@ -52,16 +56,17 @@ explained_use log caller kept what (answers.Got value sync) nodes after e =
 explained_use log caller kept what (answers.GotMany values sync) nodes after e =
     inl (quiet_to _ after e.7 (quiet_same log kept _ refl refl), refl)
 explained_use log caller kept what (answers.GotKeys stamp shown raises syncs) nodes after e =
-    let before = read log caller kept (colours_synced caller what) stamp raises syncs e.1 e.2 in
-    elim e.7 [
+    let t = e.2 in
+    let before = read log caller kept (colours_synced caller what) stamp raises syncs e.1 t.0 in
+    elim t.5 [
       | inl g ↦ inl (quiet_to e.1 after g.4 before, refl)
       | inr g ↦ inl (quiet_to _ after g.4 (quiet_then before (quiet_same log e.1 _ refl refl)), refl)
     ]
 explained_use log caller kept what (answers.Ruled conflict stamp row points read_stamp raises syncs) nodes after e =
-    let a = e.2 in
+    let a = e.1.1 in
     let s = a.3 in
     inr (uses_then (appends_use log caller kept what a.0 a.1 a.2 _ s.0 row points s.1 (λ f. absurd cc) s.2)
-    (read log caller s.1 _ read_stamp raises syncs after s.3))
+    (read log caller s.1 _ read_stamp raises syncs after s.3.0))
 explained_use log caller kept what answers.NoTx nodes after e =
     inl (quiet_is e.1, refl)
 explained_use log caller kept what (answers.Took value point sync) nodes after e =
@@ -87,23 +92,22 @@ explained_use log caller kept what (answers.NotHome home) nodes after e =
 -- a read that lets an earlier one go uses no id
 before_use : (log : Log) (caller : Caller) (what : What) (kept : Kept) (tells : Told) (after : Kept)
     → Leaves log caller (kept_before what kept) what tells after → Leaves log caller kept what tells after
-before_use log caller (whats.Append colours text) kept tells after l = l
-before_use log caller (whats.Stop steps colours text) kept tells after l = l
-before_use log caller (whats.Sync colour) kept tells after l = l
-before_use log caller (whats.Scan colours) kept tells after l = l
-before_use log caller (whats.Pull region colour) kept tells after l = l
-before_use log caller (whats.Trim colour) kept tells after l = l
-before_use log caller (whats.Put object key value) kept tells after l = l
-before_use log caller (whats.Get object key) kept tells after l = l
-before_use log caller (whats.Del object key) kept tells after l = l
-before_use log caller (whats.PutAll object pairs) kept tells after l = l
-before_use log caller (whats.GetAll object keys) kept tells after l = l
-before_use log caller (whats.Read object keys) kept tells after (inl q) =
-    inl (record { ids = q.0.ids; made = q.0.made }, q.1)
-before_use log caller (whats.Read object keys) kept tells after (inr u) = absurd u.asks
-before_use log caller (whats.Commit object pairs) kept tells after l = l
-before_use log caller (whats.Enq object value) kept tells after l = l
-before_use log caller (whats.Deq object) kept tells after l = l
+before_use log caller what kept tells after =
+    by (use_of what) (λ colours text. asks_before caller what kept colours text) where
+      by : (u : Use) → ((colours : Colours) (text : List ℕ)
+          → AsksToAppend caller (before_by u kept) what colours text → AsksToAppend caller kept what colours text)
+          → Leaves log caller (before_by u kept) what tells after → Leaves log caller kept what tells after
+      by (OfObject object Takes) asks (inl q) = inl (record { ids = q.0.ids; made = q.0.made }, q.1)
+      by (OfObject object Takes) asks (inr u) = inr (record {
+        colours = u.colours;
+        text = u.text;
+        asks = asks u.colours u.text u.asks;
+        next = u.next;
+        ids = u.ids;
+        fate = u.fate;
+        made = u.made;
+      })
+      by _ asks l = l
 
 pub before_ids : (what : What) (kept : Kept) → (kept_before what kept).ids ≡ kept.ids
 before_ids what kept = before_is (λ (k : Kept). k.ids ≡ kept.ids) what kept refl (λ _. refl)

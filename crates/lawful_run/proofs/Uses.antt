@@ -20,7 +20,7 @@ use Rattle.col_core.proofs.CallerLemmas.{choice}
 use Rattle.script_text.specs.declared.script.What.{What}
 use Rattle.report_text.specs.declared.report.PointPiece.{PointPiece}
 use Rattle.lawful_run.specs.Callers.{Caller, node_of}
-use Rattle.lawful_run.specs.Asks.{AsksToAppend, colours_synced, manner_of}
+use Rattle.lawful_run.specs.Deeds.{AsksToAppend, colours_synced, manner_of}
 use Rattle.lawful_run.specs.Appends.{BeginsRow, AppendsOne, Appends, AppendsUnshown, one_unshown, several_unshown, kept_after_points, HasNoStamp, none_for_one, none_for_several}
 use Rattle.lawful_run.specs.Moves.{with_places}
 use Rattle.lawful_run.specs.Stops.{Stops, stopped_at_once, stopped_after}

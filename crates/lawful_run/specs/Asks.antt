@@ -1,4 +1,4 @@
--- What commands ask of the log: which node they append, and which colours they sync.
+-- What commands are of: their objects, the kinds of what they do, and the shards of keys.
 use Rattle.std.specs.Prelude.{◌≡◌, Bool, true, false, ℕ, ◌==◌, List, [], ◌∷◌, ◌++◌, map, Option, Some, None, slice_get}
 use Rattle.std.specs.List.{filter, list_any, range_with_len}
 use Rattle.std.specs.Option.{option_map}
@@ -16,7 +16,9 @@ use Rattle.script_text.specs.declared.script.Kind.{Kind}
 use Rattle.script_text.specs.declared.script.Kind.TheVariants as kinds
 use Rattle.script_text.specs.declared.script.Object.{Object}
 use Rattle.script_text.specs.declared.script.What.{What}
-use Rattle.script_text.specs.declared.script.What.TheVariants as whats
+use Rattle.script_text.specs.declared.uses.Use.{Use}
+use Rattle.script_text.specs.declared.uses.Use.TheVariants.{OfLog, OfObject}
+use Rattle.script_text.specs.Uses.{use_of}
 use Rattle.lawful_run.specs.Callers.{Caller}
 
 -- the kind of an object, by its number
@@ -31,6 +33,7 @@ object_colours (Some (kinds.Tx home colours)) = colours
 object_colours (Some (kinds.Causal colour)) = colour ∷ []
 object_colours (Some (kinds.Queue home colour)) = colour ∷ []
 
+-- the colours of the object with this number
 abbrev pub colours_of : Caller → ℕ → List ℕ
 colours_of caller object = object_colours (kind_of caller object)
 
@@ -42,26 +45,22 @@ object_home (Some (kinds.Tx home colours)) = Some home
 object_home (Some (kinds.Causal colour)) = None
 object_home (Some (kinds.Queue home colour)) = Some home
 
+-- the home of the object with this number, where it has one
 abbrev pub home_of : Caller → ℕ → Option ℕ
 home_of caller object = object_home (kind_of caller object)
 
+-- the kind of the object that a command is of
+abbrev pub kind_in : Caller → Use → Option Kind
+kind_in caller (OfLog stops) = None
+kind_in caller (OfObject object read) = kind_of caller object
+
+-- the kind of the object that a command names, if it names one
+abbrev pub kind_asked : Caller → What → Option Kind
+kind_asked caller what = kind_in caller (use_of what)
+
 -- the home of the object that a command is of
 abbrev pub home_asked : Caller → What → Option ℕ
-home_asked caller (whats.Append colours text) = None
-home_asked caller (whats.Stop steps colours text) = None
-home_asked caller (whats.Sync colour) = None
-home_asked caller (whats.Scan colours) = None
-home_asked caller (whats.Pull region colour) = None
-home_asked caller (whats.Trim colour) = None
-home_asked caller (whats.Put object key value) = home_of caller object
-home_asked caller (whats.Get object key) = home_of caller object
-home_asked caller (whats.Del object key) = home_of caller object
-home_asked caller (whats.PutAll object pairs) = home_of caller object
-home_asked caller (whats.GetAll object keys) = home_of caller object
-home_asked caller (whats.Read object keys) = home_of caller object
-home_asked caller (whats.Commit object pairs) = home_of caller object
-home_asked caller (whats.Enq object value) = home_of caller object
-home_asked caller (whats.Deq object) = home_of caller object
+home_asked caller what = object_home (kind_asked caller what)
 
 -- the kinds of commands, by what they do to the log
 pub data Manner : Type 0 where
@@ -81,23 +80,6 @@ pub data Manner : Type 0 where
   Committing : Manner
   -- it appends a node, and then syncs its colour
   Dequeuing : Manner
-
-abbrev pub manner_of : What → Manner
-manner_of (whats.Append colours text) = Appending
-manner_of (whats.Stop steps colours text) = Stopping
-manner_of (whats.Sync colour) = Syncing
-manner_of (whats.Scan colours) = Reading
-manner_of (whats.Pull region colour) = Moving
-manner_of (whats.Trim colour) = Moving
-manner_of (whats.Put object key value) = Appending
-manner_of (whats.Get object key) = Getting
-manner_of (whats.Del object key) = Appending
-manner_of (whats.PutAll object pairs) = Appending
-manner_of (whats.GetAll object keys) = Reading
-manner_of (whats.Read object keys) = Reading
-manner_of (whats.Commit object pairs) = Committing
-manner_of (whats.Enq object value) = Appending
-manner_of (whats.Deq object) = Dequeuing
 
 -- a command that appends or makes a stamped read may help the appends of others
 abbrev pub may_help : Manner → Bool
@@ -122,59 +104,11 @@ shards colours keys = colours_where (λ c. list_any (λ key. shard_of colours ke
 abbrev pub rising : List ℕ → List ℕ
 rising colours = colours_where (λ c. list_any (λ d. d == c) colours)
 
+-- the keys of pairs, in their order
 abbrev pub keys_of : List Pair → List (List ℕ)
 keys_of pairs = map (λ (p : Pair). p.key) pairs
 
 -- what a put on an object of a kind writes
 abbrev pub put_form : Option Kind → List ℕ → List ℕ → Form
-put_form None key value = forms.Put key value
-put_form (Some (kinds.Map home colours)) key value = forms.Put key value
-put_form (Some (kinds.Tx home colours)) key value = forms.Put key value
 put_form (Some (kinds.Causal colour)) key value = forms.Causal key value
-put_form (Some (kinds.Queue home colour)) key value = forms.Put key value
-
--- The command, of a client that keeps this, appends a node with these colours and this text. A transaction names the
--- versions that the client's last read of the object found.
-abbrev pub AsksToAppend : Caller → Kept → What → Colours → List ℕ → Type 0
-AsksToAppend caller kept (whats.Append asked given) colours text = (colours ≡ asked) × (text ≡ given)
-AsksToAppend caller kept (whats.Stop steps asked given) colours text = (colours ≡ asked) × (text ≡ given)
-AsksToAppend caller kept (whats.Sync colour) colours text = ⊥
-AsksToAppend caller kept (whats.Scan asked) colours text = ⊥
-AsksToAppend caller kept (whats.Pull region colour) colours text = ⊥
-AsksToAppend caller kept (whats.Trim colour) colours text = ⊥
-AsksToAppend caller kept (whats.Put object key value) colours text =
-    (members colours ≡ shards (colours_of caller object) (key ∷ []))
-    × (text ≡ form_text (put_form (kind_of caller object) key value))
-AsksToAppend caller kept (whats.Get object key) colours text = ⊥
-AsksToAppend caller kept (whats.Del object key) colours text =
-    (members colours ≡ shards (colours_of caller object) (key ∷ [])) × (text ≡ form_text (forms.Delete key))
-AsksToAppend caller kept (whats.PutAll object pairs) colours text =
-    (members colours ≡ shards (colours_of caller object) (keys_of pairs)) × (text ≡ form_text (forms.PutAll pairs))
-AsksToAppend caller kept (whats.GetAll object keys) colours text = ⊥
-AsksToAppend caller kept (whats.Read object keys) colours text = ⊥
-AsksToAppend caller kept (whats.Commit object pairs) colours text =
-    (versions : List Version) × (kept.reads object ≡ Some versions)
-    × (members colours ≡ shards (colours_of caller object) (map (λ (v : Version). v.key) versions ++ keys_of pairs))
-    × (text ≡ form_text (forms.Transaction versions pairs))
-AsksToAppend caller kept (whats.Enq object value) colours text =
-    (members colours ≡ colours_of caller object) × (text ≡ form_text (forms.Enqueue value))
-AsksToAppend caller kept (whats.Deq object) colours text =
-    (members colours ≡ colours_of caller object) × (text ≡ form_text forms.Dequeue)
-
--- the colours that a command syncs, in rising number
-abbrev pub colours_synced : Caller → What → List ℕ
-colours_synced caller (whats.Append colours text) = []
-colours_synced caller (whats.Stop steps colours text) = []
-colours_synced caller (whats.Sync colour) = colour ∷ []
-colours_synced caller (whats.Scan colours) = members colours
-colours_synced caller (whats.Pull region colour) = []
-colours_synced caller (whats.Trim colour) = []
-colours_synced caller (whats.Put object key value) = []
-colours_synced caller (whats.Get object key) = shards (colours_of caller object) (key ∷ [])
-colours_synced caller (whats.Del object key) = []
-colours_synced caller (whats.PutAll object pairs) = []
-colours_synced caller (whats.GetAll object keys) = shards (colours_of caller object) keys
-colours_synced caller (whats.Read object keys) = rising (colours_of caller object)
-colours_synced caller (whats.Commit object pairs) = rising (colours_of caller object)
-colours_synced caller (whats.Enq object value) = []
-colours_synced caller (whats.Deq object) = colours_of caller object
+put_form _ key value = forms.Put key value

@@ -18,6 +18,7 @@ pub record Caller : Type 0 where
   pub rows : ℕ
   pub objects : List Object
 
+-- the client of a script with this number
 abbrev pub caller_of : Script → ℕ → Caller
 caller_of script client = record {
   client = client;

@@ -1,5 +1,5 @@
 -- What the reply to a command says of the log, to a client that keeps what its earlier replies told.
-use Rattle.std.specs.Prelude.{◌≡◌, ◌≢◌, ◌⊎◌, ℕ, List, [], ◌∷◌, ◌++◌, length, Some, None}
+use Rattle.std.specs.Prelude.{◌≡◌, ◌≢◌, ◌⊎◌, ℕ, List, [], ◌∷◌, ◌++◌, length, Option, Some, None}
 use Rattle.std.specs.List.{AllZip}
 use Rattle.log_node.specs.declared.ids.Colours.{Colours}
 use Rattle.log_node.specs.declared.ids.Key.{Key}
@@ -19,10 +19,13 @@ use Rattle.script_text.specs.declared.script.Command.{Command}
 use Rattle.script_text.specs.Words.{word_of}
 use Rattle.report_text.specs.declared.report.Answer.{Answer}
 use Rattle.report_text.specs.declared.report.Answer.TheVariants as answers
+use Rattle.report_text.specs.declared.report.KeyAnswer.{KeyAnswer}
 use Rattle.report_text.specs.declared.report.ReplyLine.{ReplyLine}
 use Rattle.lawful_run.specs.Callers.{Caller, node_of}
-use Rattle.lawful_run.specs.Asks.{kind_of, home_of, colours_of, home_asked, AsksToAppend, colours_synced, Appending, Stopping, Committing, Dequeuing, Syncing, Getting, Reading, manner_of}
+use Rattle.lawful_run.specs.Asks.{kind_of, home_of, colours_of, home_asked, Appending, Stopping, Committing, Dequeuing, Syncing, Getting, Reading}
+use Rattle.lawful_run.specs.Deeds.{AsksToAppend, colours_synced, manner_of}
 use Rattle.lawful_run.specs.Appends.{Appends, AppendsUnshown, HasNoStamp, IsFull}
+use Rattle.lawful_run.specs.Shapes.{AppendsBy, TellsBehind, TellsRead}
 use Rattle.lawful_run.specs.Stops.{Stops}
 use Rattle.lawful_run.specs.Reads.{Syncs, ShowsPlayed, greatest_stamp, kept_after_piece, ReadsAt, AreRead, ShowsKey}
 use Rattle.lawful_run.specs.Moves.{Pulls, kept_after_pull, Trims}
@@ -33,10 +36,18 @@ use Rattle.lawful_run.specs.Refusals.{FindsNoMemory, Hides, Refuses, IsAway, IsH
 abbrev pub IsNoStopAtOnce : What → Type 0
 IsNoStopAtOnce what = (colours : Colours) (text : List ℕ) → what ≢ whats.Stop 0 colours text
 
--- the command appends this over what the client keeps
-abbrev pub AppendsBy : Caller → Kept → What → (Colours → List ℕ → Type 0) → Type 0
-AppendsBy caller kept what Says =
-    (colours : Colours) × (text : List ℕ) × AsksToAppend caller kept what colours text × Says colours text
+-- By the nodes read these are the values of the keys that were asked for, and so much is kept behind them.
+abbrev pub ShowsKeys : Caller → What → List KeyAnswer → Kept → Kept → List ObjectNode → Type 0
+ShowsKeys caller what shown read after objects =
+    ((object : ℕ) × (asked : List (List ℕ)) × (what ≡ whats.GetAll object asked)
+    × AreAnswers asked (values_among (colours_of caller object) objects asked) shown × (after ≡ read))
+    ⊎ ((object : ℕ) × (asked : List (List ℕ)) × (what ≡ whats.Read object asked)
+    × AreAnswers asked (values_after objects asked) shown
+    × (after ≡ with_read read object (Some (versions_after objects asked))))
+
+-- by the nodes read this is the verdict on the own node
+abbrev pub ShowsVerdict : Option (List ℕ) → ℕ → Key → List ObjectNode → Type 0
+ShowsVerdict conflict stamp own objects = verdict_of objects own ≡ Some (shown_verdict conflict stamp)
 
 -- The answer, with its node lines, to what a client asked: what it says of the log, and what the client keeps
 -- afterwards.
@@ -89,22 +100,9 @@ Explains log caller kept what (answers.GotMany values sync) nodes after =
     × GetsValues log caller sync key values
     × (after ≡ kept_after_piece log caller kept sync)
 Explains log caller kept what (answers.GotKeys stamp shown raises syncs) nodes after =
-    (nodes ≡ []) × (read : Kept) × ReadsAt log caller kept (colours_synced caller what) stamp raises syncs read
-    × (keys : List Key) × AreRead log caller stamp syncs keys
-    × (objects : List ObjectNode) × AreObjectNodes log keys objects
-    × (((object : ℕ) × (asked : List (List ℕ)) × (what ≡ whats.GetAll object asked)
-    × AreAnswers asked (values_among (colours_of caller object) objects asked) shown × (after ≡ read))
-    ⊎ ((object : ℕ) × (asked : List (List ℕ)) × (what ≡ whats.Read object asked)
-    × AreAnswers asked (values_after objects asked) shown
-    × (after ≡ with_read read object (Some (versions_after objects asked)))))
+    (nodes ≡ []) × (read : Kept) × TellsRead log caller kept what stamp raises syncs (ShowsKeys caller what shown read after) read
 Explains log caller kept what (answers.Ruled conflict stamp row points read_stamp raises syncs) nodes after =
-    (nodes ≡ []) × (manner_of what ≡ Committing)
-    × AppendsBy caller kept what (λ colours text. (own : ℕ) × (stood : Kept)
-    × Appends log caller kept (node_of caller kept colours text) own row points stood
-    × ReadsAt log caller stood (colours_synced caller what) read_stamp raises syncs after
-    × (keys : List Key) × AreRead log caller read_stamp syncs keys
-    × (objects : List ObjectNode) × AreObjectNodes log keys objects
-    × (verdict_of objects (entry_key own (node_of caller kept colours text).id) ≡ Some (shown_verdict conflict stamp)))
+    (nodes ≡ []) × TellsBehind log caller kept what row points read_stamp raises syncs (ShowsVerdict conflict stamp) after
 Explains log caller kept what answers.NoTx nodes after =
     (nodes ≡ []) × (after ≡ kept) × (object : ℕ) × (pairs : _) × (what ≡ whats.Commit object pairs)
     × (home_of caller object ≡ Some caller.own) × (kept.reads object ≡ None)

@@ -1,10 +1,12 @@
 pub mod Callers
 pub mod Asks
+pub mod Deeds
 pub mod Appends
 pub mod Stops
 pub mod Reads
 pub mod Moves
 pub mod Objects
+pub mod Shapes
 pub mod Refusals
 pub mod Explains
 pub mod Columns

@@ -22,7 +22,7 @@ use Rattle.report_text.specs.declared.report.ClientReport.{ClientReport}
 use Rattle.report_text.specs.declared.report.ColumnReport.{ColumnReport}
 use Rattle.report_text.specs.declared.report.Report.{Report}
 use Rattle.lawful_run.specs.Callers.{Caller, caller_of, commands_of}
-use Rattle.lawful_run.specs.Asks.{AsksToAppend}
+use Rattle.lawful_run.specs.Deeds.{AsksToAppend}
 use Rattle.lawful_run.specs.Explains.{Explained, start, next}
 use Rattle.lawful_run.specs.Lawful.{LawfulRun}
 
@@ -71,6 +71,7 @@ pub data Told : Type 0 where
   -- others may complete it
   Perhaps : Told
 
+-- what each answer tells of its command's node
 abbrev pub told : Answer → Told
 told (answers.Stood stamp row points) = UnderAt stamp points
 told (answers.Ruled conflict stamp row points read_stamp raises syncs) = StoodAt points

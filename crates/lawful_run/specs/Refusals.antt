@@ -7,10 +7,15 @@ use Rattle.col_core.specs.Log.{Log}
 use Rattle.col_core.specs.Keeping.{Kept, with_made, with_row, with_read}
 use Rattle.script_text.specs.declared.script.What.{What}
 use Rattle.script_text.specs.declared.script.What.TheVariants as whats
+use Rattle.script_text.specs.declared.uses.ReadUse.TheVariants.{Takes, UsesUp}
+use Rattle.script_text.specs.declared.uses.Use.{Use}
+use Rattle.script_text.specs.declared.uses.Use.TheVariants.{OfObject}
+use Rattle.script_text.specs.Uses.{use_of}
 use Rattle.report_text.specs.declared.report.Answer.{Answer}
 use Rattle.report_text.specs.declared.report.Answer.TheVariants as answers
 use Rattle.lawful_run.specs.Callers.{Caller, node_of}
-use Rattle.lawful_run.specs.Asks.{AsksToAppend, colours_synced, Manner, Appending, Stopping, Syncing, Moving, Getting, Reading, Committing, Dequeuing, manner_of}
+use Rattle.lawful_run.specs.Asks.{Manner, Appending, Stopping, Syncing, Moving, Getting, Reading, Committing, Dequeuing}
+use Rattle.lawful_run.specs.Deeds.{AsksToAppend, colours_synced, manner_of}
 use Rattle.lawful_run.specs.Appends.{IsGoneForMemory}
 use Rattle.lawful_run.specs.Reads.{HidesSyncs, HidesRead, IsTrimmed, RefusesRead}
 use Rattle.lawful_run.specs.Moves.{OnlyGives, kept_after_giving, GivesAt, GivesTooLow, with_places}
@@ -68,37 +73,19 @@ abbrev pub IsHomeRefusal : Answer → Type 0
 IsHomeRefusal answer = (answer ≡ answers.NoMemory) ⊎ ((home : ℕ) × (answer ≡ answers.NotHome home))
 
 -- A read lets the object's earlier read go.
+abbrev pub before_by : Use → Kept → Kept
+before_by (OfObject object Takes) kept = with_read kept object None
+before_by _ kept = kept
+
+-- what the client keeps while the command is answered: a read lets an earlier one of its object go
 abbrev pub kept_before : What → Kept → Kept
-kept_before (whats.Append colours text) kept = kept
-kept_before (whats.Stop steps colours text) kept = kept
-kept_before (whats.Sync colour) kept = kept
-kept_before (whats.Scan colours) kept = kept
-kept_before (whats.Pull region colour) kept = kept
-kept_before (whats.Trim colour) kept = kept
-kept_before (whats.Put object key value) kept = kept
-kept_before (whats.Get object key) kept = kept
-kept_before (whats.Del object key) kept = kept
-kept_before (whats.PutAll object pairs) kept = kept
-kept_before (whats.GetAll object keys) kept = kept
-kept_before (whats.Read object keys) kept = with_read kept object None
-kept_before (whats.Commit object pairs) kept = kept
-kept_before (whats.Enq object value) kept = kept
-kept_before (whats.Deq object) kept = kept
+kept_before what kept = before_by (use_of what) kept
 
 -- A commit uses its read up, whatever it is answered.
+abbrev pub behind_by : Use → Kept → Kept
+behind_by (OfObject object UsesUp) kept = with_read kept object None
+behind_by _ kept = kept
+
+-- what it keeps behind the answer: a commit has used its read up
 abbrev pub kept_behind : What → Kept → Kept
-kept_behind (whats.Append colours text) kept = kept
-kept_behind (whats.Stop steps colours text) kept = kept
-kept_behind (whats.Sync colour) kept = kept
-kept_behind (whats.Scan colours) kept = kept
-kept_behind (whats.Pull region colour) kept = kept
-kept_behind (whats.Trim colour) kept = kept
-kept_behind (whats.Put object key value) kept = kept
-kept_behind (whats.Get object key) kept = kept
-kept_behind (whats.Del object key) kept = kept
-kept_behind (whats.PutAll object pairs) kept = kept
-kept_behind (whats.GetAll object keys) kept = kept
-kept_behind (whats.Read object keys) kept = kept
-kept_behind (whats.Commit object pairs) kept = with_read kept object None
-kept_behind (whats.Enq object value) kept = kept
-kept_behind (whats.Deq object) kept = kept
+kept_behind what kept = behind_by (use_of what) kept

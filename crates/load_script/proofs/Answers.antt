@@ -15,7 +15,8 @@ use Rattle.report_text.specs.declared.report.Answer.TheVariants as answers
 use Rattle.report_text.specs.declared.report.PointPiece.{PointPiece}
 use Rattle.report_text.specs.declared.report.ReplyLine.{ReplyLine}
 use Rattle.lawful_run.specs.Callers.{Caller, node_of}
-use Rattle.lawful_run.specs.Asks.{home_asked, AsksToAppend, colours_synced, Manner, Appending, Stopping, Syncing, Moving, Getting, Reading, Committing, Dequeuing, manner_of}
+use Rattle.lawful_run.specs.Asks.{home_asked, Manner, Appending, Stopping, Syncing, Moving, Getting, Reading, Committing, Dequeuing}
+use Rattle.lawful_run.specs.Deeds.{AsksToAppend, colours_synced, manner_of}
 use Rattle.lawful_run.specs.Appends.{Appends, HasNoStamp, IsFull}
 use Rattle.lawful_run.specs.Reads.{Syncs, ShowsPlayed, greatest_stamp}
 use Rattle.lawful_run.specs.Moves.{Pulls, kept_after_pull}
@@ -32,20 +33,9 @@ pub data Plain : What → Type 0 where
 
 pub plain : (what : What) → IsPlainWhat what → Plain what
 plain (whats.Append colours text) p = an_append colours text
-plain (whats.Stop steps colours text) p = absurd p
 plain (whats.Sync colour) p = a_sync colour
-plain (whats.Scan colours) p = absurd p
 plain (whats.Pull region colour) p = a_pull region colour
-plain (whats.Trim colour) p = absurd p
-plain (whats.Put object key value) p = absurd p
-plain (whats.Get object key) p = absurd p
-plain (whats.Del object key) p = absurd p
-plain (whats.PutAll object pairs) p = absurd p
-plain (whats.GetAll object keys) p = absurd p
-plain (whats.Read object keys) p = absurd p
-plain (whats.Commit object pairs) p = absurd p
-plain (whats.Enq object value) p = absurd p
-plain (whats.Deq object) p = absurd p
+plain _ p = absurd p
 
 -- what becomes of a client by such a command
 pub data Comes (log : Log) (caller : Caller) (kept : Kept) (what : What) (answer : Answer) (after : Kept) : Type 0 where
@@ -73,13 +63,9 @@ pub data Comes (log : Log) (caller : Caller) (kept : Kept) (what : What) (answer
 
 abbrev IsPlainManner : Manner → Type 0
 IsPlainManner Appending = Unit {0}
-IsPlainManner Stopping = ⊥
 IsPlainManner Syncing = Unit {0}
 IsPlainManner Moving = Unit {0}
-IsPlainManner Getting = ⊥
-IsPlainManner Reading = ⊥
-IsPlainManner Committing = ⊥
-IsPlainManner Dequeuing = ⊥
+IsPlainManner _ = ⊥
 
 plain_manner : (what : What) → Plain what → IsPlainManner (manner_of what)
 plain_manner _ (an_append colours text) = tt
@@ -128,12 +114,12 @@ module _ (log : Log) (caller : Caller) (kept : Kept) (what : What) (after : Kept
   comes q (answers.Based shown base) nodes n e = absurd (subst IsPlainWhat e.2 q)
   comes q (answers.Got value sync) nodes n e = absurd (subst IsPlainWhat e.3 q)
   comes q (answers.GotMany values sync) nodes n e = absurd (subst IsPlainWhat e.3 q)
-  comes q (answers.GotKeys stamp shown raises syncs) nodes n e = elim e.7 [
+  comes q (answers.GotKeys stamp shown raises syncs) nodes n e = let t = e.2 in elim t.5 [
     | inl g ↦ absurd (subst IsPlainWhat g.2 q)
     | inr g ↦ absurd (subst IsPlainWhat g.2 q)
   ]
   comes q (answers.Ruled conflict stamp row points read_stamp raises syncs) nodes n e =
-      absurd (other_manner Committing e.1)
+      absurd (other_manner Committing e.1.0)
   comes q answers.NoTx nodes n e = absurd (subst IsPlainWhat e.4 q)
   comes q (answers.Took value point sync) nodes n e = absurd (other_manner Dequeuing e.1)
   comes q (answers.UnreadTrimmed stamp colour base) nodes n e = elim e.1 [

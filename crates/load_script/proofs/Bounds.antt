@@ -38,6 +38,8 @@ use Rattle.load_script.proofs.Counts.{Distinct, few, pairs, in_pairs, length_pai
 use Rattle.load_script.proofs.Answers.{Comes, stood, without_stamp, full, synced, pulled, unchanged, answer_comes}
 use Rattle.load_script.proofs.Traces.{either, points_same}
 use Rattle.load_script.proofs.Stamps.{Given, Has, IsFine, client_shown, commands_plain, replies_unwanting, legal, fine, stamped, clock_stamped}
+use Rattle.col_core.proofs.CallerLemmas.{any_in}
+pub use Rattle.log_node.proofs.CallerLemmas.{get_map_back}
 
 -- IDS
 -- an event or a look leaves the ids and the rows
@@ -92,17 +94,6 @@ ids_few {log} {caller} (next {commands} {replies} {kept} {after} command reply e
     omega (arith, b, s, l)
 
 -- ENTRIES
-pub get_map_back : {A B : Type 0} (f : A → B) (xs : List A) (n : ℕ) (b : B) → slice_get (map f xs) n ≡ Some b
-    → (x : A) × (slice_get xs n ≡ Some x) × (f x ≡ b)
-get_map_back f [] n b e = absurd (let x : ⊥ = cc in x)
-get_map_back f (y ∷ ys) zero b e = (y, refl, let x : f y ≡ b = cc in x)
-get_map_back f (y ∷ ys) (suc n) b e = get_map_back f ys n b e
-
-any_in : {A : Type 0} (p : A → Bool) (xs : List A) (x : A) → In x xs → p x ≡ true → list_any p xs ≡ true
-any_in p [] x i t = absurd i
-any_in {A} p (y ∷ ys) x (inl e) t = or_left (p y) (list_any p ys) (subst (λ (z : A). p z ≡ true) (sym e) t)
-any_in p (y ∷ ys) x (inr i) t = or_right (p y) (list_any p ys) (any_in p ys x i t)
-
 in_taken : {A : Type 0} (xs : List A) (n m : ℕ) (x : A) → slice_get xs n ≡ Some x → n < m → In x (take m xs)
 in_taken [] n m x e lt = absurd (let f : ⊥ = cc in f)
 in_taken (y ∷ ys) n zero x e lt = absurd (let f : ⊥ = omega (arith, lt) in f)

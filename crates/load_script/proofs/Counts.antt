@@ -5,6 +5,10 @@ use Rattle.std.specs.List.{filter, range_with_len}
 use Rattle.std.proofs.lemmas.Bool.{eq-eqb, eqb-true, cases_lt, false_from_ne_true}
 use Rattle.std.proofs.lemmas.List.{length-map}
 use Rattle.col_core.proofs.CallerLemmas.{In, in_left, in_right, if_true, if_false}
+pub use Rattle.col_core.proofs.CallerLemmas.{range_has as in_range}
+pub use Rattle.col_core.proofs.CallerLemmas.{in_range as range_in}
+pub use Rattle.col_core.proofs.CallerLemmas.{in_map-back as in_map}
+pub use Rattle.col_core.proofs.CallerLemmas.{in_map as in_map_back}
 
 -- no element stands twice
 abbrev pub Distinct : {A : Type 0} → List A → Type 0
@@ -42,16 +46,6 @@ as_many xs ys d e sub back = let a = few xs ys d sub in let b = few ys xs e back
 pub pairs : {A B : Type 0} → List A → List B → List (A × B)
 pairs [] bs = []
 pairs (a ∷ rest) bs = map (λ b. (a, b)) bs ++ pairs rest bs
-
-pub in_map : {A B : Type 0} (f : A → B) (xs : List A) (x : A) → In x xs → In (f x) (map f xs)
-in_map f [] x i = absurd i
-in_map f (y ∷ ys) x (inl e) = inl (ap f e)
-in_map f (y ∷ ys) x (inr i) = inr (in_map f ys x i)
-
-pub in_map_back : {A B : Type 0} (f : A → B) (xs : List A) (b : B) → In b (map f xs) → (x : A) × In x xs × (f x ≡ b)
-in_map_back f [] b i = absurd i
-in_map_back f (y ∷ ys) b (inl e) = (y, inl refl, e)
-in_map_back f (y ∷ ys) b (inr i) = let r = in_map_back f ys b i in (r.0, inr r.1, r.2)
 
 pub in_pairs : {A B : Type 0} (rest : List A) (bs : List B) (a : A) (b : B) → In a rest → In b bs → In {A = A × B}
     (a, b) (pairs rest bs)
@@ -91,22 +85,6 @@ eight m = omega arith
 pub length_range : (a n : ℕ) → length (range_with_len a n) ≡ n
 length_range a zero = refl
 length_range a (suc n) = ap suc (length_range (a + 1) n)
-
-pub in_range : (a n x : ℕ) → a ≤ x → x < a + n → In x (range_with_len a n)
-in_range a zero x le lt = absurd (let f : ⊥ = omega (arith, le, lt) in f)
-in_range a (suc n) x le lt = elim (cases_lt a x) [
-  | inl l ↦ inr (in_range (a + 1) n x (omega (arith, l)) (omega (arith, lt)))
-  | inr g ↦ inl (omega (arith, le, g))
-]
-
-pub range_in : (a n x : ℕ) → In x (range_with_len a n) → (a ≤ x) × (x < a + n)
-range_in a zero x i = absurd i
-range_in a (suc n) x (inl e) = (omega (arith, e), omega (arith, e))
-range_in a (suc n) x (inr i) =
-    let r = range_in (a + 1) n x i in
-    let l = r.0 in
-    let u = r.1 in
-    (omega (arith, l), omega (arith, u))
 
 -- SUMS OVER CLIENTS
 -- the sum of a number for each client below this one

@@ -21,24 +21,9 @@ use Rattle.col_core.proofs.CallerLemmas as laws
 use Rattle.col_core.proofs.CallerLemmas.{In, in_append, in_left, in_right, in_reversed, in_slice, in_with, in_filter, in_line, choice, dated-is_dated, entries-of}
 use Rattle.load_script.proofs.Counts.{in_map_back}
 use Rattle.load_script.proofs.Traces.{of_greatest}
-
-pub in_flat_map : {A B : Type 0} (f : A → List B) (xs : List A) (b : B) → In b (flat_map f xs) → (x : A) × In x xs ×
-    In b (f x)
-in_flat_map f [] b i = absurd i
-in_flat_map {A} {B} f (y ∷ ys) b i = turn (in_flat_map f ys b) (in_append b (f y) (flat_map f ys) i) where
-  turn : (In b (flat_map f ys) → (x : A) × In x ys × In b (f x)) → In b (f y) ⊎ In b (flat_map f ys)
-      → (x : A) × ((y ≡ x) ⊎ In x ys) × In b (f x)
-  turn rest (inl h) = (y, inl refl, h)
-  turn rest (inr h) = let r = rest h in (r.0, inr r.1, r.2)
-
-pub to_flat_map : {A B : Type 0} (f : A → List B) (xs : List A) (x : A) (b : B) → In x xs → In b (f x) → In b
-    (flat_map f xs)
-to_flat_map f [] x b i j = absurd i
-to_flat_map {A} {B} f (y ∷ ys) x b (inl e) j = in_left b (f y) (flat_map f ys) (subst (λ (z : A). In b (f z)) (sym e) j)
-to_flat_map f (y ∷ ys) x b (inr i) j = in_right b (f y) (flat_map f ys) (to_flat_map f ys x b i j)
-
-pub in_take : {A : Type 0} (n : ℕ) (xs : List A) (x : A) → In x (take n xs) → In x xs
-in_take {A} n xs x i = subst (λ (l : List A). In x l) (take-append-drop n xs) (in_left x (take n xs) (drop n xs) i)
+pub use Rattle.col_core.proofs.CallerLemmas.{in_take}
+pub use Rattle.col_core.proofs.CallerLemmas.{in_flat_map}
+pub use Rattle.col_core.proofs.CallerLemmas.{in_flat_map-back as to_flat_map}
 
 module _ (F : ℕ → Type 0) where
   stamp_next : (es : List Standing) (ev : Event) (stamp : ℕ) → F (event_number ev stamp)

@@ -40,12 +40,7 @@ use Rattle.load_script.proofs.Heads.{in_flat_map}
 use Rattle.load_script.proofs.Stamps.{client_shown, commands_plain, replies_unwanting, home_within, row_owner}
 use Rattle.load_script.proofs.Bounds.{IsLoadSized, get_map_back}
 use Rattle.load_script.proofs.Follows.{tells, all_follow}
-
-pub get_map : {A B : Type 0} (f : A → B) (xs : List A) (n : ℕ) (x : A) → slice_get xs n ≡ Some x → slice_get
-    (map f xs) n ≡ Some (f x)
-get_map f [] n x e = absurd (let y : ⊥ = cc in y)
-get_map {A} {B} f (y ∷ ys) zero x e = let s : y ≡ x = cc in ap (λ (z : A). Some (f z)) s
-get_map f (y ∷ ys) (suc n) x e = get_map f ys n x e
+pub use Rattle.log_node.proofs.CallerLemmas.{get_map}
 
 within_there : {A : Type 0} (xs : List A) (k : ℕ) (x : A) → slice_get xs k ≡ Some x → k < length xs
 within_there [] k x e = absurd (let f : ⊥ = cc in f)

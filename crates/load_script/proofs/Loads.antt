@@ -31,10 +31,7 @@ use Rattle.load_script.proofs.Heads.{in_flat_map}
 use Rattle.load_script.proofs.Sums.{filter-append, map_same, map_twice, none_pass, index_range}
 use Rattle.load_script.proofs.Follows.{tells}
 use Rattle.load_script.proofs.Lengths.{get_map, client_follows, line_length, nodes_are, rows_are}
-
-all_of : {X : Type 0} (P : X → Type 0) (xs : List X) → ((x : X) → In x xs → P x) → All P xs
-all_of P [] f = All-nil P
-all_of P (x ∷ xs) f = All-cons P x xs (f x (inl refl)) (all_of P xs (λ y i. f y (inr i)))
+use Rattle.col_core.proofs.CallerLemmas.{all_in as all_of}
 
 below_four : (xs : List ℕ) → list_all (λ c. nat_lt c 4) xs ≡ true → (c : ℕ) → In c xs → c < 4
 below_four [] t c i = absurd i

@@ -41,16 +41,12 @@ use Rattle.load_script.specs.Plain.{IsPlainWhat, IsPlain, IsUnwanting, wants_mem
 use Rattle.load_script.proofs.Counts.{in_map, in_map_back, in_range}
 use Rattle.load_script.proofs.Traces.{MadeBy, Trace, Holds, trace, of_greatest}
 use Rattle.load_script.proofs.Heads.{to_flat_map, in_take, chain_stamps, clock_is}
+pub use Rattle.log_node.proofs.CallerLemmas.{get_within as get_there}
 
 every : {A : Type 0} (p : A → Bool) (xs : List A) → list_all p xs ≡ true → (x : A) → In x xs → p x ≡ true
 every p [] t x i = absurd i
 every {A} p (y ∷ ys) t x (inl e) = subst (λ (z : A). p z ≡ true) e (and_parts (p y) (list_all p ys) t).0
 every p (y ∷ ys) t x (inr i) = every p ys (and_parts (p y) (list_all p ys) t).1 x i
-
-pub get_there : {A : Type 0} (xs : List A) (n : ℕ) → n < length xs → (x : A) × (slice_get xs n ≡ Some x)
-get_there [] n lt = absurd (let f : ⊥ = omega (arith, lt) in f)
-get_there (x ∷ xs) zero lt = (x, refl)
-get_there (x ∷ xs) (suc n) lt = get_there xs n (omega (arith, lt))
 
 -- the places of a client's own events have them
 places_there : (client : ℕ) (h : List Entry) (p n : ℕ) (e : Entry) → slice_get h n ≡ Some e

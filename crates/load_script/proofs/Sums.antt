@@ -4,6 +4,7 @@ use Rattle.std.specs.Prelude.{slice_index}
 use Rattle.std.specs.List.{filter, flat_map, range_with_len}
 use Rattle.col_core.proofs.CallerLemmas.{In}
 use Rattle.load_script.proofs.Counts.{total}
+pub use Rattle.log_node.proofs.CallerLemmas.{get_range}
 
 pub filter-append : {X : Type 0} (q : X → Bool) (xs ys : List X) → filter q (xs ++ ys) ≡ filter q xs ++ filter q ys
 filter-append q [] ys = refl
@@ -64,11 +65,6 @@ none_pass p [] none = refl
 none_pass {X} p (x ∷ xs) none =
     ap (λ (b : Bool). length (cond b (x ∷ filter p xs) (filter p xs))) (none x (inl refl))
     ∙ none_pass p xs (λ y i. none y (inr i))
-
-pub get_range : (a m n x : ℕ) → slice_get (range_with_len a m) n ≡ Some x → x ≡ a + n
-get_range a zero n x e = absurd (let f : ⊥ = cc in f)
-get_range a (suc m) zero x e = let f : a ≡ x = cc in omega (arith, f)
-get_range a (suc m) (suc n) x e = let f = get_range (a + 1) m n x e in omega (arith, f)
 
 pub index_range : (f : ℕ → ℕ) (a m n : ℕ) → n < m → slice_index (map f (range_with_len a m)) n ≡ f (a + n)
 index_range f a zero n lt = absurd (let x : ⊥ = omega (arith, lt) in x)

@@ -15,20 +15,9 @@ use Rattle.lawful_run.specs.Callers.{commands_of}
 -- an append, a sync or a pull
 abbrev pub IsPlainWhat : What → Type 0
 IsPlainWhat (whats.Append colours text) = Unit {0}
-IsPlainWhat (whats.Stop steps colours text) = ⊥
 IsPlainWhat (whats.Sync colour) = Unit {0}
-IsPlainWhat (whats.Scan colours) = ⊥
 IsPlainWhat (whats.Pull region colour) = Unit {0}
-IsPlainWhat (whats.Trim colour) = ⊥
-IsPlainWhat (whats.Put object key value) = ⊥
-IsPlainWhat (whats.Get object key) = ⊥
-IsPlainWhat (whats.Del object key) = ⊥
-IsPlainWhat (whats.PutAll object pairs) = ⊥
-IsPlainWhat (whats.GetAll object keys) = ⊥
-IsPlainWhat (whats.Read object keys) = ⊥
-IsPlainWhat (whats.Commit object pairs) = ⊥
-IsPlainWhat (whats.Enq object value) = ⊥
-IsPlainWhat (whats.Deq object) = ⊥
+IsPlainWhat _ = ⊥
 
 -- The script only appends, syncs and pulls, and no client has more commands than rows.
 pub record IsPlain (script : Script) : Type 0 where

@@ -18,20 +18,7 @@ use Rattle.load_script.specs.Generated.{home_of, rounds_of}
 -- the colours to which a command appends a node, where it is a plain append
 abbrev pub appended : What → Option Colours
 appended (whats.Append colours text) = Some colours
-appended (whats.Stop steps colours text) = None
-appended (whats.Sync colour) = None
-appended (whats.Scan colours) = None
-appended (whats.Pull region colour) = None
-appended (whats.Trim colour) = None
-appended (whats.Put object key value) = None
-appended (whats.Get object key) = None
-appended (whats.Del object key) = None
-appended (whats.PutAll object pairs) = None
-appended (whats.GetAll object keys) = None
-appended (whats.Read object keys) = None
-appended (whats.Commit object pairs) = None
-appended (whats.Enq object value) = None
-appended (whats.Deq object) = None
+appended _ = None
 
 -- a node is appended
 abbrev pub is_node : Option Colours → Bool

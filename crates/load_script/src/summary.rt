@@ -24,20 +24,7 @@ fn appended(what: &What) -> Option<Colours>
 {
     match what {
         What::Append { colours, .. } => Some(*colours),
-        What::Stop { .. }
-        | What::Sync { .. }
-        | What::Scan { .. }
-        | What::Pull { .. }
-        | What::Trim { .. }
-        | What::Put { .. }
-        | What::Get { .. }
-        | What::Del { .. }
-        | What::PutAll { .. }
-        | What::GetAll { .. }
-        | What::Read { .. }
-        | What::Commit { .. }
-        | What::Enq { .. }
-        | What::Deq { .. } => None,
+        _ => None,
     }
 }
 

@@ -311,6 +311,7 @@ module _ (s : Store) (c : Client) (r : Region) (g : Hold) (k : ℕ) (colours : C
       same = (refl, refl);
       goes = have_gone_on s c after r g h is changed;
       grows = grown_same c after refl;
+      plays = refl;
       finished = λ finished. inl (finished_stays s c after r g h is changed refl finished);
       idle = λ stops. absurd (stops refl);
       answer = (
@@ -347,6 +348,7 @@ module _ (s : Store) (c : Client) (r : Region) (g : Hold) (k : ℕ) (colours : C
       same = (refl, refl);
       goes = look_goes s c r g h k is there hold now but same sees;
       grows = grown_same c left refl;
+      plays = refl;
       finished = λ finished. inl (look_finished s c r g h k is there hold now but same sees finished);
       idle = λ stops. absurd (stops refl);
       answer = why;

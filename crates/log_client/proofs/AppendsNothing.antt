@@ -47,6 +47,7 @@ module _ (s : Store) (c : Client) (colours : Colours) (text : List ℕ) (stop : 
     same = (refl, refl);
     goes = goes_same_holds (holds_of c);
     grows = grown_same c c refl;
+    plays = refl;
     finished = λ finished. inl finished;
     idle = λ stops helps. helps;
     answer = why;

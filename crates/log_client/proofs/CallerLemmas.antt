@@ -11,9 +11,9 @@ pub use Rattle.log_client.proofs.ReadLater.{behind_all, read_above}
 pub use Rattle.log_client.proofs.Explaining.{rests_same, rests_then}
 pub use Rattle.log_client.proofs.PlayedStamps.{stamps_played}
 pub use Rattle.log_client.proofs.ObjectNodes.{line_counted, line_first, first_are_own, snapshot_is_own}
-pub use Rattle.log_client.proofs.ObjectFolds.{folds_none, folds_on, follows_later, folds_more, folds_stay}
+pub use Rattle.log_client.proofs.ObjectFolds.{folds_none, folds_on, follows_later}
 pub use Rattle.log_client.proofs.ObjectCalls.{explained_less, explained_then, first_position, one_known, one_started, tracks_long}
-pub use Rattle.log_client.proofs.ObjectCalls.{rests_synced, sync_hidden, sync_leaves, at_one, append_unshown, stands_behind, unread_leaves}
+pub use Rattle.log_client.proofs.ObjectCalls.{rests_synced, sync_hidden, untold_hidden, none_hidden, nothing_hidden, at_one, append_unshown, stands_behind, unread_leaves, unfolded_leaves}
 pub use Rattle.log_client.proofs.ObjectAppends.{append_left, append_stood, put_refused}
 pub use Rattle.log_client.proofs.ObjectShards.{shard_in, shard_low}
 pub use Rattle.log_client.proofs.ColourSets.{listed_of_store, one_of_store, shard_rising, shards_of_store}
@@ -22,3 +22,4 @@ pub use Rattle.log_client.proofs.ObjectReads.{reads_later, all_appended, all_exp
 pub use Rattle.log_client.proofs.ObjectPlaces.{IsPlacedIn, PlayedIn, played_in, stood_there}
 pub use Rattle.log_client.proofs.PlayedOrders.{of_region, counted_more}
 pub use Rattle.log_client.proofs.PlayedPlaces.{zip_at, zip_long}
+pub use Rattle.log_client.proofs.SyncAnswers.{answer_from, answers_from}

@@ -17,6 +17,8 @@ use Rattle.log_client.specs.Appends.{AreColoursOf}
 use Rattle.log_client.specs.Clients.{IsClient, tracks_of}
 use Rattle.log_client.specs.Objects.{AreColours}
 use Rattle.log_client.proofs.ObjectShards.{shard_in}
+use Rattle.col_core.proofs.CallerLemmas.{range_has as in_range}
+use Rattle.col_core.proofs.CallerLemmas.{any_in as passed}
 
 -- TESTS OF LISTS
 
@@ -31,21 +33,6 @@ passes test (x ∷ xs) e = turn (or_cases (test x) (list_any test xs) e) (λ r. 
       → (list_any test xs ≡ true → (y : _) × In y xs × (test y ≡ true)) → (y : _) × In y (x ∷ xs) × (test y ≡ true)
   turn (inl t) rest = (x, inl refl, t)
   turn (inr t) rest = let r = rest t in (r.0, inr r.1, r.2)
-
-passed : {A : Type 0} (test : A → Bool) (xs : List A) (x : A) → In x xs → test x ≡ true → list_any test xs ≡ true
-passed test [] x i t = absurd i
-passed test (y ∷ xs) x (inl e) t = ap (λ (b : Bool). b || list_any test xs) (ap test e ∙ t)
-passed test (y ∷ xs) x (inr i) t = ap (λ (b : Bool). test y || b) (passed test xs x i t) ∙ or_true (test y)
-
-in_range : (a n c : ℕ) → a ≤ c → c < a + n → In c (range_with_len a n)
-in_range a zero c le lt = absurd (let f : ⊥ = omega (arith, le, lt) in f)
-in_range a (suc n) c le lt = elim (cases_eq c a) [
-  | inl e ↦ inl (sym e)
-  | inr ne ↦ inr (in_range (a + 1) n c (above (cases_lt a c) ne) (omega (arith, lt)))
-] where
-  above : (a < c) ⊎ (c ≤ a) → c ≢ a → a + 1 ≤ c
-  above (inl less) ne = omega (arith, less)
-  above (inr more) ne = absurd (ne (omega (arith, le, more)))
 
 in_some : (xs : List ℕ) (x : ℕ) → In x xs → 0 < length xs
 in_some [] x i = absurd i

@@ -24,12 +24,7 @@ use Rattle.client_law.specs.Making.{made_of, own_steps}
 use Rattle.client_law.proofs.CallerLemmas.{steps_among_made}
 use Rattle.log_client.specs.Fits.{HasRow}
 use Rattle.log_client.proofs.Lists.{got, mapped, prefix_by, same_items, unmapped}
-
--- the first numbers, by place
-range_is : (a n i x : ℕ) → slice_get (range_with_len a n) i ≡ Some x → x ≡ a + i
-range_is a zero i x at = absurd (let f : ⊥ = cc in f)
-range_is a (suc n) zero x at = let same : a ≡ x = cc in omega (arith, same)
-range_is a (suc n) (suc i) x at = let e = range_is (a + 1) n i x at in omega (arith, e)
+use Rattle.log_node.proofs.CallerLemmas.{get_range as range_is}
 
 -- a beginning that is as long is the whole
 module _ {A : Type 0} where

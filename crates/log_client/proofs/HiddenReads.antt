@@ -23,6 +23,7 @@ use Rattle.lawful_run.proofs.CallerLemmas.{prefix_take, syncs_later}
 use Rattle.client_law.proofs.CallerLemmas.{at_new_at}
 use Rattle.log_client.specs.Reading.{Playing, AreSyncs, kept_raised, kept_synced, syncs_of, synced_colours}
 use Rattle.log_client.specs.StampedReads.{sync_piece}
+pub use Rattle.col_core.proofs.CallerLemmas.{all_in as all_from}
 
 -- WHAT RAISES MADE
 
@@ -188,10 +189,6 @@ place_in colour (raise ∷ raises) place i =
     (λ f. later_raise colour place raise raises (place_in colour raises place
     (subst (In place) (if_false (colour == raise.colour) (place_of raise.at ++ events_at colour raises)
     (events_at colour raises) f) i)))
-
-pub all_from : {A : Type 0} (P : A → Type 0) (xs : List A) → ((x : A) → In x xs → P x) → All P xs
-all_from P [] each = All-nil P
-all_from P (x ∷ xs) each = All-cons P x xs (each x (inl refl)) (all_from P xs (λ y i. each y (inr i)))
 
 -- the events of raises, as those of a read of which no answer tells
 pub hidden_raises : (log : Log) (caller : Caller) (stamp : ℕ) (kept after : Kept) (raises : List RaisePiece)

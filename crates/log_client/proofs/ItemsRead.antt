@@ -17,13 +17,16 @@ use Rattle.col_core.proofs.CallerLemmas.{In, choice, contains_in, entries_dated,
 use Rattle.playback.specs.Merging.{AreRising, merged, region_order, up_to}
 use Rattle.playback.proofs.CallerLemmas.{order_is_merged}
 use Rattle.object_fold.specs.Nodes.{object_node}
+use Rattle.object_fold.specs.Folds.{is_behind}
 use Rattle.lawful_run.specs.Reads.{ShowsKey}
 use Rattle.lawful_run.specs.Objects.{AreObjectNodes, IsObjectNode}
 use Rattle.log_client.specs.declared.track.Track.{Track}
 use Rattle.log_client.specs.Clients.{line_in}
 use Rattle.log_client.specs.Reading.{keys_of}
 use Rattle.log_client.specs.Items.{part_of, are_parts, AreItems}
-use Rattle.log_client.specs.StampedReads.{is_behind, IsAppended, ShowsItem}
+use Rattle.log_client.specs.StampedReads.{IsAppended, ShowsItem}
+pub use Rattle.col_core.proofs.CallerLemmas.{in_map-back as made_from}
+pub use Rattle.col_core.proofs.CallerLemmas.{in_map as made_of}
 
 -- RISING LISTS
 
@@ -129,17 +132,6 @@ merged_parts tracks last stamp (k ∷ colours) keys =
     (part_keys last stamp (line_in (slice_get tracks k)))
     ∙ merged_parts tracks last stamp colours
     (merged keys (up_to stamp (filter (is_behind last) (keys_of (line_in (slice_get tracks k))))))
-
--- an item of a list that a function makes of others
-pub made_of : {A B : Type 0} (f : A → B) (xs : List A) (y : B) → In y (map f xs) → (x : A) × In x xs × (f x ≡ y)
-made_of f [] y i = absurd i
-made_of f (x ∷ xs) y (inl e) = (x, inl refl, e)
-made_of f (x ∷ xs) y (inr i) = let r = made_of f xs y i in (r.0, inr r.1, r.2)
-
-pub made_from : {A B : Type 0} (f : A → B) (xs : List A) (x : A) → In x xs → In (f x) (map f xs)
-made_from f [] x i = absurd i
-made_from f (z ∷ xs) x (inl e) = inl (ap f e)
-made_from f (z ∷ xs) x (inr i) = inr (made_from f xs x i)
 
 -- nodes as they were appended, with their keys
 pub shown : (log : Log) (xs : List PlacedNode) → ((i : PlacedNode) → In i xs → IsAppended log i)

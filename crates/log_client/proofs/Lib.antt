@@ -59,6 +59,7 @@ mod Raising
 mod ClearedHolds
 mod ReadStamps
 mod SyncingAll
+mod SyncAnswers
 mod PlayedStamps
 mod ClearedReads
 mod ReadReplies

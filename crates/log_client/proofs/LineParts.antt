@@ -8,10 +8,10 @@ use Rattle.log_node.specs.declared.ids.Key.{Key}
 use Rattle.log_node.specs.Order.{key_below}
 use Rattle.log_node.specs.Seen.{PlacedNode}
 use Rattle.log_node.proofs.CallerLemmas.{key-trans}
+use Rattle.object_fold.specs.Folds.{is_behind}
 use Rattle.col_core.proofs.CallerLemmas.{by_test, if_false, if_true, key-stamps}
 use Rattle.playback.specs.Merging.{AreRising}
 use Rattle.log_client.specs.Reading.{keys_of}
-use Rattle.log_client.specs.StampedReads.{is_behind}
 
 -- the key of a node at a place
 key_at : (xs : List PlacedNode) (i : ℕ) (d : PlacedNode) → i < length xs

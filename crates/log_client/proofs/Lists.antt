@@ -5,6 +5,8 @@ use Rattle.std.specs.List.{AllPairs, filter}
 use Rattle.std.proofs.lemmas.Bool.{cases_order}
 use Rattle.std.proofs.lemmas.Option.{same_Some, slice_get_within}
 use mathlib.Core.List.{IsPrefix}
+pub use Rattle.log_node.proofs.CallerLemmas.{get_map_back as unmapped}
+pub use Rattle.log_node.proofs.CallerLemmas.{get_map as mapped}
 
 module _ {A : Type 0} where
   -- an item that is there
@@ -154,16 +156,3 @@ apart_lengths (x ∷ xs) [] n y many none there = absurd (let f : ⊥ = omega (a
 apart_lengths (x ∷ xs) (z ∷ ys) zero y many none there = absurd (let f : ⊥ = cc in f)
 apart_lengths (x ∷ xs) (z ∷ ys) (suc n) y many none there =
     apart_lengths xs ys n y (let e : length ys ≡ length xs = omega (arith, many) in e) none there
-
--- items of a mapped list
-pub mapped : {A B : Type 0} (f : A → B) (xs : List A) (n : ℕ) (x : A) → slice_get xs n ≡ Some x
-    → slice_get (map f xs) n ≡ Some (f x)
-mapped f [] n x e = absurd (let g : ⊥ = cc in g)
-mapped {A} {B} f (y ∷ xs) zero x e = let same : y ≡ x = cc in ap (λ (z : A). Some (f z)) same
-mapped f (y ∷ xs) (suc n) x e = mapped f xs n x e
-
-pub unmapped : {A B : Type 0} (f : A → B) (xs : List A) (n : ℕ) (y : B) → slice_get (map f xs) n ≡ Some y
-    → (x : A) × (slice_get xs n ≡ Some x) × (f x ≡ y)
-unmapped f [] n y e = absurd (let g : ⊥ = cc in g)
-unmapped f (x ∷ xs) zero y e = (x, refl, cc (e))
-unmapped f (x ∷ xs) (suc n) y e = unmapped f xs n y e

@@ -36,10 +36,10 @@ use Rattle.log_client.specs.declared.faults.SyncFault.TheVariants as sync_faults
 use Rattle.log_client.specs.Fits.{Fits, HaveGoneOn}
 use Rattle.log_client.specs.Growing.{HasGrown}
 use Rattle.log_client.specs.Clients.{holds_of, seen_of, starts_of, tracks_of, caller_of, IsClient, Keeps, Finished}
-use Rattle.log_client.specs.Calls.{IsExplained, IsSame, SyncsAs, SyncRefused, nodes_played}
+use Rattle.log_client.specs.Calls.{DidNothing, IsExplained, IsSame, SyncsAs, SyncRefused, nodes_played}
 use Rattle.log_client.specs.Appends.{AppendsAs, piece_of}
 use Rattle.log_client.specs.Reading.{RestsOn}
-use Rattle.log_client.specs.Objects.{HidesOne, SyncLeaves, StandsThen, StandsIn, UnreadLeaves}
+use Rattle.log_client.specs.Objects.{HidesOne, SyncsUntold, StandsThen, StandsIn, UnreadLeaves}
 use Rattle.log_client.proofs.Explaining.{log_then}
 use Rattle.log_client.proofs.Fitting.{fits_less}
 use Rattle.log_client.proofs.GoingOn.{same_caller}
@@ -181,23 +181,19 @@ sync_hidden s c d colour y e objects kept finished keeps =
       λ rest fits. hidden_sync (log_of (seen_of d) rest) (caller_of s d objects) kept r.0 d colour y (r.2 rest fits),
     )
 
--- a sync that was refused
-none_hidden : (colour : ℕ) (log : Log) (caller : Caller) (kept after : Kept) → after ≡ kept
+pub untold_hidden : (s : Store) (c d : Client) (colour : ℕ) → SyncsUntold s c d colour → IsExplained s c d (HidesOne colour)
+untold_hidden s c d colour u = sync_hidden s c d colour u.0 u.2
+
+-- where nothing was done
+pub none_hidden : (colour : ℕ) (log : Log) (caller : Caller) (kept after : Kept) → after ≡ kept
     → HidesOne colour log caller kept after
 none_hidden colour log caller kept after same =
     subst (λ (k : Kept). HidesOne colour log caller kept k) (sym same) (hides_none log caller kept (colour ∷ []))
 
-pub sync_leaves : (s : Store) (c d : Client) (colour : ℕ) (fault : SyncFault) → SyncRefused s c d colour fault
-    → SyncLeaves s c d colour fault
-sync_leaves s c d colour (sync_faults.Trimmed shown base) why = (
-  why.0,
-  explained_less s c d (λ log caller kept after. IsTrimmed log caller kept colour base × (after ≡ kept))
-      (λ log caller kept after. IsTrimmed log caller kept colour base × HidesOne colour log caller kept after)
-      (λ log caller kept after r. (r.0, none_hidden colour log caller kept after r.1)) why.1,
-)
-sync_leaves s c d colour sync_faults.NoMemory why =
+pub nothing_hidden : (s : Store) (c d : Client) (colour : ℕ) → DidNothing s c d → IsExplained s c d (HidesOne colour)
+nothing_hidden s c d colour nothing =
     explained_less s c d (λ log caller kept after. after ≡ kept) (HidesOne colour)
-    (λ log caller kept after same. none_hidden colour log caller kept after same) why
+    (λ log caller kept after same. none_hidden colour log caller kept after same) nothing
 
 -- APPENDS TO ONE COLOUR
 
@@ -369,30 +365,32 @@ stands_behind s c m set text a colour p objects kept rest is on one points e fin
 
 -- AN APPEND AND WHAT IS REFUSED BEHIND IT
 
-pub unread_leaves : (s : Store) (c m d : Client) (colour : ℕ) (text : List ℕ) (a : Appended) (fault : SyncFault)
-    → RestsOn s c m → RestsOn s m d → StandsIn s c m (colour ∷ []) text a → SyncLeaves s m d colour fault
-    → UnreadLeaves s c d colour text a.stood.key.stamp fault
-unread_leaves s c m d colour text a (sync_faults.Trimmed shown base) x y stands why = (
-  why.0,
-  stands.set,
-  stands.members_are,
-  explained_then s c m d
+module _ (s : Store) (c m d : Client) (colour : ℕ) (text : List ℕ) (a : Appended) (x : RestsOn s c m) (y : RestsOn s m d)
+    (stands : StandsIn s c m (colour ∷ []) text a) where
+  then_explained : (Then : Log → Caller → Kept → Kept → Type 0) → IsExplained s m d Then
+      → IsExplained s c d (StandsThen stands.set text a.stood.key.stamp Then)
+  then_explained Then why = explained_then s c m d
       (λ log caller kept after. AppendsUnshown log caller kept (node_of caller kept stands.set text) a.stood.key.stamp after)
-      (λ log caller stood after. IsTrimmed log caller stood colour base × HidesOne colour log caller stood after) x y
+      Then x y
       (λ old new caller kept after later. unshown_later old new later caller kept (node_of caller kept stands.set text)
       a.stood.key.stamp after)
-      (append_unshown s c m stands.set text a colour stands.members_are stands.explained) why.1,
-)
-unread_leaves s c m d colour text a sync_faults.NoMemory x y stands why = (
-  stands.set,
-  stands.members_are,
-  explained_then s c m d
-      (λ log caller kept after. AppendsUnshown log caller kept (node_of caller kept stands.set text) a.stood.key.stamp after)
-      (HidesOne colour) x y
-      (λ old new caller kept after later. unshown_later old new later caller kept (node_of caller kept stands.set text)
-      a.stood.key.stamp after)
-      (append_unshown s c m stands.set text a colour stands.members_are stands.explained) why,
-)
+      (append_unshown s c m stands.set text a colour stands.members_are stands.explained) why
+
+  -- memory was refused to the sync, or behind it
+  pub unfolded_leaves : IsExplained s m d (HidesOne colour)
+      → UnreadLeaves s c d colour text a.stood.key.stamp sync_faults.NoMemory
+  unfolded_leaves why = (stands.set, stands.members_are, then_explained (HidesOne colour) why)
+
+  -- the sync was refused
+  pub unread_leaves : (fault : SyncFault) → SyncRefused s m d colour fault
+      → UnreadLeaves s c d colour text a.stood.key.stamp fault
+  unread_leaves (sync_faults.Trimmed shown base) why = (
+    why.0,
+    stands.set,
+    stands.members_are,
+    then_explained (λ log caller stood after. IsTrimmed log caller stood colour base × (after ≡ stood)) why.1,
+  )
+  unread_leaves sync_faults.NoMemory why = unfolded_leaves (nothing_hidden s m d colour why)
 
 -- A sync's snapshot is where its colour starts.
 pub one_started : (kept : Kept) (own colour events : ℕ) (counts : Counts) (stamp : ℕ) (after : Kept)

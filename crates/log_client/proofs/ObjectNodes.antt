@@ -10,7 +10,7 @@ use Rattle.log_node.specs.Seen.{PlacedNode}
 use Rattle.log_node.specs.Vectors.{at}
 use Rattle.log_node.specs.Reach.{Reachable}
 use Rattle.log_node.proofs.CallerLemmas.{reached_within}
-use Rattle.object_fold.specs.Nodes.{ObjectNode, object_node}
+use Rattle.object_fold.specs.Nodes.{ObjectNode, object_node, object_nodes}
 use Rattle.col_core.specs.declared.Entry.{Entry}
 use Rattle.col_core.specs.History.{line}
 use Rattle.col_core.specs.Cuts.{chain}
@@ -32,7 +32,6 @@ use Rattle.log_client.specs.declared.track.Track.{Track}
 use Rattle.log_client.specs.Fits.{Fits}
 use Rattle.log_client.specs.Clients.{holds_of, seen_of, tracks_of, starts_of, line_of, counts_in, line_in, caller_of, IsClient, IsTrack}
 use Rattle.log_client.specs.Reading.{keys_of}
-use Rattle.log_client.specs.Objects.{object_nodes}
 use Rattle.log_client.proofs.Lists.{got}
 use Rattle.log_client.proofs.Seeing.{seen_there, are_lawful}
 use Rattle.log_client.proofs.Fitting.{listed}

@@ -7,7 +7,8 @@ use Rattle.log_node.specs.declared.ids.Key.{Key}
 use Rattle.log_node.specs.Order.{key_below}
 use Rattle.log_node.specs.Seen.{PlacedNode}
 use Rattle.log_node.proofs.CallerLemmas.{key-irrefl}
-use Rattle.object_fold.specs.Nodes.{ObjectNode, object_node}
+use Rattle.object_fold.specs.Nodes.{ObjectNode, object_node, object_nodes}
+use Rattle.object_fold.specs.Folds.{is_behind, last_after}
 use Rattle.col_core.specs.Log.{Log}
 use Rattle.col_core.specs.Keeping.{Kept}
 use Rattle.col_core.proofs.CallerLemmas.{In, in_append, in_filter, in_filter-back, in_left, in_right}
@@ -22,8 +23,8 @@ use Rattle.log_client.specs.Fits.{Fits}
 use Rattle.log_client.specs.Clients.{holds_of, seen_of, caller_of}
 use Rattle.log_client.specs.Calls.{IsExplained}
 use Rattle.log_client.specs.Reading.{RestsOn, keys_of}
-use Rattle.log_client.specs.StampedReads.{HasRead, IsAboveSeen, ReadsAs, ReadsOn, ReadsGoOn, ShowsItem, GoOnFrom, is_behind, last_of}
-use Rattle.log_client.specs.Objects.{FoldsRead, KeepsRead, last_after, object_nodes}
+use Rattle.log_client.specs.StampedReads.{HasRead, IsAboveSeen, ReadsAs, ReadsOn, ReadsGoOn, ShowsItem, GoOnFrom, last_of}
+use Rattle.log_client.specs.Objects.{FoldsRead, KeepsRead}
 use Rattle.log_client.proofs.Fitting.{fits_less}
 use Rattle.log_client.proofs.ItemsRead.{items_are_objects, rising_cons, rising_filter, rising_head, rising_same, rising_tail}
 use Rattle.log_client.proofs.ReadLater.{behind_all, behind_last, read_above}

@@ -12,12 +12,10 @@ use Rattle.log_node.specs.Reach.{Chains, Reachable}
 use Rattle.log_node.proofs.CallerLemmas.{reached_within}
 use Rattle.col_core.specs.PlayOrder.{Place, Stands, same_place, is_between, IsPlayOrder}
 use Rattle.col_core.proofs.CallerLemmas.{by_test, same_place-is, same_place-itself}
+use Rattle.log_node.proofs.CallerLemmas.{one_if}
+use Rattle.log_node.proofs.CallerLemmas.{count_by-cons as counted}
 
 -- COUNTS
-
-counted : {A : Type 0} (test : A → Bool) (y : A) (ys : List A)
-    → count_by test (y ∷ ys) ≡ cond (test y) 1 0 + count_by test ys
-counted test y ys = sum_by-cons (λ x. cond (test x) 1 0) y ys
 
 passed : {A : Type 0} (test : A → Bool) (y : A) (ys : List A) (x : A) → y ≡ x → test x ≡ true
     → count_by test (y ∷ ys) ≡ 1 + count_by test ys
@@ -68,10 +66,6 @@ counted_more test (y ∷ ys) (suc j) x e =
     let all : count_by test (y ∷ take (suc j) ys) ≡ count_by test (y ∷ take j ys) + cond (test x) 1 0 =
     omega (arith, a, b, r) in
     all
-
-one_if : (b : Bool) → 0 < cond b 1 0 → b ≡ true
-one_if true h = refl
-one_if false h = absurd (let f : ⊥ = omega (arith, h) in f)
 
 at_most : (b : Bool) → cond b 1 0 ≤ 1
 at_most true = omega arith

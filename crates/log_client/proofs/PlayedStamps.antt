@@ -17,12 +17,12 @@ use Rattle.col_core.specs.PlayOrder.{Place, same_place, is_between, nodes_betwee
 use Rattle.col_core.proofs.CallerLemmas.{by_test, In, in_append, in_left, in_right, same_place-is, same_place-itself}
 use Rattle.lawful_run.specs.Callers.{Caller}
 use Rattle.lawful_run.specs.Reads.{ShowsNode, ShowsPlayed, greatest_stamp, played_stamp}
+use Rattle.log_node.proofs.CallerLemmas.{one_if}
+use Rattle.log_node.proofs.CallerLemmas.{count_by-cons as counted}
+use Rattle.col_core.proofs.CallerLemmas.{in_flat_map-back as into_flat}
+use Rattle.col_core.proofs.CallerLemmas.{in_flat_map as from_flat}
 
 -- LISTS
-
-counted : {A : Type 0} (test : A → Bool) (y : A) (ys : List A)
-    → count_by test (y ∷ ys) ≡ cond (test y) 1 0 + count_by test ys
-counted test y ys = sum_by-cons (λ x. cond (test x) 1 0) y ys
 
 in_counted : {A : Type 0} (test : A → Bool) (xs : List A) (x : A) → In x xs → test x ≡ true → 0 < count_by test xs
 in_counted test [] x i t = absurd i
@@ -37,10 +37,6 @@ counted_in test (y ∷ ys) h =
     by_test _ (test y) (λ t. (y, inl refl, t))
     (λ f. let c = counted test y ys ∙ ap (λ (b : Bool). cond b 1 0 + count_by test ys) f in
     let r = counted_in test ys (omega (arith, c, h)) in (r.0, inr r.1, r.2))
-
-one_if : (b : Bool) → 0 < cond b 1 0 → b ≡ true
-one_if true h = refl
-one_if false h = absurd (let f : ⊥ = omega (arith, h) in f)
 
 in_stretch : {A : Type 0} (k m : ℕ) (xs : List A) (i : ℕ) (x : A) → slice_get xs i ≡ Some x → k ≤ i → i < m
     → In x (drop k (take m xs))
@@ -66,20 +62,6 @@ stretch_in (suc k) (suc m) (y ∷ xs) x j =
     let le = r.2 in
     let lt = r.3 in
     (suc r.0, r.1, omega (arith, le), omega (arith, lt))
-
-into_flat : {A B : Type 0} (f : A → List B) (xs : List A) (x : A) (y : B) → In x xs → In y (f x) → In y (flat_map f xs)
-into_flat f [] x y i j = absurd i
-into_flat {A} f (z ∷ xs) x y (inl e) j =
-    in_left y (f z) (flat_map f xs) (subst (λ (k : A). In y (f k)) (sym e) j)
-into_flat f (z ∷ xs) x y (inr i) j = in_right y (f z) (flat_map f xs) (into_flat f xs x y i j)
-
-from_flat : {A B : Type 0} (f : A → List B) (xs : List A) (y : B) → In y (flat_map f xs)
-    → (x : A) × In x xs × In y (f x)
-from_flat f [] y i = absurd i
-from_flat {A} {B} f (z ∷ xs) y i = elim (in_append y (f z) (flat_map f xs) i) [
-  | inl here ↦ (z, inl refl, here)
-  | inr later ↦ (let r = from_flat f xs y later in (r.0, inr r.1, r.2))
-]
 
 in_regions : (r : ℕ) → r < 4 → In r all_regions
 in_regions zero lt = inl refl

@@ -12,11 +12,13 @@ use Rattle.chain_store.specs.declared.hold.Hold.{Hold}
 use Rattle.chain_store.specs.declared.region.Region.{Region}
 use Rattle.chain_store.specs.Columns.{told_event}
 use Rattle.chain_store.specs.Holds.{IsHold, SameBut, SeesMoreIn, RaisesIn, MakesOneIn, seen_in, entries_seen}
+use Rattle.lawful_run.specs.Reads.{kept_after_place}
 use Rattle.lawful_run.proofs.CallerLemmas.{prefix_length}
 use Rattle.client_law.proofs.CallerLemmas.{kept_after, kept_after_looking, raise_stands}
 use Rattle.log_client.specs.declared.store.Store.{Store}
 use Rattle.log_client.specs.declared.client.Client.{Client}
-use Rattle.log_client.specs.Clients.{holds_of, seen_of, caller_of, IsClient}
+use Rattle.log_client.specs.Clients.{holds_of, seen_of, caller_of, IsClient, Helps}
+use Rattle.log_client.specs.Calls.{DidNothing, IsExplained, RaisesAs}
 use Rattle.log_client.specs.Reading.{RestsOn, KeepsAll, RaisesOne, home_seen}
 use Rattle.log_client.proofs.Seeing.{seen_there}
 use Rattle.log_client.proofs.Alone.{seen_long, seen_at}
@@ -25,7 +27,7 @@ use Rattle.log_client.proofs.Trims.{makes_only_last}
 use Rattle.log_client.proofs.AtHome.{home_after, others_after, sees_after}
 use Rattle.log_client.proofs.Looked.{made_looked, makes_none, keeps_stay}
 use Rattle.log_client.proofs.Growing.{grown_same}
-use Rattle.log_client.proofs.TrimReplies.{after, at_g, looked, made, look_client, look_goes, look_finished, event_client, event_goes, event_finished}
+use Rattle.log_client.proofs.TrimReplies.{after, at_g, looked, made, look_client, look_idle, look_goes, look_finished, event_client, event_idle, event_goes, event_finished}
 
 module _ (s : Store) (c : Client) (r : Region) (g h : Hold) (k : ℕ) (is : IsClient s c)
     (there : slice_get s.regions c.region ≡ Some r) (hold : g ≡ slice_index_or c.holds.items c.region g)
@@ -47,6 +49,9 @@ module _ (s : Store) (c : Client) (r : Region) (g h : Hold) (k : ℕ) (is : IsCl
   module _ (sees : SeesMoreIn k g h) where
     h_there : slice_get (holds_of d) c.region ≡ Some h
     h_there = home_after s c d r g h is (looked s c r g h k is there hold rests but same sees)
+
+    pub look_helps : Helps d → Helps c
+    look_helps = look_idle s c r g h k is there hold rests but same sees
 
     pub look_rests : RestsOn s c d
     look_rests = record {
@@ -174,3 +179,25 @@ module _ (s : Store) (c : Client) (r : Region) (g h : Hold) (k : ℕ) (is : IsCl
     | inl look ↦ subst (RaisesOne s c d stamp k) (sym look.1) (looked_on look.0 stamp ra.reached)
     | inr event ↦ subst (RaisesOne s c d stamp k) (sym event.0.place) (raised_on stamp at event.0 ra.reached)
   ]
+
+  pub raise_one_helps : (stamp : ℕ) (at : At) → RaisesIn k g h stamp at → Helps d → Helps c
+  raise_one_helps stamp at ra = elim ra.either [
+    | inl look ↦ look_helps look.0
+    | inr event ↦
+        event_idle s c r g h k is there hold rests but same (told_event g.passes.number (events.Raise stamp)) at event.0 refl
+        tt tt
+  ]
+
+-- AS A CALL OF ITS OWN
+
+pub explained_by_raise : (s : Store) (c d : Client) (stamp k : ℕ) (at : At) → RestsOn s c d → RaisesOne s c d stamp k at
+    → IsExplained s c d (RaisesAs stamp k at)
+explained_by_raise s c d stamp k at on one objects kept finished keeps =
+    let r = one.keeps objects kept finished keeps in (
+      kept_after_place kept c.region k at,
+      r.0,
+      λ rest fits. (r.1 rest fits, ap (λ (n : ℕ). kept_after_place kept n k at) (sym on.same.1)),
+    )
+
+pub nothing_by_keeping : (s : Store) (c d : Client) → KeepsAll s c d → DidNothing s c d
+nothing_by_keeping s c d all objects kept finished keeps = (kept, (all objects kept finished keeps).0, λ rest fits. refl)

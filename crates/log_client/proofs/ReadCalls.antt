@@ -11,6 +11,7 @@ use Rattle.log_node.specs.Order.{key_below}
 use Rattle.log_node.specs.Vectors.{at}
 use Rattle.log_node.proofs.CallerLemmas.{at-zeros}
 use Rattle.log_node.specs.Seen.{PlacedNode}
+use Rattle.object_fold.specs.Folds.{is_behind}
 use Rattle.col_core.specs.declared.Entry.{Entry}
 use Rattle.col_core.specs.Computed.{dated}
 use Rattle.col_core.specs.History.{clock, line}
@@ -40,7 +41,7 @@ use Rattle.log_client.specs.Fits.{Fits}
 use Rattle.log_client.specs.Clients.{holds_of, seen_of, tracks_of, starts_of, counts_in, line_in, line_of, caller_of, IsClient, Keeps}
 use Rattle.log_client.specs.Calls.{IsExplained}
 use Rattle.log_client.specs.Items.{are_parts, AreItems}
-use Rattle.log_client.specs.StampedReads.{IsAppended, ShowsItem, raise_piece, sync_piece, HasRead, HoldsUpTo, ReadsAs, ReadsOn, ReadsAll, ReadRefused, ShowsItems, is_behind}
+use Rattle.log_client.specs.StampedReads.{IsAppended, ShowsItem, raise_piece, sync_piece, HasRead, HoldsUpTo, ReadsAs, ReadsOn, ReadsAll, ReadRefused, ShowsItems}
 use Rattle.log_client.specs.Reading.{RestsOn, KeepsAll, IsChosen, RaisesAll, RaisesFirst, raised_colours, IsCleared, AreCleared, HoldsLine, SyncsAll, SyncsEach, SyncsFirst, SyncsKeep, syncs_of, synced_colours, home_seen, keys_of, kept_raised, kept_synced}
 use Rattle.log_client.proofs.Lists.{got}
 use Rattle.log_client.proofs.Lines.{keys_prefix}

@@ -10,6 +10,7 @@ use Rattle.log_node.specs.declared.node.Head.{Head}
 use Rattle.log_node.specs.Order.{key_below}
 use Rattle.log_node.specs.Standings.{Standing}
 use Rattle.log_node.proofs.CallerLemmas.{key-irrefl, key-trans, stamp-key}
+use Rattle.object_fold.specs.Folds.{is_behind}
 use Rattle.col_core.specs.declared.Entry.{Entry}
 use Rattle.col_core.specs.Computed.{dated}
 use Rattle.col_core.specs.Cuts.{chain}
@@ -26,7 +27,7 @@ use Rattle.log_client.specs.declared.client.Client.{Client}
 use Rattle.log_client.specs.Fits.{HaveGoneOn}
 use Rattle.log_client.specs.Clients.{holds_of, seen_of, caller_of, IsClient}
 use Rattle.log_client.specs.Calls.{IsSame}
-use Rattle.log_client.specs.StampedReads.{HasRead, IsAboveSeen, GoOnFrom, ReadsGoOn, is_behind, last_of}
+use Rattle.log_client.specs.StampedReads.{HasRead, IsAboveSeen, GoOnFrom, ReadsGoOn, last_of}
 use Rattle.log_client.specs.Reading.{home_seen}
 use Rattle.log_client.proofs.GoingOn.{client_sees_on}
 use Rattle.log_client.proofs.Lines.{chain_keys}

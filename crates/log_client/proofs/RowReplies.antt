@@ -269,6 +269,7 @@ module _ (s : Store) (c e : Client) (r : Region) (g h : Hold) (colours : Colours
       same = (refl, refl);
       goes = have_gone_on s c after r g h is changed;
       grows = grown_same c after refl;
+      plays = refl;
       finished = finished;
       idle = idle;
       answer = answer;
@@ -631,6 +632,7 @@ module _ (s : Store) (c : Client) (r : Region) (g : Hold) (colours : Colours) (t
       same = (ch.number, ch.region);
       goes = have_gone_on s c d r g g is ch;
       grows = grown_same c d tracks;
+      plays = tracks;
       finished = λ finished. inl (finished_stays s c d r g g is ch rows finished);
       idle = λ stops. helped_at_home s c d r g g is ch (idle_same c.number g);
       answer = finds_nothing s c d colours text stop (did_nothing s c d r g g is ch (λ k. refl) floor count rows

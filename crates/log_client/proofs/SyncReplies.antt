@@ -55,17 +55,11 @@ use Rattle.log_client.proofs.Lines.{joined, chain_long, keys_are}
 use Rattle.log_client.proofs.Lists.{got_split}
 use Rattle.log_client.proofs.Looked.{IsPlain, made_looked, lawful_after, track_stays, kept_before, makes_none, client_looked, keeps_stay}
 use Rattle.log_client.proofs.Helping.{GoesIdle, idle_looked, idle_at_home}
+use Rattle.log_node.proofs.CallerLemmas.{all_zip_of as zipped}
 
 dropped : {A : Type 0} (xs ys : List A) → drop (length xs) (xs ++ ys) ≡ ys
 dropped [] ys = refl
 dropped (x ∷ xs) ys = dropped xs ys
-
-zipped : {A B : Type 0} (P Q : A → B → Type 0) → ((a : A) (b : B) → P a b → Q a b) → (xs : List A) (ys : List B)
-    → AllZip P xs ys → AllZip Q xs ys
-zipped P Q f [] [] all = tt
-zipped P Q f [] (y ∷ ys) all = absurd all
-zipped P Q f (x ∷ xs) [] all = absurd all
-zipped P Q f (x ∷ xs) (y ∷ ys) all = (f x y all.0, zipped P Q f xs ys all.1)
 
 module _ (s : Store) (c d : Client) (r : Region) (g h : Hold) (old : Track) (is : IsClient s c)
     (ch : ChangesHome s c d r g h) (at_old : slice_get (tracks_of c) old.snapshot.colour ≡ Some old)

@@ -1,5 +1,5 @@
 -- Syncs of several colours, one after another.
-use Rattle.std.proofs.Common.{◌≡◌, ◌≢◌, ℕ, ◌+◌, ◌<◌, ◌≤◌, false, List, [], ◌∷◌, ◌++◌, length, take, Option, Some, refl, ap, sym, subst, ◌∙◌, inl, inr, arith, append_assoc, append-nil}
+use Rattle.std.proofs.Common.{◌≡◌, ◌≢◌, ℕ, ◌<◌, ◌≤◌, false, List, [], ◌∷◌, ◌++◌, length, take, Option, Some, refl, ap, sym, subst, ◌∙◌, inl, inr, arith, append_assoc, append-nil}
 use Rattle.std.specs.Prelude.{not, slice_get}
 use Rattle.std.proofs.lemmas.Bool.{and_from, cases_lt}
 use Rattle.std.proofs.lemmas.List.{take_all, map-append}
@@ -58,7 +58,7 @@ at_end : (xs : List ℕ) (k : ℕ) (ys : List ℕ) → slice_get (xs ++ k ∷ ys
 at_end [] k ys = refl
 at_end (x ∷ xs) k ys = at_end xs k ys
 
-apart_from : (xs : List ℕ) (k : ℕ) (ys : List ℕ) (set : Colours) → xs ++ k ∷ ys ≡ members set → (m : ℕ) → In m xs → m ≢ k
+pub apart_from : (xs : List ℕ) (k : ℕ) (ys : List ℕ) (set : Colours) → xs ++ k ∷ ys ≡ members set → (m : ℕ) → In m xs → m ≢ k
 apart_from xs k ys set is m i same =
     let n = in_slice xs m i in
     let lt = slice_get_within xs n.0 m n.1 in
@@ -69,6 +69,12 @@ apart_from xs k ys set is m i same =
     ap (λ (l : List ℕ). slice_get l (length xs)) (sym is) ∙ at_end xs k ys in
     let e = member_once set n.0 (length xs) k early late in
     let f : ⊥ = omega (arith, lt, e) in f
+
+-- the colour of a sync is one of those that were synced
+pub synced_in : (z : Synced) (zs : List Synced) → In z zs → In z.snapshot.colour (synced_colours zs)
+synced_in z [] i = absurd i
+synced_in z (w ∷ zs) (inl same) = inl (ap (λ (v : Synced). v.snapshot.colour) same)
+synced_in z (w ∷ zs) (inr i) = inr (synced_in z zs i)
 
 -- THE SYNCS
 
@@ -157,18 +163,13 @@ module _ (s : Store) (c d e : Client) (k : ℕ) (y : Synced) (far : RestsOn s c 
             | inl early ↦
                 line_on stamp z
                 (apart_from (synced_colours syncs) k left set before.apart z.snapshot.colour
-                (in_colours z syncs (subst (In z) before.answered early)))
+                (synced_in z syncs (subst (In z) before.answered early)))
                 (All-contains (HoldsLine d stamp) (syncs_of before.played) z (before.all stamp cleared).lines
                 (contains_in (syncs_of before.played) z early))
             | inr late ↦ elim late [ inl same ↦ subst (HoldsLine e stamp) same (line_here stamp (cleared_there stamp cleared)) | inr none ↦ absurd none ]
           ]);
     };
   } where
-    in_colours : (z : Synced) (zs : List Synced) → In z zs → In z.snapshot.colour (synced_colours zs)
-    in_colours z [] i = absurd i
-    in_colours z (w ∷ zs) (inl same) = inl (ap (λ (v : Synced). v.snapshot.colour) same)
-    in_colours z (w ∷ zs) (inr i) = inr (in_colours z zs i)
-
     cleared_there : (stamp : ℕ) → AreCleared c stamp (members set) → IsCleared stamp (home_seen e k)
     cleared_there stamp cleared =
         let all = rests_then s c d e far near in

@@ -1,5 +1,6 @@
 -- What a client's calls answer, and what explains it.
 use Rattle.std.specs.Prelude.{◌≡◌, ◌≢◌, ◌⊎◌, ℕ, List, ◌++◌, length, drop}
+use Rattle.std.specs.List.{All}
 use Rattle.log_node.specs.declared.ids.Counts.{Counts}
 use Rattle.log_node.specs.declared.node.At.{At}
 use Rattle.log_node.specs.declared.node.At.TheVariants.{Event}
@@ -8,7 +9,7 @@ use Rattle.col_core.specs.Log.{Log}
 use Rattle.col_core.specs.Keeping.{Kept, kept_after_sync, kept_after_event}
 use Rattle.script_text.specs.declared.script.Object.{Object}
 use Rattle.lawful_run.specs.Callers.{Caller}
-use Rattle.lawful_run.specs.Reads.{Syncs, ShowsPlayed, IsTrimmed, greatest_stamp}
+use Rattle.lawful_run.specs.Reads.{Syncs, ShowsPlayed, IsTrimmed, RaisesAt, greatest_stamp, kept_after_place}
 use Rattle.lawful_run.specs.Moves.{Pulls, OnlyGives, TrimsBy, kept_after_pull, kept_after_giving}
 use Rattle.client_law.specs.Knowing.{Rest, log_of}
 use Rattle.playback.specs.declared.player.Snapshot.{Snapshot}
@@ -61,12 +62,23 @@ pub record AnswersSync (c d : Client) (colour : ℕ) (y : Synced) : Type 0 where
   pub older : (nodes : List PlacedNode) × (played_of d colour ≡ played_of c colour ++ nodes) × (y.count ≡ length nodes)
   pub snapshot : y.snapshot ≡ record { region = c.region; colour = colour; counts = y.snapshot.counts }
 
+-- each answer of several syncs, of a colour each, names what the client played from c to d of its colour
+abbrev pub AnswersEach : Client → Client → List Synced → Type 0
+AnswersEach c d syncs = All (λ (y : Synced). AnswersSync c d y.snapshot.colour y) syncs
+
 -- Why a sync played nothing: nodes that were not played are trimmed, as the base shows; or memory was refused.
 abbrev pub SyncRefused : Store → Client → Client → ℕ → SyncFault → Type 0
 SyncRefused s c d colour (sync_faults.Trimmed shown base) =
     (shown ≡ colour)
     × IsExplained s c d (λ log caller kept after. IsTrimmed log caller kept colour base × (after ≡ kept))
 SyncRefused s c d colour sync_faults.NoMemory = DidNothing s c d
+
+-- RAISES
+
+-- The raise of the clock to the stamp is the client's event at the place, or the clock is there after so many events.
+abbrev pub RaisesAs : ℕ → ℕ → At → Log → Caller → Kept → Kept → Type 0
+RaisesAs stamp colour at log caller kept after =
+    RaisesAt log caller kept stamp colour at × (after ≡ kept_after_place kept caller.own colour at)
 
 -- MOVES
 

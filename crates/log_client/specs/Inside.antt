@@ -25,7 +25,7 @@ use Rattle.log_client.specs.declared.answers.Synced.{Synced}
 use Rattle.log_client.specs.declared.faults.SyncFault.{SyncFault}
 use Rattle.log_client.specs.declared.faults.SyncFault.TheVariants.{Trimmed, NoMemory}
 use Rattle.log_client.specs.Fits.{HaveGoneOn}
-use Rattle.log_client.specs.Clients.{IsClient, Finished, Helps, Plays, holds_of}
+use Rattle.log_client.specs.Clients.{IsClient, Finished, Helps, Plays, holds_of, tracks_of}
 use Rattle.log_client.specs.Growing.{HasGrown}
 use Rattle.log_client.specs.Calls.{IsExplained, IsSame}
 use Rattle.log_client.specs.Appends.{AppendsAs, AppendRefused, HasNoRow, HasStopped}
@@ -37,6 +37,7 @@ pub record CallsAppend (s : Store) (c d : Client) (colours : Colours) (text : Li
   pub same : IsSame c d
   pub goes : HaveGoneOn (holds_of c) (holds_of d)
   pub grows : HasGrown c d
+  pub plays : tracks_of d ≡ tracks_of c
   pub finished : Finished c → Finished d ⊎ HasStopped result
   pub idle : stop ≢ None → Helps d → Helps c
   pub answer : MatchResult result

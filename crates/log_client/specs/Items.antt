@@ -3,11 +3,11 @@ use Rattle.std.specs.Prelude.{◌≡◌, ◌⊎◌, ℕ, nat_le, List, [], ◌++
 use Rattle.std.specs.List.{Contains, filter, fold}
 use Rattle.log_node.specs.declared.ids.Key.{Key}
 use Rattle.log_node.specs.Seen.{PlacedNode}
+use Rattle.object_fold.specs.Folds.{is_behind}
 use Rattle.playback.specs.Merging.{merged, merged_behind}
 use Rattle.log_client.specs.declared.track.Track.{Track}
 use Rattle.log_client.specs.Clients.{line_in}
 use Rattle.log_client.specs.Reading.{keys_of}
-use Rattle.log_client.specs.StampedReads.{is_behind}
 
 -- the nodes of a line that come behind the last key and have stamps up to this one
 abbrev pub part_of : Option Key → ℕ → List PlacedNode → List PlacedNode

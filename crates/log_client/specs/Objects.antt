@@ -1,13 +1,13 @@
 -- What calls of objects over a client say: what is folded of the nodes that it has played, and what explains the answers.
-use Rattle.std.specs.Prelude.{◌≡◌, ◌≢◌, ◌⊎◌, ℕ, ◌<◌, ◌≤◌, List, [], ◌∷◌, length, map, take, Option, Some, None}
-use Rattle.std.specs.List.{All, fold}
+use Rattle.std.specs.Prelude.{◌≡◌, ◌≢◌, ◌⊎◌, ℕ, ◌<◌, List, [], ◌∷◌, length, map, take, Option, Some, None}
+use Rattle.std.specs.List.{All}
 use Rattle.log_node.specs.declared.ids.Colours.{Colours}
 use Rattle.log_node.specs.declared.ids.Key.{Key}
 use Rattle.log_node.specs.declared.limits.TheConstants.{MAX_COLOURS}
 use Rattle.log_node.specs.declared.forms.Version.{Version}
-use Rattle.log_node.specs.Seen.{PlacedNode}
 use Rattle.log_node.specs.Sets.{members}
-use Rattle.object_fold.specs.Nodes.{ObjectNode, object_node}
+use Rattle.object_fold.specs.Nodes.{ObjectNode}
+use Rattle.object_fold.specs.Folds.{FoldsFirst}
 use Rattle.col_core.specs.Log.{Log}
 use Rattle.col_core.specs.Keeping.{Kept}
 use Rattle.lawful_run.specs.Callers.{Caller, node_of}
@@ -19,13 +19,14 @@ use Rattle.append_core.specs.declared.stood.Point.{Point}
 use Rattle.log_client.specs.declared.store.Store.{Store}
 use Rattle.log_client.specs.declared.client.Client.{Client}
 use Rattle.log_client.specs.declared.answers.Appended.{Appended}
+use Rattle.log_client.specs.declared.answers.Synced.{Synced}
 use Rattle.log_client.specs.declared.faults.SyncFault.{SyncFault}
 use Rattle.log_client.specs.declared.faults.SyncFault.TheVariants as sync_faults
 use Rattle.log_client.specs.declared.object_fault.ObjectFault.{ObjectFault}
 use Rattle.log_client.specs.declared.object_fault.ObjectFault.TheVariants as faults
 use Rattle.log_client.specs.Fits.{Fits}
 use Rattle.log_client.specs.Clients.{line_of, tracks_of, holds_of, seen_of}
-use Rattle.log_client.specs.Calls.{IsExplained}
+use Rattle.log_client.specs.Calls.{AnswersSync, IsExplained, SyncRefused, SyncsAs}
 use Rattle.log_client.specs.Appends.{AppendsAs, AppendRefused}
 use Rattle.log_client.specs.StampedReads.{HasRead, last_of}
 
@@ -34,14 +35,6 @@ abbrev pub version_keys : List Version → List (List ℕ)
 version_keys versions = map (λ (v : Version). v.key) versions
 
 -- WHAT IS FOLDED
-
--- nodes as objects read them
-abbrev pub object_nodes : List PlacedNode → List ObjectNode
-object_nodes nodes = map object_node nodes
-
--- The fold is of the first so many nodes of a line.
-abbrev pub FoldsFirst : List PlacedNode → ℕ → (List ObjectNode → Type 0) → Type 0
-FoldsFirst line count Folds = (count ≤ length line) × Folds (object_nodes (take count line))
 
 -- The fold is of the first so many nodes of the own line that the client has played of the colour.
 abbrev pub Follows : Client → ℕ → ℕ → (List ObjectNode → Type 0) → Type 0
@@ -61,10 +54,6 @@ pub record FoldsRead (c : Client) (colours : List ℕ) (last : Option Key) (node
 -- the same, or nothing of any read is folded
 abbrev pub KeepsRead : Client → List ℕ → Option Key → List ObjectNode → Type 0
 KeepsRead c colours last nodes = ((last ≡ None) × (nodes ≡ [])) ⊎ FoldsRead c colours last nodes
-
--- the last key after items
-abbrev pub last_after : Option Key → List PlacedNode → Option Key
-last_after last items = fold (λ (k : Option Key) (item : PlacedNode). Some item.head.key) last items
 
 -- an object has these colours, one or more, all of the client
 pub record AreColours (c : Client) (colours : List ℕ) : Type 0 where
@@ -113,22 +102,19 @@ PutRefused home s c d colours text faults.NoMemory = d ≡ c
 abbrev pub HidesOne : ℕ → Log → Caller → Kept → Kept → Type 0
 HidesOne colour log caller kept after = HidesSyncs log caller kept (colour ∷ []) after
 
--- why a sync of the colour within an object's call was refused
-abbrev pub SyncLeaves : Store → Client → Client → ℕ → SyncFault → Type 0
-SyncLeaves s c d colour (sync_faults.Trimmed shown base) =
-    (shown ≡ colour)
-    × IsExplained s c d (λ log caller kept after.
-    IsTrimmed log caller kept colour base × HidesOne colour log caller kept after)
-SyncLeaves s c d colour sync_faults.NoMemory = IsExplained s c d (HidesOne colour)
+-- The colour was synced as a sync would have answered, and no answer tells of it.
+abbrev pub SyncsUntold : Store → Client → Client → ℕ → Type 0
+SyncsUntold s c d colour = (y : Synced) × AnswersSync c d colour y × IsExplained s c d (SyncsAs d colour y)
 
--- why a get of an object was refused, whose nodes are of this colour
+-- Why a get of an object was refused, whose nodes are of this colour. Where memory was refused to the fold, the colour was
+-- synced before.
 abbrev pub GetRefused : Option ℕ → Store → Client → Client → ℕ → ObjectFault → Type 0
 GetRefused home s c d colour (faults.NotHome shown) = IsAwayFrom home c d shown
 GetRefused home s c d colour (faults.Append fault) = ⊥
-GetRefused home s c d colour (faults.Sync fault) = SyncLeaves s c d colour fault
+GetRefused home s c d colour (faults.Sync fault) = SyncRefused s c d colour fault
 GetRefused home s c d colour (faults.Unread stamp why) = ⊥
 GetRefused home s c d colour faults.NoTx = ⊥
-GetRefused home s c d colour faults.NoMemory = IsExplained s c d (HidesOne colour)
+GetRefused home s c d colour faults.NoMemory = SyncsUntold s c d colour
 
 -- AN APPEND AND A SYNC
 
@@ -138,11 +124,12 @@ StandsThen set text stamp Then log caller kept after =
     (stood : Kept) × AppendsUnshown log caller kept (node_of caller kept set text) stamp stood
     × Then log caller stood after
 
--- why nothing was read behind the own node, which stands under the stamp in the one colour
+-- Why nothing was read behind the own node, which stands under the stamp in the one colour. Memory was refused to the sync, or
+-- behind it.
 abbrev pub UnreadLeaves : Store → Client → Client → ℕ → List ℕ → ℕ → SyncFault → Type 0
 UnreadLeaves s c d colour text stamp (sync_faults.Trimmed shown base) =
     (shown ≡ colour) × (set : Colours) × (members set ≡ colour ∷ [])
     × IsExplained s c d (StandsThen set text stamp (λ log caller stood after.
-    IsTrimmed log caller stood colour base × HidesOne colour log caller stood after))
+    IsTrimmed log caller stood colour base × (after ≡ stood)))
 UnreadLeaves s c d colour text stamp sync_faults.NoMemory =
     (set : Colours) × (members set ≡ colour ∷ []) × IsExplained s c d (StandsThen set text stamp (HidesOne colour))

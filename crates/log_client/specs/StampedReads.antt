@@ -1,10 +1,10 @@
 -- What a stamped read of a client answers.
-use Rattle.std.specs.Prelude.{◌≡◌, Bool, IsTrue, true, ℕ, ◌<◌, ◌≤◌, List, [], ◌∷◌, ◌++◌, map, Option, Some, None, slice_get}
+use Rattle.std.specs.Prelude.{◌≡◌, IsTrue, ℕ, ◌<◌, ◌≤◌, List, [], ◌∷◌, ◌++◌, map, Option, Some, None, slice_get}
 use Rattle.std.specs.List.{All, AllZip, Contains, filter, fold}
 use Rattle.log_node.specs.declared.ids.Key.{Key}
-use Rattle.log_node.specs.Order.{key_below}
 use Rattle.log_node.specs.Seen.{PlacedNode}
 use Rattle.object_form.specs.Forms.{is_writer}
+use Rattle.object_fold.specs.Folds.{is_behind}
 use Rattle.col_core.specs.History.{clock, line}
 use Rattle.col_core.specs.Log.{Log}
 use Rattle.col_core.specs.RegionOrder.{IsRegionOrder, IsClearUpTo}
@@ -31,11 +31,6 @@ raise_piece r = record { colour = r.colour; at = r.at }
 
 abbrev pub sync_piece : Synced → SyncPiece
 sync_piece y = record { colour = y.snapshot.colour; events = y.events; counts = y.snapshot.counts }
-
--- the key comes behind the last one, or there is no last one
-abbrev pub is_behind : Option Key → Key → Bool
-is_behind None key = true
-is_behind (Some last) key = key_below last key
 
 -- the node is the one that was appended with its id
 abbrev pub IsAppended : Log → PlacedNode → Type 0

@@ -262,7 +262,8 @@ impl Client {
     /// Appends the client's next node to the colours of its region's columns, with the client's floor and what it has
     /// played of them as wants. On Ok it stands in the lines of all of them, behind all nodes that the client knew to stand
     /// there. Several colours take the client's next row; the gate is passed between their steps, and with a stop the append
-    /// stops after that many. Open entries in its way are helped. Waits for turns of the columns.
+    /// stops after that many. Open entries in its way are helped. Nothing is played, not even the own node: `played`, `line`
+    /// and `snapshot` answer of each colour what they did before. Waits for turns of the columns.
     #[tactic(auto, using(crate::proofs::Growing::grown_same))]
     pub fn append<R: Wait, G: Gate>(
         &mut self,
@@ -281,6 +282,7 @@ impl Client {
         ensures same { IsSame self.old self.new }
         ensures goes { HaveGoneOn (holds_of self.old) (holds_of self.new) }
         ensures grows { HasGrown self.old self.new }
+        ensures plays { tracks_of self.new ≡ tracks_of self.old }
         ensures finished { Finished self.old → Finished self.new ⊎ HasStopped result }
         // An append that is to stop helps nobody.
         ensures idle { stop ≢ None → Helps self.new → Helps self.old }

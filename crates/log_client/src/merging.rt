@@ -5,8 +5,8 @@ ghost use Rattle.std.specs.Option.{option_map_or};
 ghost use Rattle.log_node.specs.Order.{key_below, same_key};
 ghost use Rattle.log_node.specs.Seen.{PlacedNode};
 ghost use Rattle.log_node.specs.Sets.{members};
+ghost use Rattle.object_fold.specs.Folds.{is_behind};
 ghost use Rattle.playback.specs.Merging.{AreRising};
-ghost use Rattle.log_client.specs.StampedReads.{is_behind};
 ghost use Rattle.log_client.specs.Reading.{keys_of};
 ghost use Rattle.log_client.specs.Items.{part_of, are_parts, AreTaken, AreMerged, AreItems};
 

@@ -2,7 +2,7 @@
 ghost use Rattle.std.specs.Prelude.{◌≡◌, ◌<◌, ◌∷◌, [], IfOk, IfErr};
 ghost use Rattle.log_node.specs.Sets.{members};
 ghost use Rattle.object_form.specs.Forms.{IsForm, form_text};
-ghost use Rattle.log_client.specs.Clients.{IsClient};
+ghost use Rattle.log_client.specs.Clients.{IsClient, tracks_of};
 ghost use Rattle.log_client.specs.Appends.{AreColoursOf};
 ghost use Rattle.log_client.specs.Reading.{RestsOn};
 ghost use Rattle.log_client.specs.Objects.{StandsIn, StandsNot};
@@ -26,8 +26,8 @@ fn text_of(alloc: Global, form: Form) -> Result<Text, AllocError>
 }
 
 impl Client {
-    /// Appends a node with the text of a form to some colours. Without memory for the text nothing is done. Waits as `append`
-    /// does.
+    /// Appends a node with the text of a form to some colours, and plays nothing, as `append` does. Without memory for the text
+    /// nothing is done. Waits as `append` does.
     pub fn append_form<R: Wait, G: Gate>(
         &mut self,
         rt: &R,
@@ -41,6 +41,7 @@ impl Client {
         requires colours { AreColoursOf store.now colours }
         requires form { IsForm form }
         ensures client { RestsOn store.now self.old self.new }
+        ensures plays { tracks_of self.new ≡ tracks_of self.old }
         ensures ok { IfOk result (StandsIn store.now self.old self.new (members colours) (form_text form)) }
         ensures err { IfErr result (StandsNot store.now self.old self.new (members colours) (form_text form)) }
     {
@@ -53,7 +54,7 @@ impl Client {
         }
     }
 
-    /// Appends a node with the text of a form to one colour.
+    /// Appends a node with the text of a form to one colour, and plays nothing.
     pub fn append_form_to<R: Wait, G: Gate>(
         &mut self,
         rt: &R,
@@ -68,6 +69,7 @@ impl Client {
         requires few { colour < MAX_COLOURS }
         requires form { IsForm form }
         ensures client { RestsOn store.now self.old self.new }
+        ensures plays { tracks_of self.new ≡ tracks_of self.old }
         ensures ok { IfOk result (StandsIn store.now self.old self.new (colour ∷ []) (form_text form)) }
         ensures err { IfErr result (StandsNot store.now self.old self.new (colour ∷ []) (form_text form)) }
     {

@@ -1,5 +1,5 @@
 // Stamped reads.
-ghost use Rattle.std.specs.Prelude.{◌≡◌, ◌<◌, ◌≤◌, None, IfErr, IfOk, OnErr, length};
+ghost use Rattle.std.specs.Prelude.{◌≡◌, ◌<◌, ◌≤◌, None, IfErr, IfOk, OnErr, OnOk, length};
 ghost use Rattle.std.specs.List.{All};
 ghost use Rattle.log_node.specs.declared.ids.Row.{Row};
 ghost use Rattle.log_node.specs.declared.limits.TheConstants.{MAX_STAMP};
@@ -11,9 +11,9 @@ ghost use Rattle.chain_store.specs.Holds.{IsHold, entries_seen, view_of};
 ghost use Rattle.chain_store.specs.Rows.{OneNode};
 ghost use Rattle.append_core.specs.Helping.{HelpsOpen};
 ghost use Rattle.log_client.specs.Fits.{HaveGoneOn};
-ghost use Rattle.log_client.specs.Clients.{IsClient, Finished, holds_of};
+ghost use Rattle.log_client.specs.Clients.{IsClient, Finished, Helps, holds_of, seen_of, tracks_of};
 ghost use Rattle.log_client.specs.Growing.{HasGrown};
-ghost use Rattle.log_client.specs.Calls.{IsSame};
+ghost use Rattle.log_client.specs.Calls.{AnswersEach, DidNothing, IsExplained, IsSame, RaisesAs};
 ghost use Rattle.log_client.specs.Appends.{AreColoursOf};
 ghost use Rattle.log_client.specs.Reading.{RestsOn, KeepsAll, IsChosen, RaisesOne, RaisesAll, RaisesFirst, IsCleared, AreCleared, SyncsEach, SyncsFirst, home_seen, key_above, raised_colours, synced_colours};
 ghost use Rattle.log_client.specs.StampedReads.{CanBeNamed, HoldsUpTo, IsAboveSeen, ReadsOn, ReadsAll, ReadHidden, ReadRefused};
@@ -74,6 +74,7 @@ impl Client {
         requires client { IsClient store.now self.old }
         requires colour { colour < store.now.size.colours }
         ensures rests { RestsOn store.now self.old self.new }
+        ensures tracks { tracks_of self.new ≡ tracks_of self.old }
         ensures keeps { KeepsAll store.now self.old self.new }
         ensures clock { result ≡ clock (home_seen self.new colour) }
     {
@@ -88,6 +89,7 @@ impl Client {
         requires client { IsClient store.now self.old }
         requires colours { AreColoursOf store.now colours }
         ensures rests { RestsOn store.now self.old self.new }
+        ensures tracks { tracks_of self.new ≡ tracks_of self.old }
         ensures keeps { KeepsAll store.now self.old self.new }
         ensures floor { self.old.floor ≤ result }
         ensures in_range { result ≤ MAX_STAMP }
@@ -102,7 +104,7 @@ impl Client {
     }
 
     // Raises the clock of a colour's column to the stamp, where it is not there already.
-    fn raise<R: Wait>(
+    fn raise_to<R: Wait>(
         &mut self,
         rt: &R,
         store: &Store,
@@ -113,12 +115,46 @@ impl Client {
         requires colour { colour < store.now.size.colours }
         requires stamp { stamp ≤ MAX_STAMP }
         ensures rests { RestsOn store.now self.old self.new }
+        ensures tracks { tracks_of self.new ≡ tracks_of self.old }
+        ensures idle { Helps self.new → Helps self.old }
         ensures ok { IfOk result (RaisesOne store.now self.old self.new stamp colour) }
         ensures err { OnErr result (KeepsAll store.now self.old self.new) }
     {
         let region = store.region(self.region);
         let hold = &mut self.holds[self.region as usize];
         match region.raise(rt, hold, colour, stamp) {
+            Ok(at) => Ok(at),
+            Err(fault) => Err(fault),
+        }
+    }
+
+    /// Raises the clock of the colour's column of the client's region to the stamp, where it is not there already: no node
+    /// that is appended to the colour in this region later gets a stamp up to it. A stamp is a number without a unit, from 0 to
+    /// `MAX_STAMP`; a column whose clock is at `MAX_STAMP` takes no append any more, and no clock is ever lowered. Answers
+    /// the place of the raise in the column's history, or after how many events the clock is there already. Waits for one
+    /// turn of the column. Memory alone is refused, and nothing is done then.
+    pub fn raise<R: Wait>(
+        &mut self,
+        rt: &R,
+        store: &Store,
+        colour: u8,
+        stamp: u64,
+    ) -> Result<At, AllocError>
+        requires client { IsClient store.now self.old }
+        requires colour { colour < store.now.size.colours }
+        requires stamp { stamp ≤ MAX_STAMP }
+        ensures client { IsClient store.now self.new }
+        ensures same { IsSame self.old self.new }
+        ensures goes { HaveGoneOn (holds_of self.old) (holds_of self.new) }
+        ensures grows { HasGrown self.old self.new }
+        ensures plays { tracks_of self.new ≡ tracks_of self.old }
+        ensures finished { Finished self.old → Finished self.new }
+        ensures idle { Helps self.new → Helps self.old }
+        ensures reached { OnOk result (stamp ≤ clock (seen_of self.new self.new.region colour)) }
+        ensures ok { IfOk result (λ at. IsExplained store.now self.old self.new (RaisesAs stamp colour at)) }
+        ensures err { OnErr result (DidNothing store.now self.old self.new) }
+    {
+        match self.raise_to(rt, store, colour, stamp) {
             Ok(at) => Ok(at),
             Err(fault) => Err(fault),
         }
@@ -137,13 +173,14 @@ impl Client {
         requires colours { AreColoursOf store.now colours }
         requires stamp { stamp ≤ MAX_STAMP }
         ensures rests { RestsOn store.now self.old self.new }
+        ensures tracks { tracks_of self.new ≡ tracks_of self.old }
         ensures colours { IfOk result (λ raises. raised_colours raises.items ≡ members colours) }
         ensures ok { IfOk result (λ raises. RaisesAll store.now self.old self.new stamp raises.items) }
         ensures err { OnErr result (RaisesFirst store.now self.old self.new stamp (members colours)) }
     {
         let mut raises = Vec::new(alloc);
         for colour in colours.members() {
-            let at = self.raise(rt, store, colour, stamp)?;
+            let at = self.raise_to(rt, store, colour, stamp)?;
             raises.push(Raised { colour, at })?;
         }
         Ok(raises)
@@ -156,6 +193,7 @@ impl Client {
         requires stamp { stamp ≤ MAX_STAMP }
         requires reached { All (λ colour. stamp ≤ clock (home_seen self.old colour)) (members colours) }
         ensures rests { RestsOn store.now self.old self.new }
+        ensures tracks { tracks_of self.new ≡ tracks_of self.old }
         ensures keeps { KeepsAll store.now self.old self.new }
         ensures clear { AreCleared self.new stamp (members colours) }
     {
@@ -175,6 +213,7 @@ impl Client {
         requires client { IsClient store.now self.old }
         requires colours { AreColoursOf store.now colours }
         ensures rests { RestsOn store.now self.old self.new }
+        ensures played { IfOk result (λ syncs. AnswersEach self.old self.new syncs.items) }
         ensures ok { IfOk result (λ syncs. SyncsEach store.now self.old self.new (members colours) syncs.items) }
         ensures err { IfErr result (SyncsFirst store.now self.old self.new (members colours)) }
     {
@@ -212,6 +251,7 @@ impl Client {
         ensures finished { Finished self.old → Finished self.new }
         ensures raises { IfOk result (λ read. raised_colours read.raises ≡ members colours) }
         ensures syncs { IfOk result (λ read. synced_colours read.syncs ≡ members colours) }
+        ensures played { IfOk result (λ read. AnswersEach self.old self.new read.syncs) }
         ensures above { IfOk result (λ read. IsAboveSeen self.old (members colours) read.stamp) }
         ensures ok { IfOk result (ReadsOn store.now self.old self.new (members colours) last) }
         ensures held { IfOk result (λ read. All (HoldsUpTo self.new read.stamp) (members colours)) }
@@ -256,6 +296,7 @@ impl Client {
         ensures finished { Finished self.old → Finished self.new }
         ensures raises { IfOk result (λ read. raised_colours read.raises ≡ members colours) }
         ensures syncs { IfOk result (λ read. synced_colours read.syncs ≡ members colours) }
+        ensures played { IfOk result (λ read. AnswersEach self.old self.new read.syncs) }
         ensures above { IfOk result (λ read. IsAboveSeen self.old (members colours) read.stamp) }
         ensures ok { IfOk result (ReadsAll store.now self.old self.new (members colours)) }
         ensures named { IfOk result (λ read. CanBeNamed read.items) }

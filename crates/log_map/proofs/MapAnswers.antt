@@ -9,8 +9,12 @@ use Rattle.lawful_run.proofs.CallerLemmas.{get_within}
 use Rattle.std.specs.List.{All, Contains}
 use Rattle.std.proofs.lemmas.List.Elements.{All-contains}
 use Rattle.log_node.specs.Vectors.{at}
+use Rattle.object_fold.specs.declared.kept_line.KeptLine.{KeptLine}
+use Rattle.object_fold.specs.declared.shard_map.ShardMap.{ShardMap}
 use Rattle.object_fold.specs.Maps.{Value, shard_value}
 use Rattle.object_fold.specs.States.{IsShardMap, HasShardOf}
+use Rattle.object_fold.specs.Nodes.{object_nodes}
+use Rattle.object_fold.specs.Folds.{FoldsFirst}
 use Rattle.col_core.specs.Keeping.{kept_after_sync}
 use Rattle.playback.specs.declared.player.Snapshot.{Snapshot}
 use Rattle.lawful_run.specs.Reads.{Syncs, greatest_stamp, played_stamp}
@@ -22,9 +26,8 @@ use Rattle.log_client.specs.Clients.{IsClient, caller_of, line_of, seen_of, star
 use Rattle.log_client.specs.Calls.{AnswersSync, IsExplained, SyncsAs, nodes_played}
 use Rattle.log_client.specs.Reading.{RestsOn}
 use Rattle.log_client.specs.StampedReads.{sync_piece}
-use Rattle.log_client.specs.Objects.{AreColours, FoldsFirst, Follows, object_nodes}
+use Rattle.log_client.specs.Objects.{AreColours, Follows}
 use Rattle.log_client.proofs.CallerLemmas.{folds_none, follows_later, one_started, snapshot_is_own, stamps_played, tracks_long}
-use Rattle.log_map.specs.declared.kept_shard.KeptShard.{KeptShard}
 use Rattle.log_map.specs.declared.map.LogMap.{LogMap}
 use Rattle.log_map.specs.Maps.{AreFresh, Gets, IsMapOf, IsShardOf}
 
@@ -46,11 +49,11 @@ map_later s c d m is on of = record {
   shards = λ n colour shard there at. let f = of.shards n colour shard there at in record {
     colours_are = f.colours_are;
     shard_is = f.shard_is;
-    folds = follows_later c d colour shard.count (IsShardMap shard.map) on.grows f.folds;
+    folds = follows_later c d colour shard.count (IsShardMap shard.state) on.grows f.folds;
   };
 }
 
-set_cases : (xs : List KeptShard) (n j : ℕ) (x y : KeptShard) → slice_get (set xs n x) j ≡ Some y
+set_cases : (xs : List (KeptLine ShardMap)) (n j : ℕ) (x y : KeptLine ShardMap) → slice_get (set xs n x) j ≡ Some y
     → ((j ≡ n) × (x ≡ y)) ⊎ (slice_get xs j ≡ Some y)
 set_cases [] n j x y e = absurd (let f : ⊥ = cc in f)
 set_cases (z ∷ xs) zero zero x y e = inl (refl, let f : x ≡ y = cc in f)
@@ -62,10 +65,10 @@ set_cases (z ∷ xs) (suc n) (suc j) x y e = elim (set_cases xs n j x y e) [
 ]
 
 -- where one shard's fold went on
-pub map_folded : (c : Client) (m : LogMap) (place colour : ℕ) (old new : KeptShard) (shards : List KeptShard)
+pub map_folded : (c : Client) (m : LogMap) (place colour : ℕ) (old new : KeptLine ShardMap) (shards : List (KeptLine ShardMap))
     → IsMapOf c m → slice_get m.colours place ≡ Some colour → slice_get m.shards.items place ≡ Some old
-    → shards ≡ set m.shards.items place new → HasShardOf old.map new.map
-    → Follows c colour new.count (IsShardMap new.map)
+    → shards ≡ set m.shards.items place new → HasShardOf old.state new.state
+    → Follows c colour new.count (IsShardMap new.state)
     → (n : LogMap) → n.home ≡ m.home → n.colours ≡ m.colours → n.shards.items ≡ shards → IsMapOf c n
 map_folded c m place colour old new shards of there at is same folds n home colours items = record {
   colours = subst (AreColours c) (sym colours) of.colours;
@@ -74,14 +77,14 @@ map_folded c m place colour old new shards of there at is same folds n home colo
       let here_then = ap (λ (l : List ℕ). slice_get l k) (sym colours) ∙ here in
       subst (λ (l : List ℕ). IsShardOf c l other shard) (sym colours)
       (elim (set_cases m.shards.items place k new shard
-      (ap (λ (l : List KeptShard). slice_get l k) (sym (items ∙ is)) ∙ found)) [
+      (ap (λ (l : List (KeptLine ShardMap)). slice_get l k) (sym (items ∙ is)) ∙ found)) [
         | inl p ↦
             (let same_colour : other ≡ colour =
             let e : Some other ≡ Some colour = sym here_then ∙ (ap (slice_get m.colours) p.0 ∙ there) in cc (e) in
-            subst (λ (x : KeptShard). IsShardOf c m.colours other x) p.1 (record {
+            subst (λ (x : KeptLine ShardMap). IsShardOf c m.colours other x) p.1 (record {
               colours_are = same.colours ∙ (of.shards place colour old there at).colours_are;
               shard_is = same.shard ∙ ((of.shards place colour old there at).shard_is ∙ sym same_colour);
-              folds = subst (λ (q : ℕ). Follows c q new.count (IsShardMap new.map)) (sym same_colour) folds;
+              folds = subst (λ (q : ℕ). Follows c q new.count (IsShardMap new.state)) (sym same_colour) folds;
             }))
         | inr q ↦ of.shards k other shard here_then q
       ]);
@@ -130,7 +133,7 @@ module _ (s : Store) (c d : Client) (colours key : List ℕ) (colour : ℕ) (val
 -- WITHIN THE MAP
 
 -- the shard of a colour
-pub shard_at : (c : Client) (m : LogMap) (place colour : ℕ) (old : KeptShard) → IsMapOf c m
+pub shard_at : (c : Client) (m : LogMap) (place colour : ℕ) (old : KeptLine ShardMap) → IsMapOf c m
     → slice_get m.colours place ≡ Some colour → old ≡ slice_index_or m.shards.items place old
     → slice_get m.shards.items place ≡ Some old
 shard_at c m place colour old of there is =
@@ -139,41 +142,41 @@ shard_at c m place colour old of there is =
     slice_get_read m.shards.items (length m.shards.items) place old refl (omega (arith, lt, many)) is
 
 -- what is folded of it
-pub shard_folds : (c : Client) (m : LogMap) (place colour : ℕ) (old : KeptShard) (line : List PlacedNode) → IsMapOf c m
+pub shard_folds : (c : Client) (m : LogMap) (place colour : ℕ) (old : KeptLine ShardMap) (line : List PlacedNode) → IsMapOf c m
     → slice_get m.colours place ≡ Some colour → old ≡ slice_index_or m.shards.items place old → line ≡ line_of c colour
-    → FoldsFirst line old.count (IsShardMap old.map)
+    → FoldsFirst line old.count (IsShardMap old.state)
 shard_folds c m place colour old line of there is here =
-    subst (λ (l : List PlacedNode). FoldsFirst l old.count (IsShardMap old.map)) (sym here)
+    subst (λ (l : List PlacedNode). FoldsFirst l old.count (IsShardMap old.state)) (sym here)
     (of.shards place colour old there (shard_at c m place colour old of there is)).folds
 
 -- and its value of a key
-pub shard_value_is : (c : Client) (m : LogMap) (place colour : ℕ) (old : KeptShard) (line : List PlacedNode)
+pub shard_value_is : (c : Client) (m : LogMap) (place colour : ℕ) (old : KeptLine ShardMap) (line : List PlacedNode)
     (key : List ℕ) (r : Result Value AllocError) → IsMapOf c m → slice_get m.colours place ≡ Some colour
     → old ≡ slice_index_or m.shards.items place old → line ≡ line_of c colour
-    → IfOk r (λ value. value ≡ shard_value old.map.colours old.map.shard (object_nodes line) key)
+    → IfOk r (λ value. value ≡ shard_value old.state.colours old.state.shard (object_nodes line) key)
     → IfOk r (λ value. value ≡ shard_value m.colours colour (object_nodes (line_of c colour)) key)
 shard_value_is c m place colour old line key r of there is here ok =
     let f = of.shards place colour old there (shard_at c m place colour old of there is) in
     subst (λ (l : List PlacedNode). IfOk r (λ value. value ≡ shard_value m.colours colour (object_nodes l) key)) here
     (subst (λ (k : ℕ). IfOk r (λ value. value ≡ shard_value m.colours k (object_nodes line) key)) f.shard_is
-    (subst (λ (cs : List ℕ). IfOk r (λ value. value ≡ shard_value cs old.map.shard (object_nodes line) key)) f.colours_are ok))
+    (subst (λ (cs : List ℕ). IfOk r (λ value. value ≡ shard_value cs old.state.shard (object_nodes line) key)) f.colours_are ok))
 
 -- the map with the shard that went on
-pub map_with : (c : Client) (m : LogMap) (place colour : ℕ) (old new : KeptShard) (line : List PlacedNode) → IsMapOf c m
+pub map_with : (c : Client) (m : LogMap) (place colour : ℕ) (old new : KeptLine ShardMap) (line : List PlacedNode) → IsMapOf c m
     → slice_get m.colours place ≡ Some colour → old ≡ slice_index_or m.shards.items place old → line ≡ line_of c colour
-    → HasShardOf old.map new.map → FoldsFirst line new.count (IsShardMap new.map)
+    → HasShardOf old.state new.state → FoldsFirst line new.count (IsShardMap new.state)
     → IsMapOf c (record m { shards = with_item m.shards place new })
 map_with c m place colour old new line of there is here same folds =
     map_folded c m place colour old new (set m.shards.items place new) of there (shard_at c m place colour old of there is) refl
-    same (subst (λ (l : List PlacedNode). FoldsFirst l new.count (IsShardMap new.map)) here folds)
+    same (subst (λ (l : List PlacedNode). FoldsFirst l new.count (IsShardMap new.state)) here folds)
     (record m { shards = with_item m.shards place new }) refl refl refl
 
 -- OPENED
 
 -- one shard more
-pub fresh_more : (colours : List ℕ) (n colour d : ℕ) (shards : List KeptShard) (shard : KeptShard) → n < length colours
-    → get_or colours n d ≡ colour → shard.map.colours ≡ colours → shard.map.shard ≡ colour → shard.count ≡ 0
-    → IsShardMap shard.map [] → AreFresh colours n shards → AreFresh colours (n + 1) (shards ++ shard ∷ [])
+pub fresh_more : (colours : List ℕ) (n colour d : ℕ) (shards : List (KeptLine ShardMap)) (shard : KeptLine ShardMap) → n < length colours
+    → get_or colours n d ≡ colour → shard.state.colours ≡ colours → shard.state.shard ≡ colour → shard.count ≡ 0
+    → IsShardMap shard.state [] → AreFresh colours n shards → AreFresh colours (n + 1) (shards ++ shard ∷ [])
 fresh_more colours n colour d shards shard lt is of_colours of_colour none empty f = record {
   many = let long = f.many in let more = length-append shards (shard ∷ []) in omega (arith, long, more);
   each = λ k other one there at. elim (split shards shard k one at) [
@@ -183,7 +186,7 @@ fresh_more colours n colour d shards shard lt is of_colours of_colour none empty
         let same : other ≡ colour =
         let e : Some other ≡ Some colour = sym there ∙ (ap (slice_get colours) here ∙ (at_get colours n d lt ∙ ap (λ (x : ℕ). Some x) is)) in
         cc (e) in
-        subst (λ (x : KeptShard). (x.map.colours ≡ colours) × (x.map.shard ≡ other) × (x.count ≡ 0) × IsShardMap x.map []) late.1
+        subst (λ (x : KeptLine ShardMap). (x.state.colours ≡ colours) × (x.state.shard ≡ other) × (x.count ≡ 0) × IsShardMap x.state []) late.1
         (of_colours, of_colour ∙ sym same, none, empty))
   ];
 } where
@@ -192,7 +195,7 @@ fresh_more colours n colour d shards shard lt is of_colours of_colour none empty
   at_get (x ∷ xs) zero e less = refl
   at_get (x ∷ xs) (suc k) e less = at_get xs k e (omega (arith, less))
 
-  split : (xs : List KeptShard) (x : KeptShard) (k : ℕ) (y : KeptShard) → slice_get (xs ++ x ∷ []) k ≡ Some y
+  split : (xs : List (KeptLine ShardMap)) (x : KeptLine ShardMap) (k : ℕ) (y : KeptLine ShardMap) → slice_get (xs ++ x ∷ []) k ≡ Some y
       → (slice_get xs k ≡ Some y) ⊎ ((k ≡ length xs) × (x ≡ y))
   split [] x zero y e = inr (refl, cc (e))
   split [] x (suc k) y e = absurd (let f : ⊥ = cc (e) in f)
@@ -210,6 +213,6 @@ opened c m are fresh = record {
   shards = λ n colour shard there at. let f = fresh.each n colour shard there at in record {
     colours_are = f.0;
     shard_is = f.1;
-    folds = folds_none (line_of c colour) shard.count (IsShardMap shard.map) f.2 f.3;
+    folds = folds_none (line_of c colour) shard.count (IsShardMap shard.state) f.2 f.3;
   };
 }

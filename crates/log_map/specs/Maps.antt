@@ -1,5 +1,7 @@
 -- What a map keeps beside its client, and what its gets answer.
 use Rattle.std.specs.Prelude.{◌≡◌, ℕ, List, [], length, Some, slice_get}
+use Rattle.object_fold.specs.declared.kept_line.KeptLine.{KeptLine}
+use Rattle.object_fold.specs.declared.shard_map.ShardMap.{ShardMap}
 use Rattle.object_fold.specs.Maps.{Value}
 use Rattle.object_fold.specs.States.{IsShardMap}
 use Rattle.col_core.specs.Log.{Log}
@@ -13,27 +15,26 @@ use Rattle.log_client.specs.declared.answers.Synced.{Synced}
 use Rattle.log_client.specs.Calls.{IsExplained}
 use Rattle.log_client.specs.StampedReads.{sync_piece}
 use Rattle.log_client.specs.Objects.{AreColours, Follows}
-use Rattle.log_map.specs.declared.kept_shard.KeptShard.{KeptShard}
 use Rattle.log_map.specs.declared.map.LogMap.{LogMap}
 
 -- The shard of a map with these colours that has this one is kept: what is folded are the first nodes of the own line that
 -- the client has played of it.
-pub record IsShardOf (c : Client) (colours : List ℕ) (colour : ℕ) (shard : KeptShard) : Type 0 where
-  pub colours_are : shard.map.colours ≡ colours
-  pub shard_is : shard.map.shard ≡ colour
-  pub folds : Follows c colour shard.count (IsShardMap shard.map)
+pub record IsShardOf (c : Client) (colours : List ℕ) (colour : ℕ) (shard : KeptLine ShardMap) : Type 0 where
+  pub colours_are : shard.state.colours ≡ colours
+  pub shard_is : shard.state.shard ≡ colour
+  pub folds : Follows c colour shard.count (IsShardMap shard.state)
 
 -- of each of the first so many of these colours there is a shard of a map with them, of which nothing is folded
-pub record AreFresh (colours : List ℕ) (count : ℕ) (shards : List KeptShard) : Type 0 where
+pub record AreFresh (colours : List ℕ) (count : ℕ) (shards : List (KeptLine ShardMap)) : Type 0 where
   pub many : length shards ≡ count
-  pub each : (n colour : ℕ) (shard : KeptShard) → slice_get colours n ≡ Some colour → slice_get shards n ≡ Some shard
-      → (shard.map.colours ≡ colours) × (shard.map.shard ≡ colour) × (shard.count ≡ 0) × IsShardMap shard.map []
+  pub each : (n colour : ℕ) (shard : KeptLine ShardMap) → slice_get colours n ≡ Some colour → slice_get shards n ≡ Some shard
+      → (shard.state.colours ≡ colours) × (shard.state.shard ≡ colour) × (shard.count ≡ 0) × IsShardMap shard.state []
 
 -- The map is kept beside the client: a shard for each of its colours, which are the client's.
 pub record IsMapOf (c : Client) (m : LogMap) : Type 0 where
   pub colours : AreColours c m.colours
   pub many : length m.shards.items ≡ length m.colours
-  pub shards : (n colour : ℕ) (shard : KeptShard) → slice_get m.colours n ≡ Some colour
+  pub shards : (n colour : ℕ) (shard : KeptLine ShardMap) → slice_get m.colours n ≡ Some colour
       → slice_get m.shards.items n ≡ Some shard → IsShardOf c m.colours colour shard
 
 -- the one map is the other one, and what is folded may differ

@@ -2,19 +2,20 @@
 ghost use Rattle.std.specs.Prelude.{◌≡◌, ◌≢◌, ◌<◌, IsTrue, ◌∷◌, [], length, Some, Err, IfOk, IfErr, slice_get};
 ghost use Rattle.std.specs.List.{Contains};
 ghost use Rattle.object_form.specs.Forms.{is_word, form_text};
-ghost use Rattle.object_fold.specs.Nodes.{shard_of};
+ghost use Rattle.object_fold.specs.Nodes.{object_nodes, shard_of};
 ghost use Rattle.object_fold.specs.Maps.{shard_value};
+ghost use Rattle.object_fold.specs.States.{IsShardMap, HasShardOf};
+ghost use Rattle.object_fold.specs.Folds.{FoldsFirst};
 ghost use Rattle.log_client.specs.Calls.{AnswersSync};
 ghost use Rattle.log_client.specs.Clients.{IsClient, Helps, line_of};
 ghost use Rattle.log_client.specs.Reading.{RestsOn};
-ghost use Rattle.log_client.specs.Objects.{AreColours, StandsIn, PutRefused, GetRefused, object_nodes};
+ghost use Rattle.log_client.specs.Objects.{AreColours, StandsIn, PutRefused, GetRefused};
 ghost use Rattle.log_map.specs.Maps.{IsMapOf, IsSameMap, Gets};
 
-use crate::kept_shard::KeptShard;
 use fuzzy_io::Gate;
 use log_client::{Appended, Client, ObjectFault, Store, Synced};
-use log_node::{ColourList, Form, ListOf, Text};
-use object_fold::shard_of;
+use log_node::{ColourList, Form, Item, ListOf, Text};
+use object_fold::{KeptLine, ShardMap, shard_of};
 use std::alloc::{AllocError, Global};
 use std::sync::Wait;
 
@@ -24,7 +25,7 @@ use std::sync::Wait;
 pub struct LogMap {
     pub(crate) home: u8,
     pub(crate) colours: ColourList,
-    pub(crate) shards: Vec<KeptShard>,
+    pub(crate) shards: Vec<KeptLine<ShardMap>>,
 }
 
 // Where a colour stands among colours.
@@ -38,6 +39,27 @@ fn place_of(colours: &[u8], colour: u8) -> usize
     }
 }
 
+// The value of a key after the nodes of the line of its shard, of which those that were folded are not folded again. Without
+// memory the fold has come a part of the way.
+fn value_kept(
+    shard: &mut KeptLine<ShardMap>,
+    alloc: Global,
+    line: &[Item],
+    key: &[u8],
+) -> Result<Option<Text>, AllocError>
+    requires { FoldsFirst line.now shard.old.count (IsShardMap shard.old.state) }
+    ensures shard { HasShardOf shard.old.state shard.new.state }
+    ensures folds { FoldsFirst line.now shard.new.count (IsShardMap shard.new.state) }
+    ensures value { IfOk result (λ value.
+        value ≡ shard_value shard.old.state.colours shard.old.state.shard (object_nodes line.now) key.now) }
+{
+    shard.fold_to(alloc, line, line.len())?;
+    match shard.state.get(key) {
+        None => Ok(None),
+        Some(value) => Ok(Some(Text::copied(alloc, value.as_bytes())?)),
+    }
+}
+
 impl LogMap {
     /// The map of these colours at a home, of which nothing is folded.
     pub fn open(alloc: Global, home: u8, colours: ColourList) -> Result<LogMap, AllocError>
@@ -47,7 +69,8 @@ impl LogMap {
         let mut shards = Vec::with_capacity(alloc, colours.len())?;
         for colour in colours.as_slice() {
             let copy = Vec::from_slice(alloc, colours.as_slice())?;
-            shards.push(KeptShard::open(alloc, ListOf::from(copy), *colour))?;
+            let shard = ShardMap::open(alloc, ListOf::from(copy), *colour);
+            shards.push(KeptLine::new(shard))?;
         }
         Ok(LogMap {
             home,
@@ -148,7 +171,7 @@ impl LogMap {
             value ≡ shard_value self.old.colours colour (object_nodes (line_of client.now colour)) key.now) }
     {
         let place = place_of(self.colours.as_slice(), colour);
-        self.shards[place].value(alloc, client.line(colour), key)
+        value_kept(&mut self.shards[place], alloc, client.line(colour), key)
     }
 
     /// The value of a key after what the client then plays of its shard, or none. Waits as a sync does; the gate is for appends

@@ -8,6 +8,7 @@ use Rattle.log_node.specs.Vectors.{at}
 use Rattle.object_fold.specs.Maps.{Value}
 use Rattle.object_fold.specs.Queues.{front_after}
 use Rattle.object_fold.specs.States.{IsQueue}
+use Rattle.object_fold.specs.Nodes.{object_nodes}
 use Rattle.col_core.specs.History.{line}
 use Rattle.col_core.specs.Keeping.{Kept, kept_after_sync}
 use Rattle.script_text.specs.declared.script.Object.{Object}
@@ -31,18 +32,18 @@ use Rattle.log_client.specs.Clients.{IsClient, Finished, Keeps, caller_of, holds
 use Rattle.log_client.specs.Calls.{AnswersSync, IsExplained, SyncsAs, SyncRefused, nodes_played}
 use Rattle.log_client.specs.Reading.{RestsOn}
 use Rattle.log_client.specs.Appends.{AppendsAs, piece_of}
-use Rattle.log_client.specs.Objects.{Follows, StandsIn, object_nodes}
-use Rattle.log_client.proofs.CallerLemmas.{at_one, explained_then, first_position, fits_less, folds_none, follows_later, line_counted, first_are_own, one_known, one_started, stamps_played, stands_behind, sync_hidden, sync_leaves, tracks_long, unread_leaves}
+use Rattle.log_client.specs.Objects.{StandsIn}
+use Rattle.log_client.proofs.CallerLemmas.{at_one, explained_then, first_position, fits_less, folds_none, follows_later, line_counted, first_are_own, one_known, one_started, stamps_played, stands_behind, sync_hidden, tracks_long, unfolded_leaves, unread_leaves}
 use Rattle.log_queue.specs.declared.queue.LogQueue.{LogQueue}
 use Rattle.log_queue.specs.Queues.{DeqRefused, Dequeues, IsQueueOf, TakesAs, dequeue_text}
 
 -- a queue of which nothing is folded
-pub opened : (c : Client) (q : LogQueue) (colour : ℕ) → q.colour ≡ colour → q.kept.count ≡ 0 → IsQueue q.kept.queue []
+pub opened : (c : Client) (q : LogQueue) (colour : ℕ) → q.colour ≡ colour → q.kept.count ≡ 0 → IsQueue q.kept.state []
     → colour < length (tracks_of c) → colour < MAX_COLOURS → IsQueueOf c q
 opened c q colour is none empty lt few = record {
   colour = subst (λ (n : ℕ). n < length (tracks_of c)) (sym is) lt;
   few = subst (λ (n : ℕ). n < MAX_COLOURS) (sym is) few;
-  folds = folds_none (line_of c q.colour) q.kept.count (IsQueue q.kept.queue) none empty;
+  folds = folds_none (line_of c q.colour) q.kept.count (IsQueue q.kept.state) none empty;
 }
 
 -- what is kept stays right
@@ -50,7 +51,7 @@ pub queue_later : (s : Store) (c d : Client) (q : LogQueue) → IsClient s c →
 queue_later s c d q is on of = record {
   colour = let lt = of.colour in let same = tracks_long s c d is on.client in omega (arith, lt, same);
   few = of.few;
-  folds = follows_later c d q.colour q.kept.count (IsQueue q.kept.queue) on.grows of.folds;
+  folds = follows_later c d q.colour q.kept.count (IsQueue q.kept.state) on.grows of.folds;
 }
 
 -- the front after the nodes before the point
@@ -89,14 +90,14 @@ module _ (s : Store) (c m d : Client) (colour : ℕ) (a : Appended) (is : IsClie
       → DeqRefused home s c d colour (faults.Unread stamp fault)
   deq_unread home stamp fault same why =
       subst (λ (n : ℕ). DeqRefused home s c d colour (faults.Unread n fault)) (sym same)
-      (unread_leaves s c m d colour dequeue_text a fault x y stands (sync_leaves s m d colour fault why))
+      (unread_leaves s c m d colour dequeue_text a x y stands fault why)
 
   pub deq_unfolded : (home : ℕ) (stamp : ℕ) (z : Synced) → stamp ≡ a.stood.key.stamp
       → IsExplained s m d (SyncsAs d colour z)
       → DeqRefused home s c d colour (faults.Unread stamp sync_faults.NoMemory)
   deq_unfolded home stamp z same e =
       subst (λ (n : ℕ). DeqRefused home s c d colour (faults.Unread n sync_faults.NoMemory)) (sym same)
-      (unread_leaves s c m d colour dequeue_text a sync_faults.NoMemory x y stands (sync_hidden s m d colour z e))
+      (unfolded_leaves s c m d colour dequeue_text a x y stands (sync_hidden s m d colour z e))
 
   -- it was answered
   module _ (count : ℕ) (lt : colour < length (tracks_of c)) (within : count ≤ length (line_of c colour)) (z : Synced)

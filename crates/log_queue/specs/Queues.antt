@@ -32,7 +32,7 @@ use Rattle.log_queue.specs.declared.queue.LogQueue.{LogQueue}
 pub record IsQueueOf (c : Client) (q : LogQueue) : Type 0 where
   pub colour : q.colour < length (tracks_of c)
   pub few : q.colour < MAX_COLOURS
-  pub folds : Follows c q.colour q.kept.count (IsQueue q.kept.queue)
+  pub folds : Follows c q.colour q.kept.count (IsQueue q.kept.state)
 
 -- the text of a dequeue's node
 abbrev pub dequeue_text : List ℕ

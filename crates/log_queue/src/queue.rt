@@ -1,16 +1,21 @@
 // The queue.
-ghost use Rattle.std.specs.Prelude.{◌≡◌, ◌≢◌, ◌<◌, IsTrue, ◌∷◌, [], length, map, Some, Err, IfOk, IfErr, MatchResult};
+ghost use Rattle.std.specs.Prelude.{◌≡◌, ◌≢◌, ◌<◌, ◌≤◌, IsTrue, ◌∷◌, [], length, map, take, Some, Err, IfOk, IfErr, MatchResult, OnErr};
 ghost use Rattle.object_form.specs.Forms.{is_word, form_text};
+ghost use Rattle.object_fold.specs.Nodes.{object_nodes};
+ghost use Rattle.object_fold.specs.Queues.{front_after};
+ghost use Rattle.object_fold.specs.States.{IsQueue};
+ghost use Rattle.object_fold.specs.Folds.{FoldsFirst};
 ghost use Rattle.append_core.specs.declared.stood.Point.{Point};
+ghost use Rattle.log_client.specs.Calls.{AnswersSync};
 ghost use Rattle.log_client.specs.Clients.{IsClient, tracks_of};
 ghost use Rattle.log_client.specs.Reading.{RestsOn};
 ghost use Rattle.log_client.specs.Objects.{StandsIn, PutRefused};
 ghost use Rattle.log_queue.specs.Queues.{IsQueueOf, Dequeues, DeqRefused, dequeue_text};
 
-use crate::kept_queue::KeptQueue;
 use fuzzy_io::Gate;
 use log_client::{Appended, Client, ObjectFault, Store, SyncFault, Synced};
-use log_node::{Form, MAX_COLOURS, Text};
+use log_node::{Form, Item, MAX_COLOURS, Text};
+use object_fold::{KeptLine, ValueQueue};
 use std::alloc::{AllocError, Global};
 use std::sync::Wait;
 
@@ -20,12 +25,33 @@ use std::sync::Wait;
 pub struct LogQueue {
     pub(crate) home: u8,
     pub(crate) colour: u8,
-    pub(crate) kept: KeptQueue,
+    pub(crate) kept: KeptLine<ValueQueue>,
+}
+
+// The front after this many first nodes of the line, of which those that were folded are not folded again. Without memory the
+// fold has come a part of the way.
+fn front(
+    kept: &mut KeptLine<ValueQueue>,
+    alloc: Global,
+    line: &[Item],
+    end: usize,
+) -> Result<Option<Text>, AllocError>
+    requires { FoldsFirst line.now kept.old.count (IsQueue kept.old.state) }
+    ensures folds { FoldsFirst line.now kept.new.count (IsQueue kept.new.state) }
+    ensures value { IfOk result (λ value. kept.old.count ≤ end → end ≤ length line.now
+        → value ≡ front_after (object_nodes (take end line.now))) }
+{
+    kept.fold_to(alloc, line, end)?;
+    match kept.state.front() {
+        None => Ok(None),
+        Some(front) => Ok(Some(Text::copied(alloc, front.as_bytes())?)),
+    }
 }
 
 impl LogQueue {
     /// The queue of a colour at a home, of which nothing is folded. Takes no memory.
     pub fn open(alloc: Global, home: u8, colour: u8) -> Result<LogQueue, AllocError>
+        ensures memory { OnErr result ⊥ }
         ensures of { IfOk result (λ queue. (queue.home ≡ home) × (queue.colour ≡ colour)) }
         ensures queue { (client : Client) → colour < length (tracks_of client) → colour < MAX_COLOURS
             → IfOk result (IsQueueOf client) }
@@ -33,7 +59,7 @@ impl LogQueue {
         Ok(LogQueue {
             home,
             colour,
-            kept: KeptQueue::new(alloc),
+            kept: KeptLine::new(ValueQueue::new(alloc)),
         })
     }
 
@@ -84,6 +110,7 @@ impl LogQueue {
         ensures queue { IsQueueOf client.new self.new }
         ensures same { (self.new.home ≡ self.old.home) × (self.new.colour ≡ self.old.colour) }
         ensures ok { IfOk result (λ r. Dequeues store.now client.old client.new self.old.colour r.0 r.1 r.2) }
+        ensures played { IfOk result (λ r. AnswersSync client.old client.new self.old.colour r.2) }
         ensures away { client.old.region ≢ self.old.home → result ≡ Err (ObjectFault.NotHome self.old.home) }
         ensures err { IfErr result (DeqRefused self.old.home store.now client.old client.new self.old.colour) }
     {
@@ -117,11 +144,12 @@ impl LogQueue {
             → MatchResult result
             (λ r. Dequeues store.now before client.new self.old.colour r.0 r.1 r.2)
             (DeqRefused self.old.home store.now before client.new self.old.colour) }
+        ensures played { IfOk result (λ r. AnswersSync client.old client.new self.old.colour r.2) }
     {
         let stamp = appended.stood.key.stamp;
         let position = appended.stood.points.as_slice()[0].position as usize;
         match client.sync(rt, alloc, store, self.colour) {
-            Ok(synced) => match self.kept.front(alloc, client.line(self.colour), position) {
+            Ok(synced) => match front(&mut self.kept, alloc, client.line(self.colour), position) {
                 Ok(value) => Ok((value, appended, synced)),
                 Err(_) => Err(ObjectFault::Unread {
                     stamp,

@@ -6,6 +6,7 @@ use Rattle.log_node.specs.declared.ids.Colours.{Colours}
 use Rattle.log_node.specs.declared.ids.Key.{Key}
 use Rattle.log_node.specs.Sets.{members}
 use Rattle.object_fold.specs.Nodes.{ObjectNode, nodes_before}
+use Rattle.object_fold.specs.Folds.{told_among, told_of}
 use Rattle.lawful_run.specs.Asks.{rising, shards}
 use Rattle.log_client.specs.declared.store.Store.{Store}
 use Rattle.log_client.specs.declared.client.Client.{Client}
@@ -15,7 +16,6 @@ use Rattle.log_client.specs.declared.object_fault.ObjectFault.{ObjectFault}
 use Rattle.log_client.specs.declared.object_fault.ObjectFault.TheVariants as faults
 use Rattle.log_client.specs.Calls.{IsExplained}
 use Rattle.log_client.proofs.CallerLemmas.{explained_less}
-use Rattle.region_fold.specs.Folds.{told_among, told_of}
 use Rattle.region_fold.specs.Reads.{HasNodes, IsOwn, ReadsNodes, TellRefused, TellsOwn}
 use Rattle.tree_fold.specs.declared.change.Change.{Change}
 use Rattle.tree_fold.specs.declared.change.Change.TheVariants.{Make, Remove, Move}

@@ -3,6 +3,7 @@ use Rattle.std.specs.Prelude.{◌≡◌, ℕ, List, take, ◌++◌, Option, Some
 use Rattle.log_node.specs.declared.ids.Colours.{Colours}
 use Rattle.log_node.specs.declared.ids.Key.{Key}
 use Rattle.log_node.specs.Sets.{members}
+use Rattle.object_fold.specs.Folds.{last_before, told_of}
 use Rattle.col_core.specs.Log.{Log}
 use Rattle.col_core.specs.Keeping.{Kept}
 use Rattle.lawful_run.specs.Asks.{rising, shards}
@@ -17,7 +18,6 @@ use Rattle.log_client.specs.Appends.{AppendsAs}
 use Rattle.log_client.specs.Calls.{IsExplained}
 use Rattle.log_client.specs.StampedReads.{ReadHidden, ReadRefused}
 use Rattle.log_client.specs.Objects.{AreColours, IsAwayFrom, StandsNot}
-use Rattle.region_fold.specs.Folds.{last_before, told_of}
 use Rattle.region_fold.specs.Reads.{HasNodes, KeepsFold, UntoldLeaves}
 use Rattle.tree_fold.specs.declared.change.Change.{Change}
 use Rattle.tree_fold.specs.declared.change.Change.TheVariants.{Make, Remove, Move}
@@ -31,7 +31,7 @@ use Rattle.log_tree.specs.Folded.{HasTree, telling}
 -- all of them.
 pub record IsTreeOf (c : Client) (t : LogTree) : Type 0 where
   pub colours : AreColours c t.colours
-  pub folds : KeepsFold HasTree c (rising t.colours) t.kept
+  pub folds : KeepsFold HasTree c (rising t.colours) t.fold.kept
 
 -- the one tree is the other one, and what is folded may differ
 abbrev pub IsSameTree : LogTree → LogTree → Type 0

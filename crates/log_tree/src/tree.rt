@@ -1,8 +1,9 @@
 // The tree over a client.
-ghost use Rattle.std.specs.Prelude.{◌≡◌, ◌≢◌, ◌++◌, List, map, Err, IfOk, IfErr};
+ghost use Rattle.std.specs.Prelude.{◌≡◌, ◌≢◌, ◌++◌, List, map, None, Err, IfOk, IfErr};
 ghost use Rattle.lawful_run.specs.Asks.{rising, shards};
 ghost use Rattle.object_fold.specs.Nodes.{ObjectNode};
 ghost use Rattle.append_core.specs.declared.stood.Point.{Point};
+ghost use Rattle.log_client.specs.Calls.{AnswersEach};
 ghost use Rattle.log_client.specs.Clients.{IsClient};
 ghost use Rattle.log_client.specs.Reading.{RestsOn, raised_colours, synced_colours};
 ghost use Rattle.log_client.specs.StampedReads.{ReadHidden};
@@ -16,7 +17,7 @@ use crate::folded::Folded;
 use fuzzy_io::Gate;
 use log_client::{Appended, Client, ObjectFault, StampedRead, Store, key_shards};
 use log_node::{ColourList, Keys, ListOf, Names, Text};
-use region_fold::KeptFold;
+use region_fold::RegionFold;
 use std::alloc::{AllocError, Global};
 use std::sync::Wait;
 use tree_fold::{Change, Path, Told, reads_back, write_change};
@@ -27,7 +28,7 @@ use tree_fold::{Change, Path, Told, reads_back, write_change};
 pub struct LogTree {
     pub(crate) home: u8,
     pub(crate) colours: ColourList,
-    pub(crate) kept: KeptFold<Folded>,
+    pub(crate) fold: RegionFold<Folded>,
 }
 
 // The keys and the first name of a path, if it has one.
@@ -61,12 +62,13 @@ impl LogTree {
     /// The tree of these colours at a home, of which nothing is folded. Takes no memory.
     pub fn open(alloc: Global, home: u8, colours: ColourList) -> LogTree
         ensures of { (result.home ≡ home) × (result.colours ≡ colours) }
+        ensures last { result.fold.kept.last ≡ None }
         ensures tree { (client : Client) → AreColours client colours → IsTreeOf client result }
     {
         LogTree {
             home,
             colours,
-            kept: KeptFold::open(alloc),
+            fold: RegionFold::open(alloc),
         }
     }
 
@@ -83,10 +85,11 @@ impl LogTree {
         ensures client { RestsOn store.now client.old client.new }
         ensures tree { IsTreeOf client.new self.new }
         ensures same { IsSameTree self.old self.new }
-        ensures ok { IfOk result (λ read. ReadsNodes store.now client.old client.new self.old.colours self.old.kept.last read
-            (HasTree self.new.kept.state)) }
+        ensures ok { IfOk result (λ read. ReadsNodes store.now client.old client.new self.old.colours self.old.fold.kept.last read
+            (HasTree self.new.fold.kept.state)) }
         ensures raises { IfOk result (λ read. raised_colours read.raises ≡ rising self.old.colours) }
         ensures syncs { IfOk result (λ read. synced_colours read.syncs ≡ rising self.old.colours) }
+        ensures played { IfOk result (λ read. AnswersEach client.old client.new read.syncs) }
         ensures hidden { IfOk result (λ read. ReadHidden store.now client.old client.new (rising self.old.colours)) }
         ensures away { client.old.region ≢ self.old.home → result ≡ Err (ObjectFault.NotHome self.old.home) }
         ensures err { IfErr result (LookRefused self.old.home store.now client.old client.new self.old.colours) }
@@ -95,7 +98,7 @@ impl LogTree {
             return Err(ObjectFault::NotHome { home: self.home });
         }
         match self
-            .kept
+            .fold
             .read(rt, alloc, client, store, self.colours.as_slice())
         {
             Ok(read) => Ok(read),
@@ -120,12 +123,13 @@ impl LogTree {
         ensures client { RestsOn store.now client.old client.new }
         ensures tree { IsTreeOf client.new self.new }
         ensures same { IsSameTree self.old self.new }
-        ensures ok { IfOk result (λ r. Changes store.now client.old client.new self.old.colours self.old.kept.last change.now
+        ensures ok { IfOk result (λ r. Changes store.now client.old client.new self.old.colours self.old.fold.kept.last change.now
             r.0 r.1 r.2) }
         ensures points { IfOk result (λ r. map (λ (p : Point). p.colour) r.1.stood.points
             ≡ shards self.old.colours (change_keys change.now)) }
         ensures raises { IfOk result (λ r. raised_colours r.2.raises ≡ rising self.old.colours) }
         ensures syncs { IfOk result (λ r. synced_colours r.2.syncs ≡ rising self.old.colours) }
+        ensures played { IfOk result (λ r. AnswersEach client.old client.new r.2.syncs) }
         ensures away { client.old.region ≢ self.old.home → result ≡ Err (ObjectFault.NotHome self.old.home) }
         ensures err { IfErr result (ChangeRefused self.old.home store.now client.old client.new self.old.colours change.now) }
     {
@@ -141,8 +145,8 @@ impl LogTree {
         let Ok(text) = write_change(alloc, change) else {
             return Err(ObjectFault::NoMemory);
         };
-        let kept = &mut self.kept;
-        match kept.append_and_read(rt, alloc, client, store, gate, colours, set, text) {
+        let fold = &mut self.fold;
+        match fold.append_and_read(rt, alloc, client, store, gate, colours, set, text) {
             Ok((told, own, read)) => {
                 let stamp = own.stood.key.stamp;
                 Ok((told.unwrap_or(Told::Done { stamp }), own, read))
@@ -168,15 +172,16 @@ impl LogTree {
         ensures client { RestsOn store.now client.old client.new }
         ensures tree { IsTreeOf client.new self.new }
         ensures same { IsSameTree self.old self.new }
-        ensures ok { IfOk result (λ r. ReadsNodes store.now client.old client.new self.old.colours self.old.kept.last r.1
+        ensures ok { IfOk result (λ r. ReadsNodes store.now client.old client.new self.old.colours self.old.fold.kept.last r.1
             (NamesAfter path.now r.0)) }
         ensures raises { IfOk result (λ r. raised_colours r.1.raises ≡ rising self.old.colours) }
         ensures syncs { IfOk result (λ r. synced_colours r.1.syncs ≡ rising self.old.colours) }
+        ensures played { IfOk result (λ r. AnswersEach client.old client.new r.1.syncs) }
         ensures away { client.old.region ≢ self.old.home → result ≡ Err (ObjectFault.NotHome self.old.home) }
         ensures err { IfErr result (LookRefused self.old.home store.now client.old client.new self.old.colours) }
     {
         match self.look(rt, alloc, client, store) {
-            Ok(read) => match self.kept.state().tree.names(alloc, path) {
+            Ok(read) => match self.fold.state().tree.names(alloc, path) {
                 Ok(names) => Ok((names, read)),
                 Err(_) => Err(ObjectFault::NoMemory),
             },
@@ -199,15 +204,16 @@ impl LogTree {
         ensures client { RestsOn store.now client.old client.new }
         ensures tree { IsTreeOf client.new self.new }
         ensures same { IsSameTree self.old self.new }
-        ensures ok { IfOk result (λ r. ReadsNodes store.now client.old client.new self.old.colours self.old.kept.last r.1
+        ensures ok { IfOk result (λ r. ReadsNodes store.now client.old client.new self.old.colours self.old.fold.kept.last r.1
             (ValueAfter path.now r.0)) }
         ensures raises { IfOk result (λ r. raised_colours r.1.raises ≡ rising self.old.colours) }
         ensures syncs { IfOk result (λ r. synced_colours r.1.syncs ≡ rising self.old.colours) }
+        ensures played { IfOk result (λ r. AnswersEach client.old client.new r.1.syncs) }
         ensures away { client.old.region ≢ self.old.home → result ≡ Err (ObjectFault.NotHome self.old.home) }
         ensures err { IfErr result (LookRefused self.old.home store.now client.old client.new self.old.colours) }
     {
         match self.look(rt, alloc, client, store) {
-            Ok(read) => match self.kept.state().value(alloc, path) {
+            Ok(read) => match self.fold.state().value(alloc, path) {
                 Ok(value) => Ok((value, read)),
                 Err(_) => Err(ObjectFault::NoMemory),
             },

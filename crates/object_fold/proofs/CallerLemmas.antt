@@ -1,2 +1,3 @@
 -- What callers may cite of this crate's proofs; all else there is private.
 pub use Rattle.object_fold.proofs.Versions.{versions_fit}
+pub use Rattle.object_fold.proofs.FoldLemmas.{found_cond, found_there, passed_cond}

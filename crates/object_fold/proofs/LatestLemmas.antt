@@ -18,6 +18,7 @@ use Rattle.object_fold.specs.Causal.{ChainNode, Follows, IsLatestWrite, written_
 use Rattle.object_fold.specs.Pasts.{past_chain, at_once, past_of, ArePasts, IsNext}
 use Rattle.object_fold.specs.CausalStates.{latest_write, HoldsLatest, latest_at, not_followed, change_by, latest_with}
 use Rattle.object_fold.proofs.PastLemmas.{grow, shrink, to_new, from_new, newest, own_position}
+use Rattle.log_node.proofs.CallerLemmas.{contains_none as none_contained}
 
 -- ---- filters
 
@@ -47,9 +48,6 @@ filter_mapped f p (x ∷ xs) =
 
 each : {A : Type 0} (P : A → Type 0) (xs : List A) → ((x : A) → Contains xs x → P x) → AllByRecursion P xs
 each P xs f = recursion_from_All P xs (λ k d lt. f (get_or xs k d) (Contains-get_or xs k d lt))
-
-none_contained : {A : Type 0} (x : A) → Contains [] x → ⊥
-none_contained x c = omega (arith, c.1)
 
 -- ---- no node
 

@@ -6,4 +6,5 @@ mod PastLemmas
 mod LatestLemmas
 mod CausalLemmas
 mod Versions
+mod FoldLemmas
 pub mod CallerLemmas

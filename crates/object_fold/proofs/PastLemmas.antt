@@ -12,6 +12,10 @@ use Rattle.log_node.specs.Vectors.{at, vector, zeros}
 use Rattle.object_fold.specs.Causal.{ChainNode, FollowsAtOnce, Follows}
 use Rattle.object_fold.specs.Causal.Follows.{at_once as at_once_of, through}
 use Rattle.object_fold.specs.Pasts.{past_chain, joined, at_once, last_past, past_of, IsPast, ArePasts, IsNext}
+use Rattle.log_node.proofs.CallerLemmas.{same_some as some_same}
+use Rattle.log_node.proofs.CallerLemmas.{get_push}
+use Rattle.log_node.proofs.CallerLemmas.{get_longer as get_left}
+use Rattle.log_node.proofs.CallerLemmas.{get_last}
 
 -- ---- vectors
 
@@ -150,9 +154,6 @@ zero_at (suc (suc (suc (suc t)))) n h = omega arith
 -- a vector at a place that is known by its numbers
 at_place : (pasts : List (List Counts)) (b : ChainNode) (r q : ℕ) (w : Counts) → b.region ≡ r → b.position ≡ q → slice_get (past_chain pasts b.region) b.position ≡ Some w → slice_get (past_chain pasts r) q ≡ Some w
 at_place pasts b r q w e f h = rw (← e, ← f) h
-
-some_same : {A : Type 0} {x y : A} → Some x ≡ Some y → x ≡ y
-some_same e = cc
 
 module _ (pasts : List (List Counts)) (played : List ChainNode) (node : ChainNode) (known : ArePasts pasts played) (next : IsNext played node) where
   -- no played node follows the new one
@@ -326,24 +327,6 @@ module _ (pasts : List (List Counts)) (played : List ChainNode) (node : ChainNod
         | inl small ↦ rw same (below_new s.0 s.1 (omega (arith, s.2, next.region)) before t small)
         | inr beyond ↦ let w = k.within t in rw same (omega (arith, w, chain_end pasts t known.four beyond))
       ]
-
-get_left : {A : Type 0} (xs ys : List A) (i : ℕ) (v : A) → slice_get xs i ≡ Some v → slice_get (xs ++ ys) i ≡ Some v
-get_left [] ys i v h = absurd cc
-get_left (x ∷ xs) ys zero v h = h
-get_left (x ∷ xs) ys (suc i) v h = get_left xs ys i v h
-
-get_last : {A : Type 0} (xs : List A) (y : A) → slice_get (xs ++ y ∷ []) (length xs) ≡ Some y
-get_last [] y = refl
-get_last (x ∷ xs) y = get_last xs y
-
-get_push : {A : Type 0} (xs : List A) (y : A) (i : ℕ) (v : A) → slice_get (xs ++ y ∷ []) i ≡ Some v → (slice_get xs i ≡ Some v) ⊎ ((i ≡ length xs) × (y ≡ v))
-get_push [] y zero v h = inr (refl, some_same h)
-get_push [] y (suc i) v h = absurd cc
-get_push (x ∷ xs) y zero v h = inl h
-get_push (x ∷ xs) y (suc i) v h = elim (get_push xs y i v h) [
-  | inl old ↦ inl old
-  | inr new ↦ inr (ap suc new.0, new.1)
-]
 
 count_push : {A : Type 0} (p : A → Bool) (xs : List A) (x : A) → count_by p (xs ++ x ∷ []) ≡ count_by p xs + cond (p x) 1 0
 count_push p xs x = fold_push (λ n y. n + cond (p y) 1 0) 0 xs x

@@ -7,3 +7,4 @@ pub mod Tables
 pub mod Pasts
 pub mod States
 pub mod CausalStates
+pub mod Folds

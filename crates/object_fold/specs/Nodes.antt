@@ -1,8 +1,9 @@
 -- Nodes as objects read them, and the shard of a key.
-use Rattle.std.specs.Prelude.{ℕ, ◌%◌, not, List, filter, length, sum, slice_index}
+use Rattle.std.specs.Prelude.{ℕ, ◌%◌, not, List, filter, length, map, sum, slice_index}
 use Rattle.std.specs.List.{take_while}
 use Rattle.log_node.specs.declared.ids.Key.{Key}
 use Rattle.log_node.specs.declared.ids.Colours.{Colours}
+use Rattle.log_node.specs.declared.node.Node.{Node}
 use Rattle.log_node.specs.Order.{same_key}
 use Rattle.log_node.specs.Sets.{has}
 use Rattle.log_node.specs.Seen.{PlacedNode}
@@ -13,9 +14,17 @@ pub record ObjectNode : Type 0 where
   pub colours : Colours
   pub text : List ℕ
 
+-- of a node that stands under a key
+abbrev pub keyed_node : Key → Node → ObjectNode
+keyed_node key node = record { key = key; colours = node.colours; text = node.text }
+
 -- of a node as a column has it
 abbrev pub object_node : PlacedNode → ObjectNode
-object_node item = record { key = item.head.key; colours = item.node.colours; text = item.node.text }
+object_node item = keyed_node item.head.key item.node
+
+-- nodes as objects read them
+abbrev pub object_nodes : List PlacedNode → List ObjectNode
+object_nodes nodes = map object_node nodes
 
 -- the nodes of a list before the one with this key
 abbrev pub nodes_before : Key → List ObjectNode → List ObjectNode

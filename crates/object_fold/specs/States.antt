@@ -52,6 +52,7 @@ IsTxState state nodes = HoldsWrites state.written.entries (writes_after nodes)
 abbrev pub value_in : List (List ℕ × Written) → List ℕ → Value
 value_in entries key = option_map (λ w. w.value) (value_at entries key)
 
+-- the key of its last committed writer
 abbrev pub writer_in : List (List ℕ × Written) → List ℕ → Option Key
 writer_in entries key = option_map (λ w. w.writer) (value_at entries key)
 

@@ -116,6 +116,10 @@ form_verdict key writes forms.Dequeue = None
 form_verdict key writes (forms.Causal other value) = None
 form_verdict key writes forms.Plain = None
 
+-- the verdict on a node behind these, if it is a transaction
+abbrev pub ruling : List ObjectNode → ObjectNode → Option Verdict
+ruling nodes node = form_verdict node.key (writes_after nodes) (form_of node.text)
+
 -- the verdict on a node after the nodes before it among these, if there is such a node and it is a transaction
 abbrev pub verdict_among : List ObjectNode → Option ObjectNode → Option Verdict
 verdict_among nodes None = None

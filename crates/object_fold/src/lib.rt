@@ -2,6 +2,9 @@
 #![tactic(auto)]
 
 mod causal_map;
+mod fold;
+mod kept_fold;
+mod kept_line;
 mod pasts;
 mod queue;
 mod several_keys;
@@ -13,6 +16,9 @@ mod tx_state;
 mod verdict;
 
 pub use causal_map::{CausalMap, LatestWrite};
+pub use fold::{LineFold, NodeFold};
+pub use kept_fold::KeptFold;
+pub use kept_line::KeptLine;
 pub use queue::ValueQueue;
 pub use several_keys::{Values, values_among};
 pub use shard_map::ShardMap;

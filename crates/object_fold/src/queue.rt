@@ -6,7 +6,8 @@ ghost use Rattle.object_fold.specs.Nodes.{ObjectNode};
 ghost use Rattle.object_fold.specs.Queues.{queue_with, answer_with, front_after, queue_after};
 ghost use Rattle.object_fold.specs.States.{IsQueue};
 
-use log_node::{Form, Text};
+use crate::fold::LineFold;
+use log_node::{Form, Key, Node, Text};
 use object_form::read_form;
 use std::alloc::{AllocError, Global};
 use std::collections::VecDeque;
@@ -74,5 +75,18 @@ impl ValueQueue {
         ensures { (nodes : List ObjectNode) → IsQueue self.now nodes → option_copied result ≡ front_after nodes }
     {
         self.waiting.front()
+    }
+}
+
+impl LineFold for ValueQueue {
+    ghost Holds = { IsQueue };
+
+    ghost Opened = { Unit {0} };
+
+    ghost opened = { λ _. tt };
+
+    fn feed(&mut self, alloc: Global, _key: Key, node: &Node) -> Result<(), AllocError> {
+        let _answer = self.feed(alloc, &node.text)?;
+        Ok(())
     }
 }

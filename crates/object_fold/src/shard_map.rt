@@ -7,9 +7,10 @@ ghost use Rattle.object_fold.specs.Tables.{value_at};
 ghost use Rattle.object_fold.specs.Maps.{value_with, set_pairs, shard_value};
 ghost use Rattle.object_fold.specs.States.{IsShardMap, HasShardOf, is_mine, mine_with};
 
+use crate::fold::LineFold;
 use crate::shards::shard_of;
 use crate::table::Table;
-use log_node::{ColourList, Form, Pair, Pairs, Text};
+use log_node::{ColourList, Form, Key, Node, Pair, Pairs, Text};
 use object_form::read_form;
 use std::alloc::{AllocError, Global};
 
@@ -126,5 +127,17 @@ impl ShardMap {
     {
         let form = read_form(alloc, text)?;
         self.apply(form)
+    }
+}
+
+impl LineFold for ShardMap {
+    ghost Holds = { IsShardMap };
+
+    ghost Opened = { List ℕ × ℕ };
+
+    ghost opened = { λ map. (map.colours, map.shard) };
+
+    fn feed(&mut self, alloc: Global, _key: Key, node: &Node) -> Result<(), AllocError> {
+        self.feed(alloc, &node.text)
     }
 }

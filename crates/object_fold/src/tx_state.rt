@@ -5,9 +5,10 @@ ghost use Rattle.std.specs.Option.{option_copied};
 ghost use Rattle.object_form.specs.Readings.{form_of};
 ghost use Rattle.object_fold.specs.Nodes.{ObjectNode};
 ghost use Rattle.object_fold.specs.Tables.{value_at};
-ghost use Rattle.object_fold.specs.Transactions.{Write, is_same_writer, stamp_of, value_of, writer_of, writes_after, writes_with, values_after, versions_after, verdict_on, form_verdict, ruled};
+ghost use Rattle.object_fold.specs.Transactions.{Write, is_same_writer, stamp_of, value_of, writer_of, writes_after, writes_with, values_after, versions_after, verdict_on, form_verdict, ruled, ruling};
 ghost use Rattle.object_fold.specs.States.{HoldsWrites, IsTxState, value_in, writer_in, differs_in, written_pairs};
 
+use crate::fold::NodeFold;
 use crate::several_keys::Values;
 use crate::table::Table;
 use crate::verdict::Verdict;
@@ -216,5 +217,26 @@ impl TxState {
             versions.push(Version { key, writer })?;
         }
         Ok(versions)
+    }
+}
+
+impl NodeFold for TxState {
+    type Told = Verdict;
+
+    ghost Holds = { IsTxState };
+
+    ghost told = { ruling };
+
+    fn open(alloc: Global) -> Self {
+        TxState::new(alloc)
+    }
+
+    fn feed(
+        &mut self,
+        alloc: Global,
+        key: Key,
+        text: &Text,
+    ) -> Result<Option<Verdict>, AllocError> {
+        self.feed(alloc, key, text)
     }
 }

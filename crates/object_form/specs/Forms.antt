@@ -9,21 +9,27 @@ use Rattle.log_node.specs.declared.forms.Version.{Version}
 use Rattle.log_node.specs.declared.forms.Form.{Form}
 use Rattle.log_node.specs.declared.forms.Form.TheVariants as forms
 
+-- the sign between two pairs, and between two versions
 abbrev pub comma : ℕ
 comma = 44
 
+-- the sign for no writer
 abbrev pub dash : ℕ
 dash = 45
 
+-- the sign between a writer's stamp, client and count
 abbrev pub dot : ℕ
 dot = 46
 
+-- the sign between a key and its value
 abbrev pub equals : ℕ
 equals = 61
 
+-- the sign between a key that was read and its writer
 abbrev pub at_sign : ℕ
 at_sign = 64
 
+-- the sign between what a transaction read and what it writes
 abbrev pub bar : ℕ
 bar = 124
 

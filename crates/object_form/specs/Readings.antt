@@ -26,6 +26,7 @@ parts bytes = slice_split (λ b. b == comma) bytes
 abbrev pub pieces_in : List (Bor (List ℕ)) → List (List ℕ)
 pieces_in pieces = map (λ piece. piece.now) pieces
 
+-- a decimal digit
 abbrev pub is_digit : ℕ → Bool
 is_digit b = nat_le 48 b && nat_le b 57
 
@@ -34,6 +35,7 @@ abbrev pub is_number : List ℕ → Bool
 is_number [] = false
 is_number (b ∷ bs) = list_all is_digit (b ∷ bs) && (nat_le 49 b || (length bs == 0)) && nat_le (length bs) 18
 
+-- the number that digits say
 abbrev pub number_value : List ℕ → ℕ
 number_value digits = fold (λ n b. 10 * n + (b - 48)) 0 digits
 
@@ -46,6 +48,7 @@ is_number_from low high digits =
 abbrev pub is_pair : List ℕ → Bool
 is_pair bytes = is_word (before equals bytes) && is_word (after equals bytes)
 
+-- the pair that such bytes name
 abbrev pub pair_of : List ℕ → Pair
 pair_of bytes = record { key = before equals bytes; value = after equals bytes }
 
@@ -61,6 +64,7 @@ is_key bytes =
     && is_number_from 0 255 (before dot (after dot bytes))
     && is_number_from 0 (2 ^ 63 - 1) (after dot (after dot bytes))
 
+-- the key that such bytes name
 abbrev pub key_of : List ℕ → Key
 key_of bytes = record {
   stamp = number_value (before dot bytes);
@@ -74,6 +78,7 @@ key_of bytes = record {
 abbrev pub key_in : List ℕ → Option Key
 key_in bytes = if is_key bytes then Some (key_of bytes) else None
 
+-- a dash alone, which stands for no writer
 abbrev pub is_dash : List ℕ → Bool
 is_dash bytes = bytes_eq bytes (dash ∷ [])
 
@@ -94,25 +99,31 @@ are_versions pieces =
 abbrev pub put_of : List ℕ → Form
 put_of bytes = if is_pair bytes then forms.Put (before equals bytes) (after equals bytes) else forms.Plain
 
+-- `d`: the deletion of a key
 abbrev pub delete_of : List ℕ → Form
 delete_of bytes = if is_word bytes then forms.Delete bytes else forms.Plain
 
+-- `m`: a put of one to four pairs at once
 abbrev pub put_all_of : List ℕ → Form
 put_all_of bytes =
     if are_pairs 4 (parts bytes) then forms.PutAll (map pair_of (parts bytes)) else forms.Plain
 
+-- `t`: a transaction, of one or two versions that it read and one or two pairs that it writes
 abbrev pub transaction_of : List ℕ → Form
 transaction_of bytes =
     if are_versions (parts (before bar bytes)) && are_pairs 2 (parts (after bar bytes))
     then forms.Transaction (map version_of (parts (before bar bytes))) (map pair_of (parts (after bar bytes)))
     else forms.Plain
 
+-- `e`: the enqueueing of a value
 abbrev pub enqueue_of : List ℕ → Form
 enqueue_of bytes = if is_word bytes then forms.Enqueue bytes else forms.Plain
 
+-- `q`: a dequeue, behind which nothing stands
 abbrev pub dequeue_of : List ℕ → Form
 dequeue_of bytes = if length bytes == 0 then forms.Dequeue else forms.Plain
 
+-- `c`: a put into a causal map
 abbrev pub causal_of : List ℕ → Form
 causal_of bytes = if is_pair bytes then forms.Causal (before equals bytes) (after equals bytes) else forms.Plain
 

@@ -25,6 +25,7 @@ use Rattle.part_fold.specs.Parts.{Part, is_own, own_reads, commits_on, known_ver
 use Rattle.part_fold.specs.Agreement.{outcome, HasItsShards, AreAllNodes, part_at, line_at, Agrees}
 use Rattle.part_fold.proofs.KnownLemmas.{stops_at, with_verdict}
 use Rattle.part_fold.proofs.VerdictLemmas.{SameOwn, same_written, others_written, same_conflicts, outcome_on, ruled_by, first_is_said, IsTransaction, IsNone, by_form, IsRising, verdict_at_seam}
+use Rattle.log_node.proofs.CallerLemmas.{contains_none as none_contained}
 
 -- ---- what a line leaves out
 
@@ -238,9 +239,6 @@ record IsDecisionOf (nodes : List ObjectNode) (d : Decision) : Type 0 where
   node : ObjectNode
   among : Contains nodes node
   is : decision_of node.text ≡ Some d
-
-none_contained : {X : Type 0} (x : X) → Contains [] x → ⊥
-none_contained x c = omega (arith, c.1)
 
 decision_is : (nodes : List ObjectNode) (d : Decision) → Contains (decisions nodes) d → IsDecisionOf nodes d
 decision_is [] d c = absurd (none_contained d c)

@@ -7,6 +7,8 @@ use Rattle.log_node.specs.declared.ids.Counts.{Counts}
 use Rattle.log_node.specs.Vectors.{at, zeros, one_more}
 use Rattle.log_node.proofs.CallerLemmas.{at-one_more}
 use Rattle.col_core.specs.PlayOrder.{Place}
+pub use Rattle.log_node.proofs.CallerLemmas.{same_tests as iff}
+pub use Rattle.log_node.proofs.CallerLemmas.{get_last as last_at}
 
 -- one more at a region, and the same at the others
 
@@ -47,18 +49,9 @@ longer [] x y i h = absurd (let f : ⊥ = cc in f)
 longer (z ∷ zs) x y zero h = h
 longer (z ∷ zs) x y (suc i) h = longer zs x y i h
 
-pub last_at : {A : Type 0} (xs : List A) (x : A) → slice_get (xs ++ x ∷ []) (length xs) ≡ Some x
-last_at [] x = refl
-last_at (z ∷ zs) x = last_at zs x
-
 pub shorter : {A : Type 0} (xs : List A) (x y : A) (i : ℕ) → slice_get (xs ++ x ∷ []) i ≡ Some y → i < length xs
     → slice_get xs i ≡ Some y
 shorter xs x y i h lt = more_at _ xs x y i h (λ o. o) (λ e is. absurd (let f : ⊥ = omega (arith, e, lt) in f))
-
-pub iff : (a b : Bool) → (a ≡ true → b ≡ true) → (b ≡ true → a ≡ true) → a ≡ b
-iff true b f g = sym (f refl)
-iff false true f g = g refl
-iff false false f g = refl
 
 pub same_places : (p q : Place) → p.region ≡ q.region → p.position ≡ q.position → p ≡ q
 same_places p q e f = ap (λ r. place_of r p.position) e ∙ ap (λ n. place_of q.region n) f where

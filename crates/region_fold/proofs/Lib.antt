@@ -1,4 +1,3 @@
-mod FoldLemmas
 mod OwnNodes
 mod ReadAnswers
 mod TellAnswers

@@ -9,6 +9,8 @@ use Rattle.log_node.specs.Order.{same_id, same_key}
 use Rattle.log_node.specs.Sets.{members}
 use Rattle.log_node.proofs.CallerLemmas.{same_id-refl, same_key-is}
 use Rattle.object_fold.specs.Nodes.{ObjectNode}
+use Rattle.object_fold.specs.Folds.{IsAbsent, node_with, told_of}
+use Rattle.object_fold.proofs.CallerLemmas.{found_there}
 use Rattle.col_core.specs.History.{entry_key, line}
 use Rattle.col_core.specs.Keeping.{Kept}
 use Rattle.col_core.specs.Log.{Log}
@@ -17,9 +19,7 @@ use Rattle.report_text.specs.declared.report.PointPiece.{PointPiece}
 use Rattle.lawful_run.specs.Appends.{Appends, StandsAt}
 use Rattle.lawful_run.specs.Callers.{Caller}
 use Rattle.lawful_run.specs.Objects.{AreObjectNodes, IsObjectNode}
-use Rattle.region_fold.specs.Folds.{IsAbsent, node_with, told_of}
 use Rattle.region_fold.specs.Reads.{IsOwn}
-use Rattle.region_fold.proofs.FoldLemmas.{found_there}
 
 -- WHERE IT STANDS
 

@@ -11,7 +11,10 @@ use Rattle.log_node.specs.Order.{key_below, same_key}
 use Rattle.log_node.specs.Sets.{members, set_of}
 use Rattle.log_node.proofs.CallerLemmas.{key-irrefl, same_key-is}
 use Rattle.object_form.specs.Forms.{is_writer}
-use Rattle.object_fold.specs.Nodes.{ObjectNode, object_node}
+use Rattle.object_fold.specs.declared.kept_fold.KeptFold.{KeptFold}
+use Rattle.object_fold.specs.Nodes.{ObjectNode, object_node, object_nodes}
+use Rattle.object_fold.specs.Folds.{FeedsAll, FeedsFirst, IsAbsent, is_behind, last_before, told_of}
+use Rattle.object_fold.proofs.CallerLemmas.{found_cond, passed_cond}
 use Rattle.playback.specs.Merging.{AreRising}
 use Rattle.col_core.proofs.CallerLemmas.{contains_in, in_contains}
 use Rattle.lawful_run.specs.Asks.{rising, shards}
@@ -26,13 +29,10 @@ use Rattle.log_client.specs.Calls.{IsExplained}
 use Rattle.log_client.specs.Clients.{IsClient, caller_of, holds_of, seen_of}
 use Rattle.log_client.specs.Fits.{Fits}
 use Rattle.log_client.specs.Reading.{RestsOn}
-use Rattle.log_client.specs.StampedReads.{CanBeNamed, IsAboveSeen, ReadsAs, ReadsGoOn, ReadsOn, is_behind}
-use Rattle.log_client.specs.Objects.{AreColours, KeepsRead, object_nodes}
+use Rattle.log_client.specs.StampedReads.{CanBeNamed, IsAboveSeen, ReadsAs, ReadsGoOn, ReadsOn}
+use Rattle.log_client.specs.Objects.{AreColours, KeepsRead}
 use Rattle.log_client.proofs.CallerLemmas.{all_appended, all_explained, behind_all, explained_less, first_kept, fits_less, listed_of_store, reads_later, rising_front, shard_rising, tracks_long}
-use Rattle.region_fold.specs.declared.kept_fold.KeptFold.{KeptFold}
-use Rattle.region_fold.specs.Folds.{AreWriters, FeedsAll, FeedsFirst, IsAbsent, last_before, told_of}
-use Rattle.region_fold.specs.Reads.{Answers, AreOwn, Fetches, HasNodes, KeepsFold}
-use Rattle.region_fold.proofs.FoldLemmas.{found_cond, passed_cond}
+use Rattle.region_fold.specs.Reads.{Answers, AreOwn, AreWriters, Fetches, HasNodes, KeepsFold}
 use Rattle.region_fold.proofs.OwnNodes.{others_absent}
 
 -- the set of all colours is of the store

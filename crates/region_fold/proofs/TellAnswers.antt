@@ -6,6 +6,7 @@ use Rattle.log_node.specs.declared.ids.Id.{Id}
 use Rattle.log_node.specs.declared.ids.Key.{Key}
 use Rattle.log_node.specs.Sets.{members}
 use Rattle.object_fold.specs.Nodes.{ObjectNode}
+use Rattle.object_fold.specs.Folds.{last_before, told_of}
 use Rattle.col_core.specs.History.{entry_key, line}
 use Rattle.col_core.specs.Log.{Log}
 use Rattle.col_core.specs.Keeping.{Kept}
@@ -31,7 +32,6 @@ use Rattle.log_client.specs.Clients.{Keeps, caller_of, seen_of}
 use Rattle.log_client.specs.Reading.{RestsOn, home_seen}
 use Rattle.log_client.specs.StampedReads.{ReadRefused, ReadsAs}
 use Rattle.log_client.proofs.CallerLemmas.{append_unshown, explained_then, made_from, several_are_unshown, unshown}
-use Rattle.region_fold.specs.Folds.{last_before, told_of}
 use Rattle.region_fold.specs.Reads.{Answers, AreOwn, TellsOwn, UntoldLeaves}
 use Rattle.region_fold.proofs.OwnNodes.{is_own, key_itself, own_stands}
 

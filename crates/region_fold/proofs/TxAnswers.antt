@@ -1,6 +1,5 @@
 -- What a transactional map keeps while its client goes on, and what explains the answers to its reads and commits.
-use Rattle.std.proofs.Common.{◌≡◌, ℕ, ◌<◌, List, [], ◌∷◌, ◌++◌, length, Option, Some, Result, IfOk, refl, ap, sym, subst, ◌∙◌, arith}
-use Rattle.std.specs.declared.alloc.AllocError.{AllocError}
+use Rattle.std.proofs.Common.{◌≡◌, ℕ, ◌<◌, List, [], ◌∷◌, ◌++◌, length, Option, Some, refl, ap, sym, subst, ◌∙◌, arith}
 use Rattle.std.specs.Prelude.{unwrap_or}
 use Rattle.std.proofs.lemmas.List.{length-map}
 use Rattle.log_node.specs.declared.ids.Colours.{Colours}
@@ -12,10 +11,13 @@ use Rattle.log_node.specs.Sets.{members}
 use Rattle.object_form.specs.Forms.{AreVersions, ArePairs}
 use Rattle.object_form.specs.Laws.{ReadsBack}
 use Rattle.object_form.specs.Readings.{form_of}
+use Rattle.object_fold.specs.declared.tx_state.TxState.{TxState}
 use Rattle.object_fold.specs.declared.verdict.Verdict.{Verdict}
 use Rattle.object_fold.specs.Maps.{Value}
 use Rattle.object_fold.specs.Nodes.{ObjectNode, nodes_before}
-use Rattle.object_fold.specs.Transactions.{CanRead, form_verdict, value_of, verdict_among, verdict_of, verdict_on, values_after, versions_after, writes_after}
+use Rattle.object_fold.specs.States.{IsTxState}
+use Rattle.object_fold.specs.Transactions.{CanRead, form_verdict, ruling, value_of, verdict_among, verdict_of, verdict_on, values_after, versions_after, writes_after}
+use Rattle.object_fold.specs.Folds.{told_among, told_of}
 use Rattle.object_fold.proofs.CallerLemmas.{versions_fit}
 use Rattle.lawful_run.specs.Asks.{keys_of, rising, shards}
 use Rattle.log_client.specs.declared.store.Store.{Store}
@@ -30,13 +32,10 @@ use Rattle.log_client.specs.Reading.{RestsOn}
 use Rattle.log_client.specs.StampedReads.{ReadsGoOn}
 use Rattle.log_client.specs.Objects.{version_keys}
 use Rattle.log_client.proofs.CallerLemmas.{explained_less}
-use Rattle.region_fold.specs.Folds.{AreWriters, told_among, told_of}
-use Rattle.region_fold.specs.Reads.{HasNodes, IsOwn, ReadsNodes, TellRefused, TellsOwn}
+use Rattle.region_fold.specs.Reads.{AreWriters, HasNodes, IsOwn, ReadsNodes, TellRefused, TellsOwn}
 use Rattle.region_fold.proofs.ReadAnswers.{colours_later, kept_later}
-use Rattle.region_fold.specs.declared.ruling.Ruled.{Ruled}
 use Rattle.region_fold.specs.declared.transactions.Tx.{Tx}
 use Rattle.region_fold.specs.declared.transactions.TxMap.{TxMap}
-use Rattle.region_fold.specs.Ruling.{HasRuled, ruling}
 use Rattle.region_fold.specs.Transactions.{CommitRefused, Commits, CommitsAs, IsTxMapOf, ReadsKeys, transaction_text}
 
 -- a transaction has keys
@@ -60,30 +59,30 @@ pub map_later : ReadsGoOn → (s : Store) (c d : Client) → RestsOn s c d → (
     → IsTxMapOf d m
 map_later law s c d on m is of = record {
   colours = colours_later s c d on m.colours is of.colours;
-  folds = kept_later HasRuled law s c d on (rising m.colours) m.kept of.folds;
+  folds = kept_later IsTxState law s c d on (rising m.colours) m.fold.kept of.folds;
 }
 
 -- WHAT A READ FINDS OF KEYS
 
-module _ (keys : List (List ℕ)) (values : List Value) (tx : Tx) (state : Ruled)
-    (found : (nodes : List ObjectNode) → HasRuled state nodes
+module _ (keys : List (List ℕ)) (values : List Value) (tx : Tx) (state : TxState)
+    (found : (nodes : List ObjectNode) → IsTxState state nodes
     → (values ≡ values_after nodes keys) × (tx.versions ≡ versions_after nodes keys)) where
   pub reads_keys : (s : Store) (c d : Client) (colours : List ℕ) (last : Option Key) (read : StampedRead)
-      → tx.stamp ≡ read.stamp → ReadsNodes s c d colours last read (λ nodes. HasRuled state nodes × AreWriters nodes)
+      → tx.stamp ≡ read.stamp → ReadsNodes s c d colours last read (λ nodes. IsTxState state nodes × AreWriters nodes)
       → ReadsKeys s c d colours last keys values tx read
   reads_keys s c d colours last read stamp reads = (
     stamp,
-    explained_less s c d (HasNodes (rising colours) last read (λ nodes. HasRuled state nodes × AreWriters nodes))
+    explained_less s c d (HasNodes (rising colours) last read (λ nodes. IsTxState state nodes × AreWriters nodes))
         (HasNodes (rising colours) last read
         (λ nodes. (values ≡ values_after nodes keys) × (tx.versions ≡ versions_after nodes keys)))
         (λ log caller before after r. (r.0, r.1, r.2, r.3, found r.2 r.4.0)) reads,
   )
 
   -- a value for each key, and versions that a transaction can name
-  pub found_many : (nodes : List ObjectNode) → HasRuled state nodes → length values ≡ length keys
+  pub found_many : (nodes : List ObjectNode) → IsTxState state nodes → length values ≡ length keys
   found_many nodes has = ap length (found nodes has).0 ∙ length-map keys (value_of (writes_after nodes))
 
-  pub found_named : (nodes : List ObjectNode) → HasRuled state nodes → AreWriters nodes → CanRead keys
+  pub found_named : (nodes : List ObjectNode) → IsTxState state nodes → AreWriters nodes → CanRead keys
       → AreVersions tx.versions
   found_named nodes has named can = subst AreVersions (sym (found nodes has).1) (versions_fit nodes named keys can)
 
@@ -139,12 +138,3 @@ commit_refused home s c d colours versions pairs own fault are why =
       by (faults.Unread stamp fault) why = (versions, refl, why)
       by faults.NoTx why = absurd why
       by faults.NoMemory why = absurd why
-
--- what a node is told when it is fed
-pub tells_ruling : (nodes : List ObjectNode) (node : ObjectNode) (key : Key) (text : List ℕ)
-    (r : Result (Option Verdict) AllocError) → node.key ≡ key → node.text ≡ text
-    → IfOk r (λ verdict. verdict ≡ form_verdict key (writes_after nodes) (form_of text))
-    → IfOk r (λ verdict. verdict ≡ ruling nodes node)
-tells_ruling nodes node key text r its_key its_text verdict =
-    subst (λ (t : List ℕ). IfOk r (λ v. v ≡ form_verdict node.key (writes_after nodes) (form_of t))) (sym its_text)
-    (subst (λ (k : Key). IfOk r (λ v. v ≡ form_verdict k (writes_after nodes) (form_of text))) (sym its_key) verdict)

@@ -1,4 +1,2 @@
-pub mod Folds
 pub mod Reads
-pub mod Ruling
 pub mod Transactions

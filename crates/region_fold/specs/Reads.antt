@@ -1,10 +1,13 @@
 -- What an object keeps beside its client, and what its reads answer.
-use Rattle.std.specs.Prelude.{◌≡◌, ℕ, ◌<◌, List, length, Option, Some}
-use Rattle.std.specs.List.{Contains}
+use Rattle.std.specs.Prelude.{◌≡◌, IsTrue, ℕ, ◌<◌, List, length, Option, Some}
+use Rattle.std.specs.List.{All, Contains}
 use Rattle.log_node.specs.declared.ids.Colours.{Colours}
 use Rattle.log_node.specs.declared.ids.Key.{Key}
 use Rattle.log_node.specs.Sets.{members}
+use Rattle.object_form.specs.Forms.{is_writer}
+use Rattle.object_fold.specs.declared.kept_fold.KeptFold.{KeptFold}
 use Rattle.object_fold.specs.Nodes.{ObjectNode}
+use Rattle.object_fold.specs.Folds.{last_before, node_with, told_of}
 use Rattle.col_core.specs.Log.{Log}
 use Rattle.col_core.specs.Keeping.{Kept}
 use Rattle.lawful_run.specs.Asks.{rising}
@@ -23,8 +26,10 @@ use Rattle.log_client.specs.Appends.{AppendsAs}
 use Rattle.log_client.specs.Calls.{IsExplained}
 use Rattle.log_client.specs.StampedReads.{CanBeNamed, HasRead, IsAboveSeen, ReadsAs, ReadsOn}
 use Rattle.log_client.specs.Objects.{KeepsRead, StandsNot, StandsThen}
-use Rattle.region_fold.specs.declared.kept_fold.KeptFold.{KeptFold}
-use Rattle.region_fold.specs.Folds.{AreWriters, last_before, node_with, told_of}
+
+-- each node's key is one that a version can name
+abbrev pub AreWriters : List ObjectNode → Type 0
+AreWriters nodes = All (λ (node : ObjectNode). IsTrue (is_writer (Some node.key))) nodes
 
 -- What is folded are nodes that the client has read of these colours, with keys that a version can name.
 abbrev pub KeepsFold : {F : Type 0} → (F → List ObjectNode → Type 0) → Client → List ℕ → KeptFold F → Type 0

@@ -9,7 +9,9 @@ use Rattle.log_node.specs.Sets.{members}
 use Rattle.object_form.specs.Forms.{form_text}
 use Rattle.object_fold.specs.declared.verdict.Verdict.{Verdict}
 use Rattle.object_fold.specs.Maps.{Value}
+use Rattle.object_fold.specs.States.{IsTxState}
 use Rattle.object_fold.specs.Transactions.{values_after, versions_after, verdict_of}
+use Rattle.object_fold.specs.Folds.{last_before}
 use Rattle.col_core.specs.Log.{Log}
 use Rattle.col_core.specs.Keeping.{Kept}
 use Rattle.lawful_run.specs.Asks.{rising, shards, keys_of}
@@ -24,17 +26,15 @@ use Rattle.log_client.specs.Appends.{AppendsAs}
 use Rattle.log_client.specs.Calls.{IsExplained}
 use Rattle.log_client.specs.StampedReads.{ReadHidden, ReadRefused}
 use Rattle.log_client.specs.Objects.{AreColours, IsAwayFrom, StandsNot, version_keys}
-use Rattle.region_fold.specs.Folds.{last_before}
 use Rattle.region_fold.specs.Reads.{HasNodes, KeepsFold, UntoldLeaves}
 use Rattle.region_fold.specs.declared.transactions.Tx.{Tx}
 use Rattle.region_fold.specs.declared.transactions.TxMap.{TxMap}
-use Rattle.region_fold.specs.Ruling.{HasRuled}
 
 -- The map is kept beside the client: its colours are the client's, and what is folded are nodes that the client has read of all
 -- of them.
 pub record IsTxMapOf (c : Client) (m : TxMap) : Type 0 where
   pub colours : AreColours c m.colours
-  pub folds : KeepsFold HasRuled c (rising m.colours) m.kept
+  pub folds : KeepsFold IsTxState c (rising m.colours) m.fold.kept
 
 -- the one map is the other one, and what is folded may differ
 abbrev pub IsSameTx : TxMap → TxMap → Type 0

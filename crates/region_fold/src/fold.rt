@@ -1,39 +1,38 @@
-// A one-thread object, to which nodes are fed.
-ghost use Rattle.std.specs.Prelude.{◌≡◌, ◌++◌, ◌∷◌, ℕ, List, [], Option, IfOk, OnOk, OnErr};
-ghost use Rattle.log_node.specs.declared.ids.Key.{Key as NodeKey};
-ghost use Rattle.object_fold.specs.Nodes.{ObjectNode};
+// An object over a client, and what of it is folded.
+ghost use Rattle.std.specs.Prelude.{◌≡◌, [], ℕ, List, None};
+ghost use Rattle.log_client.specs.declared.client.Client.{Client};
+ghost use Rattle.region_fold.specs.Reads.{KeepsFold};
 
-use log_node::{Key, Text};
-use std::alloc::{AllocError, Global};
+use object_fold::{KeptFold, NodeFold};
+use std::alloc::Global;
 
-/// What nodes leave, which are fed one after another in rising key.
+/// An object over a client, folded in the order of its region: the object after the first nodes that stamped reads had, and the
+/// key of the last of these.
 ///
-/// Who implements it says by two ghost members what the object is: which values stand for it after nodes, and what a node is
-/// told behind others.
-pub trait NodeFold: Drop {
-    /// What a node is told that the object answers.
-    type Told: Drop;
+/// It is kept beside one client, with which all calls are made. Calls of one fold are given the same colours.
+#[derive(Drop)]
+pub struct RegionFold<F> {
+    pub(crate) kept: KeptFold<F>,
+}
 
-    // the value stands for the object after these nodes
-    ghost Holds: { Self → List ObjectNode → Type 0 };
+impl<F> RegionFold<F> {
+    /// The object after what was folded.
+    pub fn state(&self) -> &F
+        ensures { result.now ≡ self.now.kept.state }
+    {
+        &self.kept.state
+    }
+}
 
-    // what a node is told behind these nodes, if it is one that is answered
-    ghost told: { List ObjectNode → ObjectNode → Option Self.Told };
-
-    /// The object after no node. Takes no memory.
-    fn open(alloc: Global) -> Self
-        ensures { Holds result [] };
-
-    /// Feeds the next node, and gives what it is told. At an error the object is as before.
-    fn feed(
-        &mut self,
-        alloc: Global,
-        key: Key,
-        text: &Text,
-    ) -> Result<Option<Self::Told>, AllocError>
-        ensures told { (nodes : List ObjectNode) (node : ObjectNode) → node.key ≡ key → node.text ≡ text.now
-            → Holds self.old nodes → IfOk result (λ answer. answer ≡ told nodes node) }
-        ensures ok { (nodes : List ObjectNode) (node : ObjectNode) → node.key ≡ key → node.text ≡ text.now
-            → Holds self.old nodes → OnOk result (Holds self.new (nodes ++ node ∷ [])) }
-        ensures err { (nodes : List ObjectNode) → Holds self.old nodes → OnErr result (Holds self.new nodes) };
+impl<F: NodeFold> RegionFold<F> {
+    /// The fold of no node. Takes no memory.
+    pub fn open(alloc: Global) -> RegionFold<F>
+        ensures state { F.Holds result.kept.state [] }
+        ensures last { result.kept.last ≡ None }
+        ensures kept { (client : Client) (colours : List ℕ) → KeepsFold F.Holds client colours result.kept }
+    {
+        RegionFold {
+            kept: KeptFold::open(alloc),
+        }
+    }
 }

@@ -3,11 +3,9 @@
 #![tactic(auto)]
 
 mod fold;
-mod kept_fold;
 mod reads;
-mod ruling;
 mod transactions;
 
-pub use fold::NodeFold;
-pub use kept_fold::KeptFold;
+pub use fold::RegionFold;
+pub use object_fold::NodeFold;
 pub use transactions::{Tx, TxMap};

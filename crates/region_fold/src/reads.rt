@@ -5,19 +5,18 @@ ghost use Rattle.lawful_run.specs.Asks.{rising};
 ghost use Rattle.object_fold.specs.Nodes.{ObjectNode};
 ghost use Rattle.append_core.specs.declared.stood.Point.{Point};
 ghost use Rattle.log_client.specs.Appends.{AreColoursOf};
-ghost use Rattle.log_client.specs.Calls.{IsExplained};
+ghost use Rattle.log_client.specs.Calls.{AnswersEach, IsExplained};
 ghost use Rattle.log_client.specs.Clients.{IsClient};
 ghost use Rattle.log_client.specs.Reading.{RestsOn, raised_colours, synced_colours};
 ghost use Rattle.log_client.specs.StampedReads.{ReadHidden, ReadRefused};
 ghost use Rattle.log_client.specs.Objects.{AreColours};
-ghost use Rattle.region_fold.specs.Folds.{AreWriters};
-ghost use Rattle.region_fold.specs.Reads.{AreOwn, Fetches, KeepsFold, ReadsNodes, Answers, TellsOwn, TellRefused};
+ghost use Rattle.region_fold.specs.Reads.{AreOwn, AreWriters, Fetches, KeepsFold, ReadsNodes, Answers, TellsOwn, TellRefused};
 
-use crate::fold::NodeFold;
-use crate::kept_fold::KeptFold;
+use crate::fold::RegionFold;
 use fuzzy_io::Gate;
 use log_client::{Appended, Client, ObjectFault, StampedRead, Store, SyncFault, reads_go_on};
 use log_node::{Colours, Key, Text};
+use object_fold::NodeFold;
 use std::alloc::{AllocError, Global};
 use std::sync::Wait;
 
@@ -36,13 +35,14 @@ fn fetch<R: Wait>(
     ensures ok { IfOk result (Fetches store.now client.old client.new (rising colours.now) last) }
     ensures raises { IfOk result (λ read. raised_colours read.raises ≡ rising colours.now) }
     ensures syncs { IfOk result (λ read. synced_colours read.syncs ≡ rising colours.now) }
+    ensures played { IfOk result (λ read. AnswersEach client.old client.new read.syncs) }
     ensures hidden { IfOk result (λ read. ReadHidden store.now client.old client.new (rising colours.now)) }
     ensures err { IfErr result (ReadRefused store.now client.old client.new (rising colours.now)) }
 {
     client.read_on(rt, alloc, store, Colours::of(colours), last)
 }
 
-impl<F: NodeFold> KeptFold<F> {
+impl<F: NodeFold> RegionFold<F> {
     /// Reads all nodes of the object's colours up to the stamp of a stamped read of these, and folds them. The read answers those
     /// that were not folded before. Waits as the read does.
     pub fn read<R: Wait>(
@@ -55,19 +55,20 @@ impl<F: NodeFold> KeptFold<F> {
     ) -> Result<StampedRead, SyncFault>
         requires client { IsClient store.now client.old }
         requires colours { AreColours client.old colours.now }
-        requires kept { KeepsFold F.Holds client.old (rising colours.now) self.old }
+        requires kept { KeepsFold F.Holds client.old (rising colours.now) self.old.kept }
         ensures client { RestsOn store.now client.old client.new }
-        ensures kept { KeepsFold F.Holds client.new (rising colours.now) self.new }
-        ensures ok { IfOk result (λ read. ReadsNodes store.now client.old client.new colours.now self.old.last read
-            (λ nodes. F.Holds self.new.state nodes × AreWriters nodes)) }
+        ensures kept { KeepsFold F.Holds client.new (rising colours.now) self.new.kept }
+        ensures ok { IfOk result (λ read. ReadsNodes store.now client.old client.new colours.now self.old.kept.last read
+            (λ nodes. F.Holds self.new.kept.state nodes × AreWriters nodes)) }
         ensures raises { IfOk result (λ read. raised_colours read.raises ≡ rising colours.now) }
         ensures syncs { IfOk result (λ read. synced_colours read.syncs ≡ rising colours.now) }
+        ensures played { IfOk result (λ read. AnswersEach client.old client.new read.syncs) }
         ensures hidden { IfOk result (λ read. ReadHidden store.now client.old client.new (rising colours.now)) }
         ensures err { IfErr result (ReadRefused store.now client.old client.new (rising colours.now)) }
     {
         reads_go_on();
-        match fetch(rt, alloc, client, store, colours, self.last) {
-            Ok(read) => match self.fold_on(alloc, read.items.as_slice()) {
+        match fetch(rt, alloc, client, store, colours, self.kept.last) {
+            Ok(read) => match self.kept.fold_on(alloc, read.items.as_slice()) {
                 Ok(()) => Ok(read),
                 Err(_) => Err(SyncFault::NoMemory),
             },
@@ -89,19 +90,20 @@ impl<F: NodeFold> KeptFold<F> {
     ) -> Result<(Option<F::Told>, StampedRead), SyncFault>
         requires client { IsClient store.now client.old }
         requires colours { AreColours client.old colours.now }
-        requires kept { KeepsFold F.Holds client.old (rising colours.now) self.old }
+        requires kept { KeepsFold F.Holds client.old (rising colours.now) self.old.kept }
         ensures client { RestsOn store.now client.old client.new }
-        ensures kept { KeepsFold F.Holds client.new (rising colours.now) self.new }
-        ensures ok { IfOk result (λ r. Answers F.told store.now client.old client.new (rising colours.now) self.old.last
+        ensures kept { KeepsFold F.Holds client.new (rising colours.now) self.new.kept }
+        ensures ok { IfOk result (λ r. Answers F.told store.now client.old client.new (rising colours.now) self.old.kept.last
             own r.0 r.1) }
         ensures raises { IfOk result (λ r. raised_colours r.1.raises ≡ rising colours.now) }
         ensures syncs { IfOk result (λ r. synced_colours r.1.syncs ≡ rising colours.now) }
+        ensures played { IfOk result (λ r. AnswersEach client.old client.new r.1.syncs) }
         ensures err { IfErr result (ReadRefused store.now client.old client.new (rising colours.now)) }
     {
         reads_go_on();
-        self.stay_before(alloc, own);
-        match fetch(rt, alloc, client, store, colours, self.last) {
-            Ok(read) => match self.told(alloc, read.items.as_slice(), own) {
+        self.kept.stay_before(alloc, own);
+        match fetch(rt, alloc, client, store, colours, self.kept.last) {
+            Ok(read) => match self.kept.told(alloc, read.items.as_slice(), own) {
                 Ok(told) => Ok((told, read)),
                 Err(_) => Err(SyncFault::NoMemory),
             },
@@ -124,16 +126,17 @@ impl<F: NodeFold> KeptFold<F> {
     ) -> Result<(Option<F::Told>, Appended, StampedRead), ObjectFault>
         requires client { IsClient store.now client.old }
         requires colours { AreColours client.old colours.now }
-        requires kept { KeepsFold F.Holds client.old (rising colours.now) self.old }
+        requires kept { KeepsFold F.Holds client.old (rising colours.now) self.old.kept }
         requires set { AreColoursOf store.now set }
         requires own { AreOwn colours.now (members set) }
         ensures client { RestsOn store.now client.old client.new }
-        ensures kept { KeepsFold F.Holds client.new (rising colours.now) self.new }
+        ensures kept { KeepsFold F.Holds client.new (rising colours.now) self.new.kept }
         ensures ok { IfOk result (λ r. IsExplained store.now client.old client.new
-            (TellsOwn F.told set text (rising colours.now) self.old.last r.0 r.1 r.2)) }
+            (TellsOwn F.told set text (rising colours.now) self.old.kept.last r.0 r.1 r.2)) }
         ensures points { IfOk result (λ r. map (λ (p : Point). p.colour) r.1.stood.points ≡ members set) }
         ensures raises { IfOk result (λ r. raised_colours r.2.raises ≡ rising colours.now) }
         ensures syncs { IfOk result (λ r. synced_colours r.2.syncs ≡ rising colours.now) }
+        ensures played { IfOk result (λ r. AnswersEach client.old client.new r.2.syncs) }
         ensures err { IfErr result (TellRefused store.now client.old client.new (members set) text colours.now) }
     {
         reads_go_on();

@@ -4,22 +4,22 @@ ghost use Rattle.std.specs.Option.{option_map};
 ghost use Rattle.object_form.specs.Forms.{ArePairs, AreVersions};
 ghost use Rattle.lawful_run.specs.Asks.{rising, shards, keys_of};
 ghost use Rattle.object_fold.specs.Nodes.{ObjectNode};
+ghost use Rattle.object_fold.specs.States.{IsTxState};
 ghost use Rattle.object_fold.specs.Transactions.{CanRead, values_after, versions_after};
 ghost use Rattle.append_core.specs.declared.stood.Point.{Point};
+ghost use Rattle.log_client.specs.Calls.{AnswersEach};
 ghost use Rattle.log_client.specs.Clients.{IsClient};
 ghost use Rattle.log_client.specs.Reading.{RestsOn, raised_colours, synced_colours};
 ghost use Rattle.log_client.specs.Objects.{AreColours, version_keys};
-ghost use Rattle.region_fold.specs.Ruling.{HasRuled};
 ghost use Rattle.region_fold.specs.Transactions.{IsTxMapOf, IsSameTx, ReadsKeys, KeysRefused, Commits, CommitRefused, transaction_text};
 
-use crate::kept_fold::KeptFold;
-use crate::ruling::Ruled;
+use crate::fold::RegionFold;
 use fuzzy_io::Gate;
 use log_client::{
     Appended, Client, ObjectFault, StampedRead, Store, copied_pairs, transaction_shards,
 };
 use log_node::{ColourList, Form, Keys, Pairs, Text, Versions};
-use object_fold::{Values, Verdict};
+use object_fold::{TxState, Values, Verdict};
 use object_form::{reads_back, write_form};
 use std::alloc::{AllocError, Global};
 use std::sync::Wait;
@@ -37,7 +37,7 @@ pub struct Tx {
 pub struct TxMap {
     pub(crate) home: u8,
     pub(crate) colours: ColourList,
-    pub(crate) kept: KeptFold<Ruled>,
+    pub(crate) fold: RegionFold<TxState>,
 }
 
 // The text of a transaction that read these versions.
@@ -54,12 +54,13 @@ impl TxMap {
     /// The map of these colours at a home, of which nothing is folded. Takes no memory.
     pub fn open(alloc: Global, home: u8, colours: ColourList) -> TxMap
         ensures of { (result.home ≡ home) × (result.colours ≡ colours) }
+        ensures last { result.fold.kept.last ≡ None }
         ensures map { (client : Client) → AreColours client colours → IsTxMapOf client result }
     {
         TxMap {
             home,
             colours,
-            kept: KeptFold::open(alloc),
+            fold: RegionFold::open(alloc),
         }
     }
 
@@ -73,10 +74,10 @@ impl TxMap {
     // What is held of keys, as of a stamp.
     fn found(&self, alloc: Global, stamp: u64, keys: &Keys) -> Result<(Values, Tx), AllocError>
         ensures found { IfOk result (λ r. (r.1.stamp ≡ stamp) × ((nodes : List ObjectNode)
-            → HasRuled self.now.kept.state nodes
+            → IsTxState self.now.fold.kept.state nodes
             → (r.0 ≡ values_after nodes keys.now) × (r.1.versions ≡ versions_after nodes keys.now))) }
     {
-        let writes = &self.kept.state().writes;
+        let writes = self.fold.state();
         let values = writes.values(alloc, keys)?;
         let versions = writes.versions(alloc, keys)?;
         Ok((values, Tx { stamp, versions }))
@@ -99,12 +100,13 @@ impl TxMap {
         ensures client { RestsOn store.now client.old client.new }
         ensures map { IsTxMapOf client.new self.new }
         ensures same { IsSameTx self.old self.new }
-        ensures ok { IfOk result (λ r. ReadsKeys store.now client.old client.new self.old.colours self.old.kept.last
+        ensures ok { IfOk result (λ r. ReadsKeys store.now client.old client.new self.old.colours self.old.fold.kept.last
             keys.now r.0 r.1 r.2) }
         ensures many { IfOk result (λ r. length r.0 ≡ length keys.now) }
         ensures versions { CanRead keys.now → IfOk result (λ r. AreVersions r.1.versions) }
         ensures raises { IfOk result (λ r. raised_colours r.2.raises ≡ rising self.old.colours) }
         ensures syncs { IfOk result (λ r. synced_colours r.2.syncs ≡ rising self.old.colours) }
+        ensures played { IfOk result (λ r. AnswersEach client.old client.new r.2.syncs) }
         ensures away { client.old.region ≢ self.old.home → result ≡ Err (ObjectFault.NotHome self.old.home) }
         ensures err { IfErr result (KeysRefused self.old.home store.now client.old client.new (rising self.old.colours)) }
     {
@@ -112,7 +114,7 @@ impl TxMap {
             return Err(ObjectFault::NotHome { home: self.home });
         }
         match self
-            .kept
+            .fold
             .read(rt, alloc, client, store, self.colours.as_slice())
         {
             Ok(read) => match self.found(alloc, read.stamp, keys) {
@@ -144,13 +146,14 @@ impl TxMap {
         ensures map { IsTxMapOf client.new self.new }
         ensures same { IsSameTx self.old self.new }
         ensures ok { IfOk result (λ r. (rests : Tx) × (tx ≡ Some rests)
-            × Commits store.now client.old client.new self.old.colours self.old.kept.last rests.versions writes.now
+            × Commits store.now client.old client.new self.old.colours self.old.fold.kept.last rests.versions writes.now
             r.0 r.1 r.2) }
         ensures points { IfOk result (λ r. (rests : Tx) × (tx ≡ Some rests)
             × (map (λ (p : Point). p.colour) r.1.stood.points
             ≡ shards self.old.colours (version_keys rests.versions ++ keys_of writes.now))) }
         ensures raises { IfOk result (λ r. raised_colours r.2.raises ≡ rising self.old.colours) }
         ensures syncs { IfOk result (λ r. synced_colours r.2.syncs ≡ rising self.old.colours) }
+        ensures played { IfOk result (λ r. AnswersEach client.old client.new r.2.syncs) }
         ensures away { client.old.region ≢ self.old.home → result ≡ Err (ObjectFault.NotHome self.old.home) }
         ensures no_tx { client.old.region ≡ self.old.home → tx ≡ None → result ≡ Err ObjectFault.NoTx }
         ensures err { IfErr result (CommitRefused self.old.home store.now client.old client.new self.old.colours
@@ -168,8 +171,8 @@ impl TxMap {
         let Ok(text) = text_of(alloc, tx.versions, writes) else {
             return Err(ObjectFault::NoMemory);
         };
-        let kept = &mut self.kept;
-        match kept.append_and_read(rt, alloc, client, store, gate, colours, set, text) {
+        let fold = &mut self.fold;
+        match fold.append_and_read(rt, alloc, client, store, gate, colours, set, text) {
             Ok((told, own, read)) => {
                 let stamp = own.stood.key.stamp;
                 Ok((told.unwrap_or(Verdict::Committed { stamp }), own, read))

@@ -4,6 +4,7 @@ use Rattle.std.specs.Prelude.{slice_get}
 use Rattle.std.proofs.lemmas.List.{take-append-le}
 use mathlib.Core.List.{IsPrefix}
 use Rattle.col_core.proofs.CallerLemmas.{slice_longer}
+pub use Rattle.log_node.proofs.CallerLemmas.{get_map_back as got_mapped}
 
 module _ {A : Type 0} where
   pub prefix_same : (xs : List A) → IsPrefix xs xs
@@ -70,10 +71,3 @@ module _ {A : Type 0} where
   get_taken (suc k) [] n x e = absurd (let f : ⊥ = cc (e) in f)
   get_taken (suc k) (y ∷ xs) zero x e = e
   get_taken (suc k) (y ∷ xs) (suc n) x e = get_taken k xs n x e
-
--- what stands in a mapped list is mapped
-pub got_mapped : {A B : Type 0} (f : A → B) (xs : List A) (n : ℕ) (y : B) → slice_get (map f xs) n ≡ Some y
-    → (x : A) × (slice_get xs n ≡ Some x) × (f x ≡ y)
-got_mapped f [] n y e = absurd (let g : ⊥ = cc (e) in g)
-got_mapped f (x ∷ xs) zero y e = (x, refl, cc (e))
-got_mapped f (x ∷ xs) (suc n) y e = got_mapped f xs n y e

@@ -10,12 +10,15 @@ abbrev pub name_among : (ColumnReport → ℕ) → (ColumnReport → List ℕ) �
 name_among number_of name_of [] n = []
 name_among number_of name_of (c ∷ cs) n = if number_of c == n then name_of c else name_among number_of name_of cs n
 
+-- the name of the region with this number
 abbrev pub region_name : Report → ℕ → List ℕ
 region_name report region = name_among (λ c. c.region) (λ c. c.region_name) report.columns region
 
+-- the name of the colour with this number
 abbrev pub colour_name : Report → ℕ → List ℕ
 colour_name report colour = name_among (λ c. c.colour) (λ c. c.colour_name) report.columns colour
 
+-- a client's name; nothing where there is no client
 abbrev pub name_of_client : Option ClientReport → List ℕ
 name_of_client None = []
 name_of_client (Some client) = client.name

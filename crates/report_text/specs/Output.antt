@@ -20,6 +20,7 @@ HasTakenBy false holds faults text now =
     (sent : List ℕ) × Appends holds now.holds sent × (text ≡ sent ++ now.pending) × (now.faults ≡ faults)
 HasTakenBy true holds faults text now = AppendsFront holds now.holds text × Rose faults now.faults
 
+-- the same, by whether the output has failed
 abbrev pub HasTaken : Option (List ℕ) → ℕ → List ℕ → OutputState → Type 0
 HasTaken holds faults text now = HasTakenBy now.failed holds faults text now
 

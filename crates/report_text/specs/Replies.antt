@@ -29,6 +29,7 @@ abbrev pub values_text : List (List ℕ) → List ℕ
 values_text [] = codes "none"
 values_text (value ∷ values) = codes "ok " ++ listed (λ v. v) (value ∷ values)
 
+-- the value, or a dash where there is none
 abbrev pub value_or_dash : Option (List ℕ) → List ℕ
 value_or_dash None = codes "-"
 value_or_dash (Some value) = value
@@ -46,6 +47,7 @@ verdict_text (Some key) stamp = codes "conflict " ++ key ++ 32 ∷ decimal stamp
 abbrev pub read_text : Report → List RaisePiece → List SyncPiece → List ℕ
 read_text report raises syncs = spaced (raise_text report) raises ++ spaced (sync_text report) syncs
 
+-- what a command was answered: how it ended, and then what there is to tell of that
 abbrev pub answer_text : Report → Answer → List ℕ
 answer_text report (Stood stamp row points) = codes "ok " ++ decimal stamp ++ row_text row ++ spaced (point_text report) points
 answer_text report (StampEnd colour) = codes "stampend " ++ colour_name report colour
@@ -85,5 +87,6 @@ reply_lines report reply =
     decimal reply.line ++ 32 ∷ word_text reply.word ++ 32 ∷ answer_text report reply.answer ++ line_end
     ++ flat_map (node_line report) reply.nodes
 
+-- the line with a client's name, and then the lines of its replies
 abbrev pub client_lines : Report → ClientReport → List ℕ
 client_lines report client = codes "client " ++ client.name ++ line_end ++ flat_map (reply_lines report) client.replies

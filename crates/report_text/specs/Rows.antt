@@ -13,10 +13,12 @@ use Rattle.report_text.specs.declared.report.Report.{Report}
 use Rattle.report_text.specs.Names.{region_name, colour_name, client_name}
 use Rattle.report_text.specs.Pieces.{line_end, spaced, id_text}
 
+-- what was missing: memory, or a stamp
 abbrev pub why_text : Why → List ℕ
 why_text Memory = codes "memory"
 why_text StampEnd = codes "stampend"
 
+-- a tentative stamp, or what was missing; a dash while the colour has said nothing
 abbrev pub mark_text : Mark → List ℕ
 mark_text marks.None = codes "-"
 mark_text (marks.Number stamp) = decimal stamp
@@ -26,6 +28,7 @@ mark_text (marks.Fenced why) = why_text why
 abbrev pub colour_mark_text : Report → ColourMark → List ℕ
 colour_mark_text report m = colour_name report m.colour ++ 61 ∷ mark_text m.mark
 
+-- what became of a row or of an id: open, final under a stamp, or gone for what was missing
 abbrev pub outcome_text : Outcome → List ℕ
 outcome_text Open = codes "open"
 outcome_text (Final stamp) = codes "final " ++ decimal stamp
@@ -35,6 +38,7 @@ outcome_text (Gone why) = codes "gone " ++ why_text why
 abbrev pub row_number_text : Report → Row → List ℕ
 row_number_text report row = client_name report row.client ++ 46 ∷ decimal row.number
 
+-- the region, the row, the id of its node, its marks, and what became of it
 abbrev pub row_line : Report → RowReport → List ℕ
 row_line report r =
     codes "row " ++ region_name report r.region ++ 32 ∷ row_number_text report r.row ++ 32 ∷ id_text report r.id

@@ -5,15 +5,10 @@ use Rattle.std.proofs.lemmas.List.Concat.{flat_map-append}
 use Rattle.std.specs.List.{flat_map, enumerate_from}
 use Rattle.report_text.specs.Output.{OutputState, Adds, HasTaken}
 use Rattle.report_text.proofs.CallerLemmas.{adds_then}
+use Rattle.log_node.proofs.CallerLemmas.{enumerate-push as places_push}
 
 push_more : {X : Type 0} (f : X → List ℕ) (xs : List X) (x : X) → flat_map f (xs ++ x ∷ []) ≡ flat_map f xs ++ f x
 push_more f xs x = flat_map-append f xs (x ∷ []) ∙ ap (λ w. flat_map f xs ++ w) (append-nil (f x))
-
-places_push : {X : Type 0} (n : ℕ) (xs : List X) (x : X) → enumerate_from n (xs ++ x ∷ []) ≡ enumerate_from n xs ++ (n + length xs, x) ∷ []
-places_push n [] x = ap (λ (k : ℕ). (k, x) ∷ []) (omega arith)
-places_push n (y ∷ ys) x =
-    let place : n + 1 + length ys ≡ n + length (y ∷ ys) = omega arith in
-    ap (λ w. (n, y) ∷ w) (places_push (n + 1) ys x ∙ ap (λ (k : ℕ). enumerate_from (n + 1) ys ++ (k, x) ∷ []) place)
 
 -- what is written of the items before a place, and of the one at it
 pub places_more : {X : Type 0} (f : ℕ × X → List ℕ) (xs : List X) (i : ℕ) (x : X) → i < length xs → x ≡ get_or xs i x →

@@ -8,6 +8,9 @@ use Rattle.script_text.specs.declared.script.What.{What}
 use Rattle.script_text.specs.declared.script.What.TheVariants as whats
 use Rattle.script_text.specs.declared.script.Object.{Object}
 use Rattle.script_text.specs.declared.script.Script.{Script}
+use Rattle.script_text.specs.declared.uses.Use.{Use}
+use Rattle.script_text.specs.declared.uses.Use.TheVariants.{OfLog, OfObject}
+use Rattle.script_text.specs.Uses.{use_of}
 use Rattle.script_text.specs.Words.{word_text, word_of}
 use Rattle.report_text.specs.declared.report.Answer.{Answer}
 use Rattle.report_text.specs.declared.report.Answer.TheVariants.{Stood, StampEnd, Full, Stopped, Synced, Scanned, Pulled, SameRegion, Based, Got, GotMany, GotKeys, Ruled, NoTx, Took, UnreadTrimmed, UnreadNoMemory, Trimmed, NotHome, NoMemory}
@@ -54,6 +57,11 @@ source_label script region colour =
     joined (codes " " ∷ text_shown (name_among script.regions region)
     ∷ codes " " ∷ text_shown (name_among script.colours colour) ∷ [])
 
+-- the object that a command is of
+abbrev pub used_label : Script → Use → List ℕ
+used_label script (OfLog stops) = []
+used_label script (OfObject object read) = object_label script object
+
 -- what a command is about: its colours, a region and a colour, or an object
 abbrev pub subject_label : Script → What → List ℕ
 subject_label script (whats.Append colours _) = colours_label script colours
@@ -62,15 +70,7 @@ subject_label script (whats.Scan colours) = colours_label script colours
 subject_label script (whats.Sync colour) = field_label (name_among script.colours colour)
 subject_label script (whats.Trim colour) = field_label (name_among script.colours colour)
 subject_label script (whats.Pull region colour) = source_label script region colour
-subject_label script (whats.Put object _ _) = object_label script object
-subject_label script (whats.Get object _) = object_label script object
-subject_label script (whats.Del object _) = object_label script object
-subject_label script (whats.PutAll object _) = object_label script object
-subject_label script (whats.GetAll object _) = object_label script object
-subject_label script (whats.Read object _) = object_label script object
-subject_label script (whats.Commit object _) = object_label script object
-subject_label script (whats.Enq object _) = object_label script object
-subject_label script (whats.Deq object) = object_label script object
+subject_label script what = used_label script (use_of what)
 
 -- its word, and what it is about
 abbrev pub heading_label : Script → What → List ℕ
@@ -88,11 +88,7 @@ content_label (whats.Commit _ pairs) = pairs_label pairs
 content_label (whats.GetAll _ keys) = flat_map field_label keys
 content_label (whats.Read _ keys) = flat_map field_label keys
 content_label (whats.Enq _ value) = field_label value
-content_label (whats.Sync _) = []
-content_label (whats.Scan _) = []
-content_label (whats.Pull _ _) = []
-content_label (whats.Trim _) = []
-content_label (whats.Deq _) = []
+content_label _ = []
 
 -- a command without what it is about
 abbrev pub short_label : What → List ℕ
@@ -102,19 +98,7 @@ short_label what = word_label what ++ content_label what
 abbrev pub saying_label : What → List ℕ
 saying_label (whats.Append a b) = content_label (whats.Append a b)
 saying_label (whats.Stop a b c) = content_label (whats.Stop a b c)
-saying_label (whats.Sync a) = short_label (whats.Sync a)
-saying_label (whats.Scan a) = short_label (whats.Scan a)
-saying_label (whats.Pull a b) = short_label (whats.Pull a b)
-saying_label (whats.Trim a) = short_label (whats.Trim a)
-saying_label (whats.Put a b c) = short_label (whats.Put a b c)
-saying_label (whats.Get a b) = short_label (whats.Get a b)
-saying_label (whats.Del a b) = short_label (whats.Del a b)
-saying_label (whats.PutAll a b) = short_label (whats.PutAll a b)
-saying_label (whats.GetAll a b) = short_label (whats.GetAll a b)
-saying_label (whats.Read a b) = short_label (whats.Read a b)
-saying_label (whats.Commit a b) = short_label (whats.Commit a b)
-saying_label (whats.Enq a b) = short_label (whats.Enq a b)
-saying_label (whats.Deq a) = short_label (whats.Deq a)
+saying_label what = short_label what
 
 -- a command whose object could not be read
 abbrev pub unread_label : What → List ℕ

@@ -5,17 +5,8 @@ use Rattle.std.specs.Option.{option_map}
 use Rattle.std.proofs.lemmas.List.{map-append}
 use Rattle.std.proofs.lemmas.List.Elements.{All-append, All-nil}
 use Rattle.std.proofs.lemmas.Option.{slice_get-map}
-
--- an item of a mapped list
-pub mapped : {A B : Type 0} (f : A → B) (xs : List A) (n : ℕ) (x : A) → slice_get xs n ≡ Some x
-    → slice_get (map f xs) n ≡ Some (f x)
-mapped f xs n x at = slice_get-map f xs n ∙ ap (option_map f) at
-
-pub unmapped : {A B : Type 0} (f : A → B) (xs : List A) (n : ℕ) (y : B) → slice_get (map f xs) n ≡ Some y
-    → (x : A) × (slice_get xs n ≡ Some x) × (f x ≡ y)
-unmapped f [] n y at = absurd (let g : ⊥ = cc (at) in g)
-unmapped f (x ∷ xs) zero y at = (x, refl, cc (at))
-unmapped f (x ∷ xs) (suc n) y at = unmapped f xs n y at
+pub use Rattle.log_node.proofs.CallerLemmas.{get_map_back as unmapped}
+pub use Rattle.log_node.proofs.CallerLemmas.{get_map as mapped}
 
 map_by_place : {A B : Type 0} (f : A → B) (g : ℕ → B) (a : ℕ) (xs : List A)
     → ((n : ℕ) (x : A) → slice_get xs n ≡ Some x → f x ≡ g (a + n)) → map f xs ≡ map g (range_with_len a (length xs))

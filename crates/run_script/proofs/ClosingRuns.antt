@@ -54,6 +54,7 @@ use Rattle.log_client.proofs.CallerLemmas.{open_row}
 use Rattle.run_script.specs.EndReports.{CanShow, HaveNodes, client_shown, columns_shown, end_report, id_of, node_at, nodes_in, nodes_of, row_shown, rows_shown}
 use Rattle.run_script.specs.Serving.{AreServed, HasStopped as Stopped, WasServed}
 use Rattle.run_script.proofs.ByPlace.{all_flat, flat_numbered, map_flat, map_numbered, mapped, numbered_at, numbered_get, numbered_second, unmapped}
+use Rattle.log_node.proofs.CallerLemmas.{get_range as range_is}
 
 -- what a search for one that is there finds
 finds : {A : Type 0} (test : A → Bool) (xs : List A) (x : A) → In x xs → test x ≡ true
@@ -65,12 +66,6 @@ finds {A} test (y ∷ ys) x i t = by (test y) refl i (λ j. finds test ys x j t)
   by true is j rest = (y, refl)
   by false is (inl same) rest = absurd (let two = sym is ∙ (ap test same ∙ t) in let f : ⊥ = cc (two) in f)
   by false is (inr j) rest = rest j
-
--- the numbers from one on, by place
-range_is : (a n i x : ℕ) → slice_get (range_with_len a n) i ≡ Some x → x ≡ a + i
-range_is a zero i x at = absurd (let f : ⊥ = cc (at) in f)
-range_is a (suc n) zero x at = let same : a ≡ x = cc (at) in omega (arith, same)
-range_is a (suc n) (suc i) x at = let e = range_is (a + 1) n i x at in omega (arith, e)
 
 shown_back : (s : List Standing) → map (λ (q : QueueKey). record { key = q.key; settled = q.settled }) (map waiting_shown s) ≡ s
 shown_back [] = refl

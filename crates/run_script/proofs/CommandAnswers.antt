@@ -1,5 +1,5 @@
 -- What the records of a client's calls say of the replies to its commands.
-use Rattle.std.proofs.Common.{◌≡◌, ◌≢◌, ℕ, ◌≤◌, List, [], ◌∷◌, length, refl, ap, sym, subst, inl, inr}
+use Rattle.std.proofs.Common.{◌≡◌, ◌≢◌, ℕ, ◌≤◌, List, [], ◌∷◌, length, None, refl, ap, sym, subst, inl, inr}
 use Rattle.std.specs.List.{All, AllZip}
 use Rattle.log_node.specs.declared.ids.Colours.{Colours}
 use Rattle.log_node.specs.declared.ids.Counts.{Counts}
@@ -13,55 +13,35 @@ use Rattle.col_core.specs.Log.{Log}
 use Rattle.col_core.proofs.CallerLemmas.{contains_in}
 use Rattle.script_text.specs.declared.script.What.{What}
 use Rattle.script_text.specs.declared.script.What.TheVariants as whats
+use Rattle.script_text.specs.declared.uses.Use.{Use}
+use Rattle.script_text.specs.declared.uses.Use.TheVariants.{OfLog, OfObject}
+use Rattle.script_text.specs.Uses.{use_of}
 use Rattle.report_text.specs.declared.report.Answer.TheVariants as answers
 use Rattle.report_text.specs.declared.report.PointPiece.{PointPiece}
 use Rattle.report_text.specs.declared.report.RaisePiece.{RaisePiece}
 use Rattle.report_text.specs.declared.report.SyncPiece.{SyncPiece}
 use Rattle.lawful_run.specs.Appends.{Appends, HasNoStamp, IsFull, IsGoneForMemory}
-use Rattle.lawful_run.specs.Asks.{home_asked}
+use Rattle.lawful_run.specs.Asks.{object_home, kind_in, home_asked}
 use Rattle.lawful_run.specs.Callers.{Caller, node_of}
 use Rattle.lawful_run.specs.Explains.{Explains}
 use Rattle.lawful_run.specs.Moves.{OnlyGives, Pulls, Trims, kept_after_pull, kept_after_giving, GivesAt, GivesTooLow, with_places}
 use Rattle.lawful_run.specs.Reads.{AreRead, HidesRead, IsTrimmed, ReadsAt, ShowsKey, ShowsPlayed, Syncs, greatest_stamp, RefusesRead}
-use Rattle.lawful_run.specs.Refusals.{FindsNoMemory, IsAway, gave, gone, hidden, kept_before, kept_behind, nothing}
+use Rattle.lawful_run.specs.Refusals.{FindsNoMemory, IsAway, gave, gone, hidden, before_by, behind_by, kept_before, kept_behind, nothing}
 use Rattle.lawful_run.specs.Stops.{Stops}
+use Rattle.run_script.specs.Opened.{object_in, object_asked}
 
 -- the command is answered by the log alone: it names no object
 abbrev pub IsOfLog : What → Type 0
-IsOfLog (whats.Append colours text) = Unit {0}
-IsOfLog (whats.Stop steps colours text) = Unit {0}
-IsOfLog (whats.Sync colour) = Unit {0}
-IsOfLog (whats.Scan colours) = Unit {0}
-IsOfLog (whats.Pull region colour) = Unit {0}
-IsOfLog (whats.Trim colour) = Unit {0}
-IsOfLog (whats.Put object key value) = ⊥
-IsOfLog (whats.Get object key) = ⊥
-IsOfLog (whats.Del object key) = ⊥
-IsOfLog (whats.PutAll object pairs) = ⊥
-IsOfLog (whats.GetAll object keys) = ⊥
-IsOfLog (whats.Read object keys) = ⊥
-IsOfLog (whats.Commit object pairs) = ⊥
-IsOfLog (whats.Enq object value) = ⊥
-IsOfLog (whats.Deq object) = ⊥
+IsOfLog what = object_asked what ≡ None
 
 -- it lets no read go, and has no home
 pub of_log : (what : What) (kept : Kept) → IsOfLog what → (kept_before what kept ≡ kept) × (kept_behind what kept ≡ kept)
     × ((caller : Caller) → IsAway caller (home_asked caller what) → ⊥)
-of_log (whats.Append colours text) kept of = (refl, refl, λ caller away. away)
-of_log (whats.Stop steps colours text) kept of = (refl, refl, λ caller away. away)
-of_log (whats.Sync colour) kept of = (refl, refl, λ caller away. away)
-of_log (whats.Scan colours) kept of = (refl, refl, λ caller away. away)
-of_log (whats.Pull region colour) kept of = (refl, refl, λ caller away. away)
-of_log (whats.Trim colour) kept of = (refl, refl, λ caller away. away)
-of_log (whats.Put object key value) kept of = absurd of
-of_log (whats.Get object key) kept of = absurd of
-of_log (whats.Del object key) kept of = absurd of
-of_log (whats.PutAll object pairs) kept of = absurd of
-of_log (whats.GetAll object keys) kept of = absurd of
-of_log (whats.Read object keys) kept of = absurd of
-of_log (whats.Commit object pairs) kept of = absurd of
-of_log (whats.Enq object value) kept of = absurd of
-of_log (whats.Deq object) kept of = absurd of
+of_log what kept = by (use_of what) where
+  by : (u : Use) → object_in u ≡ None → (before_by u kept ≡ kept) × (behind_by u kept ≡ kept)
+      × ((caller : Caller) → IsAway caller (object_home (kind_in caller u)) → ⊥)
+  by (OfLog stops) of = (refl, refl, λ caller away. away)
+  by (OfObject object read) of = absurd (let f : ⊥ = cc (of) in f)
 
 module _ (log : Log) (caller : Caller) (kept after : Kept) where
   -- APPENDS

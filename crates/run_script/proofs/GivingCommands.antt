@@ -19,7 +19,8 @@ use Rattle.script_text.specs.declared.script.What.{What}
 use Rattle.script_text.specs.declared.script.What.TheVariants as whats
 use Rattle.report_text.specs.declared.report.Answer.{Answer}
 use Rattle.report_text.specs.declared.report.Answer.TheVariants as answers
-use Rattle.lawful_run.specs.Asks.{manner_of, may_help}
+use Rattle.lawful_run.specs.Asks.{may_help}
+use Rattle.lawful_run.specs.Deeds.{manner_of}
 use Rattle.lawful_run.specs.Callers.{Caller, node_of}
 use Rattle.lawful_run.specs.Appends.{HasNoStamp, IsFull}
 use Rattle.lawful_run.specs.Explains.{Explains}
@@ -43,20 +44,9 @@ use Rattle.log_client.proofs.CallerLemmas.{grown_same}
 use Rattle.run_script.specs.Serving.{Gives, IsStopped}
 use Rattle.run_script.proofs.CommandAnswers as commands
 use Rattle.run_script.proofs.Giving.{gives}
+use Rattle.col_core.proofs.CallerLemmas.{range_has as in_range}
 
 -- SETS OF COLOURS
-
-in_range : (a n c : ℕ) → a ≤ c → c < a + n → In c (range_with_len a n)
-in_range a zero c lo hi = absurd (let f : ⊥ = omega (arith, lo, hi) in f)
-in_range a (suc n) c lo hi = elim (cases_eq c a) [
-  | inl same ↦ inl (sym same)
-  | inr ne ↦ inr (in_range (a + 1) n c (above a c lo ne) (omega (arith, hi)))
-] where
-  above : (a c : ℕ) → a ≤ c → c ≢ a → a + 1 ≤ c
-  above a c lo ne = elim (cases_lt a c) [
-    | inl less ↦ omega (arith, less)
-    | inr more ↦ absurd (ne (omega (arith, lo, more)))
-  ]
 
 -- what a set has is below what its members are below
 pub has_below : (set : Colours) (n : ℕ) → AreBelow n set → set.0 < 2 ^ MAX_COLOURS → (c : ℕ) → has set c ≡ true → c < n

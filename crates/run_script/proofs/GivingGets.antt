@@ -17,7 +17,8 @@ use Rattle.script_text.specs.declared.script.What.{What}
 use Rattle.script_text.specs.declared.script.What.TheVariants as whats
 use Rattle.report_text.specs.declared.report.Answer.{Answer}
 use Rattle.report_text.specs.declared.report.Answer.TheVariants as answers
-use Rattle.lawful_run.specs.Asks.{AsksToAppend, Getting, colours_synced, home_asked, manner_of, object_colours, object_home, shards}
+use Rattle.lawful_run.specs.Asks.{Getting, home_asked, object_colours, object_home, shards}
+use Rattle.lawful_run.specs.Deeds.{AsksToAppend, colours_synced, manner_of}
 use Rattle.lawful_run.specs.Callers.{Caller}
 use Rattle.lawful_run.specs.Explains.{Explains}
 use Rattle.lawful_run.specs.Reads.{HidesSyncs, IsTrimmed}
@@ -37,6 +38,7 @@ use Rattle.log_client.specs.Clients.{Helps, caller_of}
 use Rattle.log_client.specs.Objects.{AreColours, GetRefused, HidesOne, StandsThen}
 use Rattle.log_client.specs.Reading.{RestsOn}
 use Rattle.log_client.specs.StampedReads.{sync_piece}
+use Rattle.log_client.proofs.CallerLemmas.{none_hidden, nothing_hidden, untold_hidden}
 use Rattle.log_map.specs.Maps.{Gets, GetsAs}
 use Rattle.log_queue.specs.Queues.{DeqRefused, Dequeues, TakesAs, dequeue_text}
 use Rattle.causal_map.specs.CausalMaps.{GetsMany, GetsManyAs}
@@ -83,15 +85,15 @@ module _ (s : Store) (c d : Client) (on : RestsOn s c d) (objects : List Object)
     get_refused (faults.Append fault) is away = absurd is
     get_refused (faults.Sync (sync_faults.Trimmed shown base)) is away =
         gives_by s c d on objects what (answers.Trimmed shown base)
-        (λ log who kept after. IsTrimmed log who kept colour base × HidesOne colour log who kept after) none (inr idle) away
-        is.1
+        (λ log who kept after. IsTrimmed log who kept colour base × (after ≡ kept)) none (inr idle) away is.1
         (λ log kept after r. explains_get_trimmed log caller kept what shown base after getting
         (among (colours_synced caller what) colour shown synced is.0)
-        (subst (λ (k : ℕ). IsTrimmed log caller kept k base) (sym is.0) r.0) (hides log kept after r.1))
-    get_refused (faults.Sync sync_faults.NoMemory) is away = without is away
+        (subst (λ (k : ℕ). IsTrimmed log caller kept k base) (sym is.0) r.0)
+        (hides log kept after (none_hidden colour log caller kept after r.1)))
+    get_refused (faults.Sync sync_faults.NoMemory) is away = without (nothing_hidden s c d colour is) away
     get_refused (faults.Unread stamp why) is away = absurd is
     get_refused faults.NoTx is away = absurd is
-    get_refused faults.NoMemory is away = without is away
+    get_refused faults.NoMemory is away = without (untold_hidden s c d colour is) away
 
 -- the answer to a dequeue that was refused
 abbrev refusal : Result (Value × Appended × Synced) ObjectFault → Answer
@@ -194,11 +196,12 @@ module _ (s : Store) (c d : Client) (on : RestsOn s c d) (answer : Answer) where
     refused (faults.Unread stamp (sync_faults.Trimmed shown base)) is far =
         gives_by s c d on objects (whats.Deq object) (answers.UnreadTrimmed stamp shown base)
         (StandsThen is.1 dequeue_text stamp (λ log who stood after.
-        IsTrimmed log who stood colour base × HidesOne colour log who stood after)) (λ kept. (refl, refl)) (inl refl) far
+        IsTrimmed log who stood colour base × (after ≡ stood))) (λ kept. (refl, refl)) (inl refl) far
         is.3
         (λ log kept after r. explains_unread log (caller_of s d objects) kept (whats.Deq object) is.1 dequeue_text stamp shown base r.0 after refl
         (among (colours_synced (caller_of s d objects) (whats.Deq object)) colour shown (ap object_colours at) is.0) (asks kept is.1 is.2) r.1
-        (subst (λ (k : ℕ). IsTrimmed log (caller_of s d objects) r.0 k base) (sym is.0) r.2.0) (hides log r.0 after r.2.1))
+        (subst (λ (k : ℕ). IsTrimmed log (caller_of s d objects) r.0 k base) (sym is.0) r.2.0)
+        (hides log r.0 after (none_hidden colour log (caller_of s d objects) r.0 after r.2.1)))
     refused (faults.Unread stamp sync_faults.NoMemory) is far =
         gives_by s c d on objects (whats.Deq object) (answers.UnreadNoMemory stamp)
         (StandsThen is.0 dequeue_text stamp (HidesOne colour)) (λ kept. (refl, refl)) (inl refl) far is.2

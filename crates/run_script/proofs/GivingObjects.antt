@@ -11,7 +11,8 @@ use Rattle.script_text.specs.declared.script.What.TheVariants as whats
 use Rattle.report_text.specs.declared.report.Answer.{Answer}
 use Rattle.report_text.specs.declared.report.Answer.TheVariants as answers
 use Rattle.lawful_run.specs.Appends.{HasNoStamp, IsFull}
-use Rattle.lawful_run.specs.Asks.{Appending, AsksToAppend, Manner, Stopping, home_asked, manner_of, may_help}
+use Rattle.lawful_run.specs.Asks.{Appending, Manner, Stopping, home_asked, may_help}
+use Rattle.lawful_run.specs.Deeds.{AsksToAppend, manner_of}
 use Rattle.lawful_run.specs.Callers.{Caller, node_of}
 use Rattle.lawful_run.specs.Explains.{Explains}
 use Rattle.lawful_run.specs.Refusals.{IsAway, IsHomeRefusal, gone, kept_before, kept_behind, nothing}

@@ -26,14 +26,15 @@ use Rattle.report_text.specs.declared.report.KeyAnswer.{KeyAnswer}
 use Rattle.report_text.specs.declared.report.RaisePiece.{RaisePiece}
 use Rattle.report_text.specs.declared.report.SyncPiece.{SyncPiece}
 use Rattle.lawful_run.specs.Appends.{HasNoStamp, IsFull}
-use Rattle.lawful_run.specs.Asks.{AsksToAppend, Manner, Reading, Stopping, colours_synced, home_asked, home_of, keys_of, manner_of, object_colours, object_home, rising, shards}
+use Rattle.lawful_run.specs.Asks.{Manner, Reading, Stopping, home_asked, home_of, keys_of, object_colours, object_home, rising, shards}
+use Rattle.lawful_run.specs.Deeds.{AsksToAppend, colours_synced, manner_of}
 use Rattle.lawful_run.specs.Callers.{Caller, node_of}
 use Rattle.lawful_run.specs.Explains.{Explains}
 use Rattle.lawful_run.specs.Objects.{AreAnswers, shown_verdict}
 use Rattle.lawful_run.specs.Reads.{HidesRead, ReadsAt, RefusesRead}
 use Rattle.lawful_run.specs.Refusals.{Hides, Refuses, IsAway, IsHomeRefusal, gone, hidden, nothing}
 use Rattle.lawful_run.specs.Refusals.{FindsNoMemory as HasNoMemory}
-use Rattle.lawful_run.proofs.CallerLemmas.{explained_keeps, explains_no_read, explains_read, explains_unruled, explains_unruled_without, explains_verdict, reads_keep}
+use Rattle.lawful_run.proofs.CallerLemmas.{commit_asks, explained_keeps, explains_no_read, explains_read, explains_unruled, explains_unruled_without, explains_verdict, reads_keep}
 use Rattle.client_law.specs.Knowing.{Rest, log_of}
 use Rattle.script_meaning.specs.States.{kind_in}
 use Rattle.append_core.specs.declared.several.MultiFault.{MultiFault}
@@ -322,12 +323,9 @@ module _ (s : Store) (c d : Client) (on : RestsOn s c d) (objects : List Object)
       -- the node that is asked for rests on these versions
       asks : (kept : Kept) (set : Colours) → kept.reads object ≡ Some rests → members set ≡ own
           → AsksToAppend it kept commit set text
-      asks kept set reads is = (
-        rests,
-        reads,
-        is ∙ ap (λ (k : Option Kind). shards (object_colours k) (version_keys rests ++ keys_of pairs)) (sym at),
-        refl,
-      )
+      asks kept set reads is =
+          commit_asks it kept object pairs rests set text reads
+          (is ∙ ap (λ (k : Option Kind). shards (object_colours k) (version_keys rests ++ keys_of pairs)) (sym at)) refl
 
       not_at_once : (set : Colours) (asked : List ℕ) → commit ≢ whats.Stop 0 set asked
       not_at_once set asked e = let f : ⊥ = cc (e) in f
@@ -445,19 +443,21 @@ module _ (s : Store) (c d : Client) (on : RestsOn s c d) (answer : Answer) where
         (λ log kept after x. (
           refl,
           after,
-          subst (λ (l : List ℕ). ReadsAt log (caller_of s d objects) kept l r.1.stamp raises syncs after)
-              (sym synced_are) x.1.0,
-          x.0,
-          x.1.1,
-          x.2,
-          x.3,
-          inl (
-            object,
-            keys,
-            refl,
-            subst (λ (v : List Value). AreAnswers keys v shows.0)
-                (x.4 ∙ ap (λ (k : Option Kind). values_among (object_colours k) x.2 keys) (sym at)) shows.1,
-            refl,
+          (
+            subst (λ (l : List ℕ). ReadsAt log (caller_of s d objects) kept l r.1.stamp raises syncs after)
+                (sym synced_are) x.1.0,
+            x.0,
+            x.1.1,
+            x.2,
+            x.3,
+            inl (
+              object,
+              keys,
+              refl,
+              subst (λ (v : List Value). AreAnswers keys v shows.0)
+                  (x.4 ∙ ap (λ (k : Option Kind). values_among (object_colours k) x.2 keys) (sym at)) shows.1,
+              refl,
+            ),
           ),
         )))
         (λ far. absurd (let e = away_told s c d on objects (whats.GetAll object keys) home _ (ap object_home at) tells far in
@@ -472,7 +472,7 @@ module _ (s : Store) (c d : Client) (on : RestsOn s c d) (answer : Answer) where
   pub gives_read : (m n : TxMap) (found now : Option Tx) (keys : List (List ℕ))
       (call : Result (List Value × Tx × StampedRead) ObjectFault) → now ≡ tx_found call
       → ShowsKeys keys (keys_found call) answer → (c.region ≢ m.home → call ≡ Err (faults.NotHome m.home))
-      → IfOk call (λ r. ReadsKeys s c d m.colours m.kept.last keys r.0 r.1 r.2)
+      → IfOk call (λ r. ReadsKeys s c d m.colours m.fold.kept.last keys r.0 r.1 r.2)
       → IfErr call (KeysRefused m.home s c d (rising m.colours))
       → GivesTo s c d (opened.Tx m found) (opened.Tx n now) (λ object. whats.Read object keys) answer
   gives_read m n found now keys call is shows tells ok err objects object at = by call is shows tells ok err where
@@ -481,7 +481,7 @@ module _ (s : Store) (c d : Client) (on : RestsOn s c d) (answer : Answer) where
 
     by : (call : Result (List Value × Tx × StampedRead) ObjectFault) → now ≡ tx_found call
         → ShowsKeys keys (keys_found call) answer → (c.region ≢ m.home → call ≡ Err (faults.NotHome m.home))
-        → IfOk call (λ r. ReadsKeys s c d m.colours m.kept.last keys r.0 r.1 r.2)
+        → IfOk call (λ r. ReadsKeys s c d m.colours m.fold.kept.last keys r.0 r.1 r.2)
         → IfErr call (KeysRefused m.home s c d (rising m.colours))
         → GivesAt s objects c d object (opened.Tx m found) (opened.Tx n now) (whats.Read object keys) answer
     by (Ok r) is shows tells ok err =
@@ -534,7 +534,7 @@ module _ (s : Store) (c d : Client) (on : RestsOn s c d) (answer : Answer) where
   pub gives_commit : (m n : TxMap) (found : Option Tx) (pairs : List Pair)
       (call : Result (Verdict × Appended × StampedRead) ObjectFault) → answer ≡ commit_answer call
       → (c.region ≢ m.home → call ≡ Err (faults.NotHome m.home))
-      → IfOk call (λ r. (rests : Tx) × (found ≡ Some rests) × Commits s c d m.colours m.kept.last rests.versions pairs r.0 r.1 r.2)
+      → IfOk call (λ r. (rests : Tx) × (found ≡ Some rests) × Commits s c d m.colours m.fold.kept.last rests.versions pairs r.0 r.1 r.2)
       → IfErr call (CommitRefused m.home s c d m.colours (option_map (λ (t : Tx). t.versions) found) pairs)
       → GivesTo s c d (opened.Tx m found) (opened.Tx n None) (λ object. whats.Commit object pairs) answer
   gives_commit m n found pairs call shown tells ok err objects object at =
@@ -543,14 +543,14 @@ module _ (s : Store) (c d : Client) (on : RestsOn s c d) (answer : Answer) where
       (by call tells ok err) where
         by : (call : Result (Verdict × Appended × StampedRead) ObjectFault)
             → (c.region ≢ m.home → call ≡ Err (faults.NotHome m.home))
-            → IfOk call (λ r. (rests : Tx) × (found ≡ Some rests) × Commits s c d m.colours m.kept.last rests.versions pairs r.0 r.1 r.2)
+            → IfOk call (λ r. (rests : Tx) × (found ≡ Some rests) × Commits s c d m.colours m.fold.kept.last rests.versions pairs r.0 r.1 r.2)
             → IfErr call (CommitRefused m.home s c d m.colours (option_map (λ (t : Tx). t.versions) found) pairs)
             → GivesAt s objects c d object (opened.Tx m found) (opened.Tx n None) (whats.Commit object pairs) (commit_answer call)
         by (Ok r) tells ok err =
             given_commit s c d on objects object pairs (opened.Tx m found) (opened.Tx n None) (commit_answer (Ok r))
             (subst (λ (o : Option Tx). IsRuled s c d on objects object pairs (versions_in (opened.Tx m o))
             (commit_answer (Ok r)))
-            (sym ok.1) (committed s c d on objects object pairs m.home m.colours at ok.0.versions m.kept.last r.0 r.1 r.2 ok.2)) refl
+            (sym ok.1) (committed s c d on objects object pairs m.home m.colours at ok.0.versions m.fold.kept.last r.0 r.1 r.2 ok.2)) refl
             (λ far. absurd (
             let e = away_told s c d on objects (whats.Commit object pairs) m.home _ (ap object_home at) tells far in
             let f : ⊥ = cc (e) in f))

@@ -26,21 +26,8 @@ use Rattle.run_script.specs.TopCall.{IsLoaded}
 
 -- a command of a load is no stop
 no_stop : (what : What) → IsPlainWhat what → is_stop what ≡ false
-no_stop (whats.Append colours text) p = refl
 no_stop (whats.Stop steps colours text) p = absurd p
-no_stop (whats.Sync colour) p = refl
-no_stop (whats.Scan colours) p = absurd p
-no_stop (whats.Pull region colour) p = refl
-no_stop (whats.Trim colour) p = absurd p
-no_stop (whats.Put object key value) p = absurd p
-no_stop (whats.Get object key) p = absurd p
-no_stop (whats.Del object key) p = absurd p
-no_stop (whats.PutAll object pairs) p = absurd p
-no_stop (whats.GetAll object keys) p = absurd p
-no_stop (whats.Read object keys) p = absurd p
-no_stop (whats.Commit object pairs) p = absurd p
-no_stop (whats.Enq object value) p = absurd p
-no_stop (whats.Deq object) p = absurd p
+no_stop _ p = refl
 
 pub load_can_run : LoadsFit → (count : ℕ) → count ≤ MAX_LOAD → (script : Script) → script ≡ load_script count
     → (dealt : DealtScript) → IsDealt script dealt → CanRun script dealt

@@ -6,13 +6,16 @@ use Rattle.std.proofs.lemmas.Simd.{map-map}
 use Rattle.std.proofs.lemmas.Option.{slice_get-map, get_or_from_slice_get, slice_get_within}
 use Rattle.log_node.specs.declared.limits.TheConstants.{MAX_COLOURS}
 use Rattle.log_node.specs.Seen.{PlacedNode}
-use Rattle.script_text.specs.Fitting.{HasObject, IsKindWithin, UsesObject, is_any_map, is_map, is_queue, is_tx}
+use Rattle.script_text.specs.Fitting.{HasObject, IsKindWithin, UsesOne, UsesObject, kinds_asked, is_tx}
 use Rattle.script_text.specs.declared.script.Kind.{Kind}
 use Rattle.script_text.specs.declared.script.Kind.TheVariants as kinds
 use Rattle.script_text.specs.declared.script.Object.{Object}
 use Rattle.script_text.specs.declared.script.Command.{Command}
 use Rattle.script_text.specs.declared.script.What.{What}
-use Rattle.script_text.specs.declared.script.What.TheVariants as whats
+use Rattle.script_text.specs.declared.uses.Use.{Use}
+use Rattle.script_text.specs.declared.uses.Use.TheVariants.{OfLog, OfObject}
+use Rattle.script_text.specs.Table.{is_of}
+use Rattle.script_text.specs.Uses.{use_of}
 use Rattle.script_text.specs.Words.{word_of}
 use Rattle.report_text.specs.declared.report.Answer.{Answer}
 use Rattle.report_text.specs.declared.report.ReplyLine.{ReplyLine}
@@ -31,10 +34,9 @@ use Rattle.atomic_map.proofs.CallerLemmas.{map_later as atomic_later}
 use Rattle.region_fold.proofs.CallerLemmas.{map_later as tx_later}
 use Rattle.run_script.specs.declared.serving.opened.Opened.{Opened}
 use Rattle.run_script.specs.declared.serving.opened.Opened.TheVariants as opened
-use Rattle.run_script.specs.Opened.{AreKept, AreOf, HasCommand, IsKept, IsOfOne, IsUnfolded, StaysOpen, kind_opened, object_asked}
+use Rattle.run_script.specs.Opened.{AreKept, AreOf, HasBy, HasCommand, IsKept, IsOfOne, IsUnfolded, StaysOpen, kind_opened, object_in, object_asked}
 use Rattle.run_script.specs.Serving.{Gives, GivesAll, GivesAt, GivesFor, GivesTo, IsAnswered}
 use Rattle.run_script.proofs.ByPlace.{mapped, unmapped}
-use Rattle.run_script.proofs.CommandAnswers.{IsOfLog}
 use Rattle.run_script.proofs.GivingObjects.{LetsNoneGo}
 use Rattle.run_script.proofs.ReadsFound.{IsNoRead, finds_same, given_at}
 
@@ -134,39 +136,13 @@ named object n e = cc (e)
 
 pub of_one : (objects : List Object) (xs : List Opened) (what : What) → AreOf objects xs → UsesObject objects what
     → IsOfOne xs what
-of_one objects xs (whats.Append colours text) of uses n at = absurd (let f : ⊥ = cc (at) in f)
-of_one objects xs (whats.Stop steps colours text) of uses n at = absurd (let f : ⊥ = cc (at) in f)
-of_one objects xs (whats.Sync colour) of uses n at = absurd (let f : ⊥ = cc (at) in f)
-of_one objects xs (whats.Scan colours) of uses n at = absurd (let f : ⊥ = cc (at) in f)
-of_one objects xs (whats.Pull region colour) of uses n at = absurd (let f : ⊥ = cc (at) in f)
-of_one objects xs (whats.Trim colour) of uses n at = absurd (let f : ⊥ = cc (at) in f)
-of_one objects xs (whats.Put object key value) of uses n at =
-    let x = there_is objects xs object is_any_map of uses.0 in
-    (x.0, subst (λ (k : ℕ). slice_get xs k ≡ Some x.0) (named object n at) x.1, (x.2, uses.1, uses.2))
-of_one objects xs (whats.Get object key) of uses n at =
-    let x = there_is objects xs object is_any_map of uses.0 in
-    (x.0, subst (λ (k : ℕ). slice_get xs k ≡ Some x.0) (named object n at) x.1, (x.2, uses.1))
-of_one objects xs (whats.Del object key) of uses n at =
-    let x = there_is objects xs object is_map of uses.0 in
-    (x.0, subst (λ (k : ℕ). slice_get xs k ≡ Some x.0) (named object n at) x.1, (x.2, uses.1))
-of_one objects xs (whats.PutAll object pairs) of uses n at =
-    let x = there_is objects xs object is_map of uses.0 in
-    (x.0, subst (λ (k : ℕ). slice_get xs k ≡ Some x.0) (named object n at) x.1, (x.2, uses.1))
-of_one objects xs (whats.GetAll object keys) of uses n at =
-    let x = there_is objects xs object is_map of uses.0 in
-    (x.0, subst (λ (k : ℕ). slice_get xs k ≡ Some x.0) (named object n at) x.1, (x.2, uses.1))
-of_one objects xs (whats.Read object keys) of uses n at =
-    let x = there_is objects xs object is_tx of uses.0 in
-    (x.0, subst (λ (k : ℕ). slice_get xs k ≡ Some x.0) (named object n at) x.1, (x.2, uses.1))
-of_one objects xs (whats.Commit object pairs) of uses n at =
-    let x = there_is objects xs object is_tx of uses.0 in
-    (x.0, subst (λ (k : ℕ). slice_get xs k ≡ Some x.0) (named object n at) x.1, (x.2, uses.1))
-of_one objects xs (whats.Enq object value) of uses n at =
-    let x = there_is objects xs object is_queue of uses.0 in
-    (x.0, subst (λ (k : ℕ). slice_get xs k ≡ Some x.0) (named object n at) x.1, (x.2, uses.1))
-of_one objects xs (whats.Deq object) of uses n at =
-    let x = there_is objects xs object is_queue of uses in
-    (x.0, subst (λ (k : ℕ). slice_get xs k ≡ Some x.0) (named object n at) x.1, x.2)
+of_one objects xs what of = by (use_of what) where
+  by : (u : Use) → UsesOne objects what u → (n : ℕ) → object_in u ≡ Some n
+      → (x : Opened) × (slice_get xs n ≡ Some x) × HasBy (kind_opened x) what u
+  by (OfLog stops) uses n at = absurd (let f : ⊥ = cc (at) in f)
+  by (OfObject object read) uses n at =
+      let x = there_is objects xs object (is_of (kinds_asked what)) of uses.0 in
+      (x.0, subst (λ (k : ℕ). slice_get xs k ≡ Some x.0) (named object n at) x.1, (x.2, uses.1))
 
 -- the same of the same objects, of which more is folded
 pub of_one_on : (xs ys : List Opened) (what : What) → map kind_opened ys ≡ map kind_opened xs → IsOfOne xs what
@@ -191,24 +167,6 @@ some_objects xs = (
   map (λ (x : Opened). record { name = []; kind = kind_opened x }) xs,
   map-map (λ (o : Object). o.kind) (λ (x : Opened). record { name = []; kind = kind_opened x }) xs,
 )
-
--- a command of no object is of the log
-pub of_none : (what : What) → object_asked what ≡ None → IsOfLog what
-of_none (whats.Append colours text) none = tt
-of_none (whats.Stop steps colours text) none = tt
-of_none (whats.Sync colour) none = tt
-of_none (whats.Scan colours) none = tt
-of_none (whats.Pull region colour) none = tt
-of_none (whats.Trim colour) none = tt
-of_none (whats.Put object key value) none = absurd (let f : ⊥ = cc (none) in f)
-of_none (whats.Get object key) none = absurd (let f : ⊥ = cc (none) in f)
-of_none (whats.Del object key) none = absurd (let f : ⊥ = cc (none) in f)
-of_none (whats.PutAll object pairs) none = absurd (let f : ⊥ = cc (none) in f)
-of_none (whats.GetAll object keys) none = absurd (let f : ⊥ = cc (none) in f)
-of_none (whats.Read object keys) none = absurd (let f : ⊥ = cc (none) in f)
-of_none (whats.Commit object pairs) none = absurd (let f : ⊥ = cc (none) in f)
-of_none (whats.Enq object value) none = absurd (let f : ⊥ = cc (none) in f)
-of_none (whats.Deq object) none = absurd (let f : ⊥ = cc (none) in f)
 
 -- WHAT IS GIVEN
 

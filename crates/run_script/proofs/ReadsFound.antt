@@ -44,22 +44,16 @@ pub finds_same : (x y : Opened) → is_tx (kind_opened x) ≡ false → kind_ope
 finds_same x y other same = finds_none y (ap is_tx same ∙ other) ∙ sym (finds_none x other)
 
 pub map_not_tx : (kind : Kind) → IsTrue (is_map kind) → is_tx kind ≡ false
-map_not_tx (kinds.Map home colours) is = refl
 map_not_tx (kinds.Tx home colours) is = absurd (let f : ⊥ = cc (is) in f)
-map_not_tx (kinds.Causal colour) is = refl
-map_not_tx (kinds.Queue home colour) is = refl
+map_not_tx _ is = refl
 
 pub any_map_not_tx : (kind : Kind) → IsTrue (is_any_map kind) → is_tx kind ≡ false
-any_map_not_tx (kinds.Map home colours) is = refl
 any_map_not_tx (kinds.Tx home colours) is = absurd (let f : ⊥ = cc (is) in f)
-any_map_not_tx (kinds.Causal colour) is = refl
-any_map_not_tx (kinds.Queue home colour) is = refl
+any_map_not_tx _ is = refl
 
 pub queue_not_tx : (kind : Kind) → IsTrue (is_queue kind) → is_tx kind ≡ false
-queue_not_tx (kinds.Map home colours) is = refl
 queue_not_tx (kinds.Tx home colours) is = absurd (let f : ⊥ = cc (is) in f)
-queue_not_tx (kinds.Causal colour) is = refl
-queue_not_tx (kinds.Queue home colour) is = refl
+queue_not_tx _ is = refl
 
 -- who keeps nothing keeps the reads of objects of which nothing was read
 pub none_found : (xs : List Opened) → All IsUnfolded xs → HaveReads xs nothing_kept
@@ -106,7 +100,7 @@ abbrev pub IsNoRead : What → Type 0
 IsNoRead what = (object : ℕ) (asked : List (List ℕ)) → what ≢ whats.Read object asked
 
 no_read : (what : What) → IsOfLog what → IsNoRead what
-no_read what of object asked is = subst IsOfLog is of
+no_read what of object asked is = let f : ⊥ = cc (subst IsOfLog is of) in f
 
 -- of an object, which neither lets a read go nor uses it up
 pub given_at : (s : Store) (objects : List Object) (c d : Client) (object : ℕ) (x y : Opened) (what : What)

@@ -12,7 +12,8 @@ use Rattle.script_text.specs.declared.script.Object.{Object}
 use Rattle.script_text.specs.declared.script.Script.{Script}
 use Rattle.script_text.specs.Items.{is_stop}
 use Rattle.report_text.specs.declared.report.ReplyLine.{ReplyLine}
-use Rattle.lawful_run.specs.Asks.{manner_of, may_help}
+use Rattle.lawful_run.specs.Asks.{may_help}
+use Rattle.lawful_run.specs.Deeds.{manner_of}
 use Rattle.lawful_run.specs.Callers.{Caller, commands_of}
 use Rattle.lawful_run.specs.Explains.{start}
 use Rattle.client_law.specs.Kept.{IsKeptBy}

@@ -5,14 +5,15 @@ use Rattle.log_node.specs.declared.limits.TheConstants.{MAX_COLOURS}
 use Rattle.log_node.specs.declared.forms.Version.{Version}
 use Rattle.object_form.specs.Forms.{AreVersions}
 use Rattle.col_core.specs.Keeping.{Kept, updated}
-use Rattle.script_text.specs.Fitting.{IsKindWithin, is_any_map, is_map, is_queue, is_tx}
-use Rattle.script_text.specs.Grammar.{are_keys, are_pairs}
-use Rattle.script_text.specs.Pieces.{is_key}
+use Rattle.script_text.specs.Table.{is_of}
+use Rattle.script_text.specs.Fitting.{IsKindWithin, kinds_asked, HasWords}
+use Rattle.script_text.specs.Uses.{use_of}
 use Rattle.script_text.specs.declared.script.Kind.{Kind}
 use Rattle.script_text.specs.declared.script.Kind.TheVariants as kinds
 use Rattle.script_text.specs.declared.script.Object.{Object}
 use Rattle.script_text.specs.declared.script.What.{What}
-use Rattle.script_text.specs.declared.script.What.TheVariants as whats
+use Rattle.script_text.specs.declared.uses.Use.{Use}
+use Rattle.script_text.specs.declared.uses.Use.TheVariants.{OfLog, OfObject}
 use Rattle.log_client.specs.declared.client.Client.{Client}
 use Rattle.log_client.specs.Clients.{tracks_of}
 use Rattle.log_map.specs.Maps.{IsMapOf}
@@ -84,40 +85,20 @@ StaysOpen c x y = (kind_opened y ≡ kind_opened x) × IsKept c y
 -- WHICH OBJECT IS ASKED
 
 -- the number of the object that a command is of
+abbrev pub object_in : Use → Option ℕ
+object_in (OfLog stops) = None
+object_in (OfObject object read) = Some object
+
 abbrev pub object_asked : What → Option ℕ
-object_asked (whats.Append colours text) = None
-object_asked (whats.Stop steps colours text) = None
-object_asked (whats.Sync colour) = None
-object_asked (whats.Scan colours) = None
-object_asked (whats.Pull region colour) = None
-object_asked (whats.Trim colour) = None
-object_asked (whats.Put object key value) = Some object
-object_asked (whats.Get object key) = Some object
-object_asked (whats.Del object key) = Some object
-object_asked (whats.PutAll object pairs) = Some object
-object_asked (whats.GetAll object keys) = Some object
-object_asked (whats.Read object keys) = Some object
-object_asked (whats.Commit object pairs) = Some object
-object_asked (whats.Enq object value) = Some object
-object_asked (whats.Deq object) = Some object
+object_asked what = object_in (use_of what)
 
 -- An object of this kind has the command, with keys and values that may be.
+abbrev pub HasBy : Kind → What → Use → Type 0
+HasBy kind what (OfLog stops) = ⊥
+HasBy kind what (OfObject object read) = IsTrue (is_of (kinds_asked what) kind) × HasWords what
+
 abbrev pub HasCommand : Kind → What → Type 0
-HasCommand kind (whats.Append colours text) = ⊥
-HasCommand kind (whats.Stop steps colours text) = ⊥
-HasCommand kind (whats.Sync colour) = ⊥
-HasCommand kind (whats.Scan colours) = ⊥
-HasCommand kind (whats.Pull region colour) = ⊥
-HasCommand kind (whats.Trim colour) = ⊥
-HasCommand kind (whats.Put object key value) = IsTrue (is_any_map kind) × IsTrue (is_key key) × IsTrue (is_key value)
-HasCommand kind (whats.Get object key) = IsTrue (is_any_map kind) × IsTrue (is_key key)
-HasCommand kind (whats.Del object key) = IsTrue (is_map kind) × IsTrue (is_key key)
-HasCommand kind (whats.PutAll object pairs) = IsTrue (is_map kind) × IsTrue (are_pairs 4 pairs)
-HasCommand kind (whats.GetAll object keys) = IsTrue (is_map kind) × IsTrue (are_keys 4 keys)
-HasCommand kind (whats.Read object keys) = IsTrue (is_tx kind) × IsTrue (are_keys 2 keys)
-HasCommand kind (whats.Commit object pairs) = IsTrue (is_tx kind) × IsTrue (are_pairs 2 pairs)
-HasCommand kind (whats.Enq object value) = IsTrue (is_queue kind) × IsTrue (is_key value)
-HasCommand kind (whats.Deq object) = IsTrue (is_queue kind)
+HasCommand kind what = HasBy kind what (use_of what)
 
 -- Where the command is of an object, it is one of these, which has it.
 abbrev pub IsOfOne : List Opened → What → Type 0

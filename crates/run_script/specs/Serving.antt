@@ -13,7 +13,8 @@ use Rattle.script_text.specs.declared.script.Script.{Script}
 use Rattle.report_text.specs.declared.report.Answer.{Answer}
 use Rattle.report_text.specs.declared.report.Answer.TheVariants as answers
 use Rattle.report_text.specs.declared.report.ReplyLine.{ReplyLine}
-use Rattle.lawful_run.specs.Asks.{home_asked, manner_of, may_help}
+use Rattle.lawful_run.specs.Asks.{home_asked, may_help}
+use Rattle.lawful_run.specs.Deeds.{manner_of}
 use Rattle.lawful_run.specs.Callers.{commands_of}
 use Rattle.lawful_run.specs.Explains.{Answers, Explains}
 use Rattle.lawful_run.specs.Refusals.{IsAway, IsHomeRefusal, kept_before, kept_behind}

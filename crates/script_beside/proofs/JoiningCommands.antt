@@ -9,7 +9,9 @@ use Rattle.std.proofs.lemmas.List.Sums.{fold-append}
 use Rattle.script_text.specs.declared.script.Object.{Object}
 use Rattle.script_text.specs.declared.script.Command.{Command}
 use Rattle.script_text.specs.declared.script.What.{What}
-use Rattle.script_text.specs.declared.script.What.TheVariants as whats
+use Rattle.script_text.specs.declared.uses.ReadUse.TheVariants.{Takes, UsesUp}
+use Rattle.script_text.specs.declared.uses.Use.{Use}
+use Rattle.script_text.specs.declared.uses.Use.TheVariants.{OfObject}
 use Rattle.script_text.specs.declared.item.Item.{Item}
 use Rattle.script_text.specs.declared.item.Item.TheVariants as items
 use Rattle.script_text.specs.declared.table.Field.{Field}
@@ -17,10 +19,11 @@ use Rattle.script_text.specs.declared.table.Field.TheVariants as fields
 use Rattle.script_text.specs.declared.table.Last.{Last}
 use Rattle.script_text.specs.declared.table.Last.TheVariants as lasts
 use Rattle.script_text.specs.declared.given.Given.{Given}
+use Rattle.script_text.specs.Uses.{use_of}
 use Rattle.script_text.specs.Table.{row_fields, last_of, own_fields, later_fields, nothing}
 use Rattle.script_text.specs.Words.{word_of, word_text}
 use Rattle.script_text.specs.Pieces.{fields_of, name_of}
-use Rattle.script_text.specs.Items.{has_begun, regions_in, colours_in, clients_in, objects_in, last_said, region_names, colour_names, client_names, objects, commands, is_stop, has_stopped, holds_read, has_read}
+use Rattle.script_text.specs.Items.{has_begun, regions_in, colours_in, clients_in, objects_in, last_said, region_names, colour_names, client_names, objects, commands, is_stop, has_stopped, held_by, holds_read, has_read}
 use Rattle.script_text.specs.Grammar.{may_follow, are_new_numbers, is_one_of, Spells, SpellAll, ends_well, SpellsWhat, Says, Say}
 use Rattle.script_beside.specs.Joining.{later, NoneStops}
 use Rattle.script_beside.proofs.JoiningLines.{moved}
@@ -83,27 +86,15 @@ and_more : (a b x : Bool) → (a ≡ true → b ≡ true) → (a && x) ≡ true 
 and_more true b x h e = ap (λ (c : Bool). c && x) (h refl) ∙ e
 and_more false b x h e = absurd (let f : ⊥ = cc in f)
 
-holds_more : (object : ℕ) (a b : Bool) (what : What) → (a ≡ true → b ≡ true) → holds_read object a what ≡ true → holds_read object b what ≡ true
-holds_more object a b (whats.Append _ _) h e = h e
-holds_more object a b (whats.Stop _ _ _) h e = h e
-holds_more object a b (whats.Sync _) h e = h e
-holds_more object a b (whats.Scan _) h e = h e
-holds_more object a b (whats.Pull _ _) h e = h e
-holds_more object a b (whats.Trim _) h e = h e
-holds_more object a b (whats.Put _ _ _) h e = h e
-holds_more object a b (whats.Get _ _) h e = h e
-holds_more object a b (whats.Del _ _) h e = h e
-holds_more object a b (whats.PutAll _ _) h e = h e
-holds_more object a b (whats.GetAll _ _) h e = h e
-holds_more object a b (whats.Read o _) h e = or_more a b (eqb o object) h e
-holds_more object a b (whats.Commit o _) h e = and_more a b (not (eqb o object)) h e
-holds_more object a b (whats.Enq _ _) h e = h e
-holds_more object a b (whats.Deq _) h e = h e
+holds_more : (object : ℕ) (a b : Bool) (u : Use) → (a ≡ true → b ≡ true) → held_by object a u ≡ true → held_by object b u ≡ true
+holds_more object a b (OfObject o Takes) h e = or_more a b (eqb o object) h e
+holds_more object a b (OfObject o UsesUp) h e = and_more a b (not (eqb o object)) h e
+holds_more object a b _ h e = h e
 
 follow_more : (client object : ℕ) (a b : Bool) (c : Command) → (a ≡ true → b ≡ true) → follow client object a c ≡ true → follow client object b c ≡ true
 follow_more client object a b c h = of (eqb c.client client) where
   of : (test : Bool) → cond test (holds_read object a c.what) a ≡ true → cond test (holds_read object b c.what) b ≡ true
-  of true e = holds_more object a b c.what h e
+  of true e = holds_more object a b (use_of c.what) h e
   of false e = h e
 
 -- a read that is there without other commands is there behind them

@@ -129,10 +129,6 @@ is_read header cut s stops count part is many own stop counted =
 
 -- ---- cuts
 
-lines_onto : (b : ℕ) (lines : List (List ℕ)) → length lines ≤ length (onto_first b lines)
-lines_onto b [] = omega arith
-lines_onto b (line ∷ lines) = omega arith
-
 onto_more : (b : ℕ) (few many : List (List ℕ)) → length few ≤ length many → length (onto_first b few) ≤ length (onto_first b many)
 onto_more b [] [] le = omega arith
 onto_more b [] (line ∷ lines) le = omega arith
@@ -171,35 +167,6 @@ pub record Cutting (lines : List ℕ) (cuts : List Cut) (rest : List ℕ) (befor
   pub ends : EndsALine (bytes_of cuts)
   pub counted : before ≡ line_feeds (bytes_of cuts)
   pub each : AreCuts cuts
-
-pub no_cuts : (lines : List ℕ) (cuts : List Cut) → cuts ≡ [] → Cutting lines cuts lines 0
-no_cuts lines cuts none = subst (λ (l : List Cut). Cutting lines l lines 0) (sym none) (record {
-  whole = refl;
-  ends = inl refl;
-  counted = refl;
-  each = λ n cut at. absurd (let lt = slice_get_within [] n cut at in let e : ⊥ = omega (arith, lt) in e);
-})
-
--- there are no more line feeds than bytes
-pub feeds_few : (bytes : List ℕ) → line_feeds bytes ≤ length bytes
-feeds_few bytes = count_by-le-length (λ b. b == 10) bytes
-
-pub before_few : (lines : List ℕ) (cuts : List Cut) (rest : List ℕ) (before : ℕ) → Cutting lines cuts rest before → length lines ≤ MAX_BYTES → before ≤ MAX_BYTES
-before_few lines cuts rest before so few =
-    let all = ap (λ (l : List ℕ). length l) so.whole in
-    let parts = length-append (bytes_of cuts) rest in
-    let feeds = feeds_few (bytes_of cuts) in
-    let is = so.counted in
-    omega (arith, all, parts, feeds, is, few)
-
-pub rest_few : (lines : List ℕ) (cuts : List Cut) (rest : List ℕ) (before : ℕ) (bytes after : List ℕ) → Cutting lines cuts rest before → length lines ≤ MAX_BYTES
-    → rest ≡ bytes ++ after → length bytes ≤ MAX_BYTES
-rest_few lines cuts rest before bytes after so few is =
-    let all = ap (λ (l : List ℕ). length l) so.whole in
-    let parts = length-append (bytes_of cuts) rest in
-    let more = ap (λ (l : List ℕ). length l) is in
-    let both = length-append bytes after in
-    omega (arith, all, parts, more, both, few)
 
 -- a part behind those before it
 cuts_more : (cuts : List Cut) (cut : Cut) → AreCuts cuts → IsBehind (bytes_of cuts) cut → AreCuts (cuts ++ cut ∷ [])

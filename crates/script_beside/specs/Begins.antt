@@ -11,19 +11,11 @@ use Rattle.script_text.specs.declared.script.Command.{Command}
 abbrev pub may_begin : What → Bool
 may_begin (whats.Append colours text) = nat_lt 1 (length (members colours))
 may_begin (whats.Stop steps colours text) = true
-may_begin (whats.Sync colour) = false
-may_begin (whats.Scan colours) = false
-may_begin (whats.Pull region colour) = false
-may_begin (whats.Trim colour) = false
-may_begin (whats.Put object key value) = false
-may_begin (whats.Get object key) = false
-may_begin (whats.Del object key) = false
 may_begin (whats.PutAll object pairs) = true
-may_begin (whats.GetAll object keys) = false
-may_begin (whats.Read object keys) = false
 may_begin (whats.Commit object pairs) = true
 may_begin (whats.Enq object value) = true
 may_begin (whats.Deq object) = true
+may_begin _ = false
 
 -- how many of the commands may begin a row
 abbrev pub begins_in : List Command → ℕ

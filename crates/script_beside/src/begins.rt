@@ -13,20 +13,12 @@ fn may_begin(what: &What) -> bool
 {
     match what {
         What::Append { colours, .. } => colours.count() > 1,
-        What::Sync { .. }
-        | What::Scan { .. }
-        | What::Pull { .. }
-        | What::Trim { .. }
-        | What::Get { .. }
-        | What::GetAll { .. }
-        | What::Put { .. }
-        | What::Del { .. }
-        | What::Read { .. } => false,
         What::Stop { .. }
         | What::PutAll { .. }
         | What::Commit { .. }
         | What::Enq { .. }
         | What::Deq { .. } => true,
+        _ => false,
     }
 }
 

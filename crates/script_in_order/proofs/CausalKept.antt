@@ -1,8 +1,10 @@
 -- The folds of a causal map among those of all objects.
-use Rattle.std.proofs.Common.{◌≡◌, ◌⊎◌, inl, inr, ℕ, zero, suc, ◌<◌, List, [], ◌∷◌, ◌++◌, length, get_or, set, Option, Some, None, refl, ap, sym, subst, ◌∙◌, arith, length-append}
+use Rattle.std.proofs.Common.{◌≡◌, ◌⊎◌, inl, inr, ℕ, ◌<◌, List, [], ◌∷◌, ◌++◌, length, get_or, set, Option, Some, None, refl, ap, sym, subst, ◌∙◌, arith, length-append}
 use Rattle.std.specs.Prelude.{slice_get}
 use Rattle.std.specs.Option.{option_map}
 use Rattle.std.proofs.lemmas.Option.{slice_get-get_or}
+use Rattle.object_fold.specs.declared.kept_line.KeptLine.{KeptLine}
+use Rattle.object_fold.specs.declared.shard_map.ShardMap.{ShardMap}
 use Rattle.world_laws.specs.Worlds.{World}
 use Rattle.lawful_run.proofs.CallerLemmas.{get_within}
 use Rattle.script_text.specs.declared.script.Kind.{Kind}
@@ -13,9 +15,9 @@ use Rattle.script_in_order.specs.declared.folds.Fold.{Fold}
 use Rattle.script_in_order.specs.declared.folds.Fold.TheVariants as folds
 use Rattle.script_in_order.specs.declared.causal.CausalFold.{CausalFold}
 use Rattle.script_in_order.specs.CausalFolds.{AreCausalFolds, IsCausalFold}
-use Rattle.script_in_order.specs.declared.folds.ShardFold.{ShardFold}
 use Rattle.script_in_order.specs.Folds.{IsShardFold, IsFoldOf, AreFolded}
 use Rattle.script_in_order.proofs.FoldsKept.{folds_with}
+pub use Rattle.log_node.proofs.CallerLemmas.{get_push as pushed}
 
 -- the fold is of a causal map on the colour, and right
 abbrev pub IsCausalOf : World → ℕ → Fold → Type 0
@@ -89,18 +91,6 @@ causal_put w objects all object colour fold f is right =
       by_fold o at (folds.Causal regions) r = (colour, same_kind o at, r)
       by_fold o at (folds.Tx fold) r = absurd r
 
--- one item more at the end of a list
-pub pushed : {A : Type 0} (xs : List A) (x : A) (n : ℕ) (y : A) → slice_get (xs ++ x ∷ []) n ≡ Some y
-    → (slice_get xs n ≡ Some y) ⊎ ((n ≡ length xs) × (x ≡ y))
-pushed [] x zero y e = inr (refl, let f : x ≡ y = cc in f)
-pushed [] x (suc n) y e = absurd (let f : ⊥ = cc in f)
-pushed (z ∷ xs) x zero y e = inl e
-pushed {A} (z ∷ xs) x (suc n) y e = turn (pushed xs x n y e) where
-  turn : (slice_get xs n ≡ Some y) ⊎ ((n ≡ length xs) × (x ≡ y))
-      → (slice_get xs n ≡ Some y) ⊎ ((suc n ≡ suc (length xs)) × (x ≡ y))
-  turn (inl old) = inl old
-  turn (inr new) = inr (ap suc new.0, new.1)
-
 -- one object more, with its fold
 pub folds_more : (w : World) (objects : List Object) (all : List Fold) (o : Object) (fold : Fold) → AreFolded w objects all
     → IsFoldOf w o.kind fold → AreFolded w (objects ++ o ∷ []) (all ++ fold ∷ [])
@@ -120,9 +110,10 @@ folds_more w objects all o fold f right = record {
       subst (IsFoldOf w p.kind) there.1 (subst (λ (x : Object). IsFoldOf w x.kind fold) at.1 right)
 
 -- one shard more of a map
-pub shard_more : (w : World) (home : ℕ) (colours : List ℕ) (shards : List ShardFold) (fold : ShardFold)
-    → ((c : ℕ) (other : ShardFold) → slice_get shards c ≡ Some other → IsShardFold w home colours c other)
-    → IsShardFold w home colours (length shards) fold → (c : ℕ) (other : ShardFold)
+pub shard_more : (w : World) (home : ℕ) (colours : List ℕ) (shards : List (KeptLine ShardMap))
+    (fold : KeptLine ShardMap)
+    → ((c : ℕ) (other : KeptLine ShardMap) → slice_get shards c ≡ Some other → IsShardFold w home colours c other)
+    → IsShardFold w home colours (length shards) fold → (c : ℕ) (other : KeptLine ShardMap)
     → slice_get (shards ++ fold ∷ []) c ≡ Some other → IsShardFold w home colours c other
 shard_more w home colours shards fold each right c other there = turn (pushed shards fold c other there) where
   turn : (slice_get shards c ≡ Some other) ⊎ ((c ≡ length shards) × (fold ≡ other)) → IsShardFold w home colours c other

@@ -72,31 +72,16 @@ other_kinds (whats.Scan colours) b p q r k s t u v x y = k colours refl
 other_kinds (whats.Pull region colour) b p q r k s t u v x y = s region colour refl
 other_kinds (whats.Trim colour) b p q r k s t u v x y = t colour refl
 other_kinds (whats.Put object key value) b p q r k s t u v x y = u object key value refl
-other_kinds (whats.Get object key) b p q r k s t u v x y = let f : ⊥ = cc in f
 other_kinds (whats.Del object key) b p q r k s t u v x y = v object key refl
 other_kinds (whats.PutAll object pairs) b p q r k s t u v x y = x object pairs refl
-other_kinds (whats.GetAll object keys) b p q r k s t u v x y = let f : ⊥ = cc in f
-other_kinds (whats.Read object keys) b p q r k s t u v x y = let f : ⊥ = cc in f
-other_kinds (whats.Commit object pairs) b p q r k s t u v x y = let f : ⊥ = cc in f
 other_kinds (whats.Enq object value) b p q r k s t u v x y = y object value refl
-other_kinds (whats.Deq object) b p q r k s t u v x y = let f : ⊥ = cc in f
+other_kinds _ b p q r k s t u v x y = let f : ⊥ = cc in f
 
 -- no command of another kind folds nodes
 pub fold_kinds : (what : What) → transaction_of what ≡ None → folds_nodes what ≡ true
     → ((o : ℕ) (k : List ℕ) → what ≡ whats.Get o k → ⊥)
     → ((o : ℕ) (ks : List (List ℕ)) → what ≡ whats.GetAll o ks → ⊥) → ((o : ℕ) → what ≡ whats.Deq o → ⊥) → ⊥
-fold_kinds (whats.Append colours text) n f p q r = let g : ⊥ = cc in g
-fold_kinds (whats.Stop steps colours text) n f p q r = let g : ⊥ = cc in g
-fold_kinds (whats.Sync colour) n f p q r = let g : ⊥ = cc in g
-fold_kinds (whats.Scan colours) n f p q r = let g : ⊥ = cc in g
-fold_kinds (whats.Pull region colour) n f p q r = let g : ⊥ = cc in g
-fold_kinds (whats.Trim colour) n f p q r = let g : ⊥ = cc in g
-fold_kinds (whats.Put object key value) n f p q r = let g : ⊥ = cc in g
 fold_kinds (whats.Get object key) n f p q r = p object key refl
-fold_kinds (whats.Del object key) n f p q r = let g : ⊥ = cc in g
-fold_kinds (whats.PutAll object pairs) n f p q r = let g : ⊥ = cc in g
 fold_kinds (whats.GetAll object keys) n f p q r = q object keys refl
-fold_kinds (whats.Read object keys) n f p q r = let g : ⊥ = cc in g
-fold_kinds (whats.Commit object pairs) n f p q r = let g : ⊥ = cc in g
-fold_kinds (whats.Enq object value) n f p q r = let g : ⊥ = cc in g
 fold_kinds (whats.Deq object) n f p q r = r object refl
+fold_kinds _ n f p q r = let g : ⊥ = cc in g

@@ -24,7 +24,8 @@ use Rattle.script_meaning.specs.States.{State, Grants, answered, kind_in}
 use Rattle.script_meaning.specs.Helping.{all_cleared}
 use Rattle.script_meaning.specs.Appends.{Follows, appended, appended_so, appended_one_so, appended_by_so, appended_several_so, answered_stood, is_full, append_steps, with_single, point_in, ended_colour}
 use Rattle.script_meaning.specs.Objects.{shard_set}
-use Rattle.script_meaning.specs.Transactions.{version_keys, read_behind, committed_by}
+use Rattle.script_meaning.specs.Telling.{told_behind}
+use Rattle.script_meaning.specs.Transactions.{verdict_tells, version_keys, committed_by}
 use Rattle.script_meaning.proofs.CallerLemmas.{single_same, all_cleared_same}
 use Rattle.script_in_order.specs.Doing.{DoneBy, with_replies}
 use Rattle.script_in_order.specs.Transacting.{Rules}
@@ -233,7 +234,7 @@ module _ (objects : List Object) (command : Command) (object : ℕ) (pairs : Lis
     grants = d.grants;
     begun = d.begun;
     is = λ told. by_refusal command w new answer d.grants told
-        (read_behind objects d.grants (with_replies w told) command object) other set text (members set)
+        (told_behind verdict_tells objects d.grants (with_replies w told) command object) other set text (members set)
         (d.is (unanswered w));
   }
 
@@ -249,6 +250,6 @@ module _ (objects : List Object) (command : Command) (object : ℕ) (pairs : Lis
         begun = d.begun;
         is = λ told.
             by_append command w v stamp row points d.grants r.raises r.helps r.items told
-            (read_behind objects all (with_replies w told) command object) set text (members set) (d.is (unanswered w))
+            (told_behind verdict_tells objects all (with_replies w told) command object) set text (members set) (d.is (unanswered w))
             ∙ r.is d.grants (with_replies w told) command;
       }

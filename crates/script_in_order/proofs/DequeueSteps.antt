@@ -9,8 +9,6 @@ use Rattle.std.specs.Prelude.{slice_index}
 use Rattle.log_node.specs.declared.forms.Form.TheVariants as forms
 use Rattle.object_form.specs.Forms.{form_text}
 use Rattle.object_fold.specs.Nodes.{shard_of}
-use Rattle.object_fold.specs.Maps.{Value}
-use Rattle.object_fold.specs.Queues.{front_after}
 use Rattle.col_core.specs.History.{line}
 use Rattle.col_core.proofs.CallerLemmas.{by_test, choice, if_true, if_false}
 use Rattle.world_laws.specs.declared.steps.Step.TheVariants.{Play}
@@ -21,11 +19,10 @@ use Rattle.script_text.specs.declared.script.Command.{Command}
 use Rattle.report_text.specs.declared.report.Answer.{Answer}
 use Rattle.report_text.specs.declared.report.Answer.TheVariants as answers
 use Rattle.report_text.specs.declared.report.PointPiece.{PointPiece}
-use Rattle.report_text.specs.declared.report.SyncPiece.{SyncPiece}
 use Rattle.report_text.specs.declared.report.ReplyLine.{ReplyLine}
 use Rattle.script_meaning.specs.States.{State, Grants, all_granted, no_reads, answered, position_of}
 use Rattle.script_meaning.specs.Appends.{appended_one, with_single, point_in}
-use Rattle.script_meaning.specs.Dequeues.{first_nodes, sync_now, base_now, dequeued_at, dequeued_on, dequeued_by}
+use Rattle.script_meaning.specs.Dequeues.{base_now, dequeued_at, dequeued_on, dequeued_by}
 use Rattle.script_meaning.proofs.CallerLemmas.{RunsTo, stays_there, new_behind, single_same, single_shape, single_to}
 use Rattle.script_in_order.specs.Doing.{DoneBy, with_replies}
 use Rattle.script_in_order.specs.Reading.{ReadsOwn}

@@ -1,15 +1,18 @@
 -- Folds stay right while the world goes on.
-use Rattle.std.proofs.Common.{◌≡◌, ℕ, zero, suc, ◌+◌, ◌<◌, ◌≤◌, List, [], ◌∷◌, ◌++◌, length, map, take, Vec, Global, Option, Some, None, get_or, set, length-set, length-append, refl, ap, sym, subst, ◌∙◌, inl, inr, ◌⊎◌, arith}
+use Rattle.std.proofs.Common.{◌≡◌, ℕ, zero, suc, ◌+◌, ◌<◌, ◌≤◌, List, [], ◌∷◌, ◌++◌, length, map, take, Vec, Global, Option, Some, None, get_or, set, length-set, refl, ap, sym, subst, ◌∙◌, inl, inr, ◌⊎◌, arith}
 use Rattle.std.specs.Prelude.{◌≢◌, slice_get}
 use Rattle.std.specs.List.{Contains}
 use Rattle.std.specs.Option.{option_map}
 use Rattle.std.specs.Vec.{with_item}
 use Rattle.std.proofs.lemmas.Option.{slice_get-get_or}
 use Rattle.log_node.specs.declared.ids.Key.{Key}
+use Rattle.object_fold.specs.declared.kept_line.KeptLine.{KeptLine}
+use Rattle.object_fold.specs.declared.queue.ValueQueue.{ValueQueue}
+use Rattle.object_fold.specs.declared.shard_map.ShardMap.{ShardMap}
+use Rattle.object_fold.specs.declared.tx_state.TxState.{TxState}
 use Rattle.object_fold.specs.Nodes.{ObjectNode}
 use Rattle.object_fold.specs.Maps.{Value, shard_value}
-use Rattle.object_fold.specs.Queues.{front_after}
-use Rattle.object_fold.specs.States.{IsShardMap, IsQueue, HasShardOf}
+use Rattle.object_fold.specs.States.{IsShardMap, IsQueue, IsTxState}
 use Rattle.col_core.specs.History.{line}
 use Rattle.world_laws.specs.Worlds.{World}
 use Rattle.world_laws.specs.Laws.{IsReached}
@@ -25,30 +28,27 @@ use Rattle.script_in_order.specs.declared.causal.CausalFold.{CausalFold}
 use Rattle.script_in_order.specs.CausalFolds.{IsCausalFold, AreCausalFolds}
 use Rattle.script_in_order.proofs.CausalLater.{fold_later}
 use Rattle.script_in_order.specs.declared.folds.FirstNodes.{FirstNodes}
-use Rattle.script_in_order.specs.declared.folds.ShardFold.{ShardFold}
-use Rattle.script_in_order.specs.declared.folds.QueueFold.{QueueFold}
-use Rattle.script_in_order.specs.declared.tx_folds.TxFold.{TxFold}
-use Rattle.script_in_order.proofs.TxFolds.{tx_stays}
+use Rattle.script_in_order.specs.declared.lines_fold.LinesFold.{LinesFold}
+use Rattle.script_in_order.proofs.LinesFolds.{lines_stay}
 use Rattle.script_in_order.specs.declared.folds.Fold.{Fold}
 use Rattle.script_in_order.specs.declared.folds.Fold.TheVariants as folds
-use Rattle.script_in_order.specs.Folds.{IsShardFold, AreShardFolds, IsQueueFold, IsTxFold, IsFoldOf, AreFolded, ShardsWithin, QueueWithin, IsTxAt, line_of, nodes_at}
+use Rattle.script_in_order.specs.Folds.{IsKeptLine, IsShardFold, AreShardFolds, IsQueueFold, IsLinesFold, IsFoldOf, AreFolded, ShardsWithin, QueueWithin, IsTxAt, line_of, nodes_at}
 
 module _ (w v : World) (reached : IsReached w) (to : RunsTo w v) where
-  shard_stays : (home colour : ℕ) (colours : List ℕ) (fold : ShardFold) → IsShardFold w home colours colour fold
-      → IsShardFold v home colours colour fold
-  shard_stays home colour colours fold f = record {
-    colours_are = f.colours_are;
-    shard_is = f.shard_is;
+  line_stays : {F : Type 0} (Holds : F → List ObjectNode → Type 0) (home colour : ℕ) (kept : KeptLine F)
+      → IsKeptLine Holds w home colour kept → IsKeptLine Holds v home colour kept
+  line_stays Holds home colour kept f = record {
     within = let a = f.within in let b = line_longer w v reached to home colour in omega (arith, a, b);
-    folded = subst (λ (ns : List ObjectNode). IsShardMap fold.map ns)
-        (sym (nodes_stay w v reached to home colour fold.count f.within)) f.folded;
+    folded = subst (λ (ns : List ObjectNode). Holds kept.state ns)
+        (sym (nodes_stay w v reached to home colour kept.count f.within)) f.folded;
   }
 
-  queue_stays : (home colour : ℕ) (fold : QueueFold) → IsQueueFold w home colour fold → IsQueueFold v home colour fold
-  queue_stays home colour fold f = record {
-    within = let a = f.within in let b = line_longer w v reached to home colour in omega (arith, a, b);
-    folded = subst (λ (ns : List ObjectNode). IsQueue fold.queue ns)
-        (sym (nodes_stay w v reached to home colour fold.count f.within)) f.folded;
+  shard_stays : (home colour : ℕ) (colours : List ℕ) (kept : KeptLine ShardMap) → IsShardFold w home colours colour kept
+      → IsShardFold v home colours colour kept
+  shard_stays home colour colours kept f = record {
+    colours_are = f.colours_are;
+    shard_is = f.shard_is;
+    folded = line_stays IsShardMap home colour kept f.folded;
   }
 
   same_colours : v.shape.colours ≡ w.shape.colours
@@ -80,9 +80,14 @@ module _ (w v : World) (reached : IsReached w) (to : RunsTo w v) where
       each = λ c fold there. shard_stays home c colours fold (each.each c fold there);
     },
   )
-  fold_stays kind (folds.Queue queue) (home, colour, is, f) = (home, colour, is, queue_stays home colour queue f)
+  fold_stays kind (folds.Queue queue) (home, colour, is, f) = (home, colour, is, line_stays IsQueue home colour queue f)
   fold_stays kind (folds.Causal regions) (colour, is, f) = (colour, is, causal_stays colour regions.items f)
-  fold_stays kind (folds.Tx fold) (home, colours, is, f) = (home, colours, is, tx_stays w v reached to fold f)
+  fold_stays kind (folds.Tx fold) (home, colours, is, f) = (
+    home,
+    colours,
+    is,
+    lines_stay w v reached to IsTxState fold f,
+  )
 
   -- what is folded stays right
   pub folds_stay : (objects : List Object) (all : List Fold) → AreFolded w objects all → AreFolded v objects all
@@ -143,47 +148,48 @@ causal_with w colour regions n fold f right = record {
   turn m other (inr p) = f.each m other p.1
 
 -- one shard of a map in place of another
-pub shards_with : (w : World) (home : ℕ) (colours : List ℕ) (shards : List ShardFold) (n : ℕ) (fold : ShardFold)
+pub shards_with : (w : World) (home : ℕ) (colours : List ℕ) (shards : List (KeptLine ShardMap)) (n : ℕ)
+    (fold : KeptLine ShardMap)
     → AreShardFolds w home colours shards → IsShardFold w home colours n fold
     → AreShardFolds w home colours (set shards n fold)
 shards_with w home colours shards n fold f right = record {
   all = length-set shards n fold ∙ f.all;
   each = λ m other there. turn m other (set_cases shards n m fold other there);
 } where
-  turn : (m : ℕ) (other : ShardFold) → ((m ≡ n) × (fold ≡ other)) ⊎ ((m ≢ n) × (slice_get shards m ≡ Some other))
+  turn : (m : ℕ) (other : KeptLine ShardMap) → ((m ≡ n) × (fold ≡ other)) ⊎ ((m ≢ n) × (slice_get shards m ≡ Some other))
       → IsShardFold w home colours m other
   turn m other (inl p) =
       subst (λ (k : ℕ). IsShardFold w home colours k other) (sym p.0) (subst (IsShardFold w home colours n) p.1 right)
   turn m other (inr p) = f.each m other p.1
 
--- a fold with one node more
-module _ (w : World) (home colour : ℕ) (key d : Key) where
-  abbrev its_line : List Key
-  its_line = line (w.histories home colour)
+-- the fold of no node
+pub line_opened : {F : Type 0} (Holds : F → List ObjectNode → Type 0) (w : World) (home colour : ℕ) (kept : KeptLine F)
+    → kept.count ≡ 0 → Holds kept.state [] → IsKeptLine Holds w home colour kept
+line_opened Holds w home colour kept none empty = record {
+  within = omega (arith, none);
+  folded = subst (λ (n : ℕ). Holds kept.state (map (object_at w) (take n (line (w.histories home colour)))))
+      (sym none) empty;
+}
 
-  pub shard_more : (colours : List ℕ) (old new : ShardFold) → old.count < length its_line
-      → get_or its_line old.count d ≡ key → new.count ≡ old.count + 1 → HasShardOf old.map new.map
-      → IsShardMap new.map (map (object_at w) (take old.count its_line) ++ object_at w key ∷ [])
-      → IsShardFold w home colours colour old → IsShardFold w home colours colour new
-  shard_more colours old new lt is more same folded f = record {
-    colours_are = same.colours ∙ f.colours_are;
-    shard_is = same.shard ∙ f.shard_is;
-    within = omega (arith, lt, more);
-    folded = subst (IsShardMap new.map)
-        (sym (ap (λ (n : ℕ). map (object_at w) (take n its_line)) more ∙ first_more w its_line old.count key d lt is))
-        folded;
-  }
+pub shard_opened : (w : World) (home colour : ℕ) (colours : List ℕ) (shard : ShardMap) (kept : KeptLine ShardMap)
+    → kept.state ≡ shard → kept.count ≡ 0 → shard.colours ≡ colours → shard.shard ≡ colour → IsShardMap shard []
+    → IsShardFold w home colours colour kept
+shard_opened w home colour colours shard kept is none its mine empty = record {
+  colours_are = ap (λ (x : ShardMap). x.colours) is ∙ its;
+  shard_is = ap (λ (x : ShardMap). x.shard) is ∙ mine;
+  folded = line_opened IsShardMap w home colour kept none (subst (λ (x : ShardMap). IsShardMap x []) (sym is) empty);
+}
 
-  pub queue_more : (old new : QueueFold) → old.count < length its_line → get_or its_line old.count d ≡ key
-      → new.count ≡ old.count + 1
-      → IsQueue new.queue (map (object_at w) (take old.count its_line) ++ object_at w key ∷ [])
-      → IsQueueFold w home colour new
-  queue_more old new lt is more folded = record {
-    within = omega (arith, lt, more);
-    folded = subst (IsQueue new.queue)
-        (sym (ap (λ (n : ℕ). map (object_at w) (take n its_line)) more ∙ first_more w its_line old.count key d lt is))
-        folded;
-  }
+-- the fold of the same shard, gone on
+pub shard_on : (w : World) (home colour : ℕ) (colours : List ℕ) (old new : KeptLine ShardMap)
+    → ◌≡◌ {A = List ℕ × ℕ} (new.state.colours, new.state.shard) (old.state.colours, old.state.shard)
+    → IsKeptLine IsShardMap w home colour new → IsShardFold w home colours colour old
+    → IsShardFold w home colours colour new
+shard_on w home colour colours old new same folded f = record {
+  colours_are = ap (λ (of : List ℕ × ℕ). of.0) same ∙ f.colours_are;
+  shard_is = ap (λ (of : List ℕ × ℕ). of.1) same ∙ f.shard_is;
+  folded = folded;
+}
 
 -- how far the folds of an object are
 module _ (w : World) (objects : List Object) (all : List Fold) (f : AreFolded w objects all) (object : ℕ) where
@@ -200,7 +206,7 @@ module _ (w : World) (objects : List Object) (all : List Fold) (f : AreFolded w 
   fold_at kind fold is there =
       let o = found kind is in subst (λ (k : Kind). IsFoldOf w k fold) o.2 (f.each object o.0 fold o.1 there)
 
-  pub shards_at : (home : ℕ) (colours : List ℕ) (shards : Vec ShardFold Global)
+  pub shards_at : (home : ℕ) (colours : List ℕ) (shards : Vec (KeptLine ShardMap) Global)
       → kind_in objects object ≡ Some (kinds.Map home colours) → slice_get all object ≡ Some (folds.Map shards)
       → AreShardFolds w home colours shards.items
   shards_at home colours shards is there = of (fold_at (kinds.Map home colours) (folds.Map shards) is there) where
@@ -211,7 +217,7 @@ module _ (w : World) (objects : List Object) (all : List Fold) (f : AreFolded w 
         subst (λ (x : ℕ). AreShardFolds w x colours shards.items) (sym a)
         (subst (λ (x : List ℕ). AreShardFolds w h x shards.items) (sym b) each)
 
-  pub queue_there : (home colour : ℕ) (fold : QueueFold) → kind_in objects object ≡ Some (kinds.Queue home colour)
+  pub queue_there : (home colour : ℕ) (fold : KeptLine ValueQueue) → kind_in objects object ≡ Some (kinds.Queue home colour)
       → slice_get all object ≡ Some (folds.Queue fold) → IsQueueFold w home colour fold
   queue_there home colour fold is there = of (fold_at (kinds.Queue home colour) (folds.Queue fold) is there) where
     of : IsFoldOf w (kinds.Queue home colour) (folds.Queue fold) → IsQueueFold w home colour fold
@@ -226,7 +232,7 @@ module _ (w : World) (objects : List Object) (all : List Fold) (f : AreFolded w 
       → ShardsWithin all object cs bound
   shards_within home colours cs is bound low = λ c i shards fold there at.
       let right = (shards_at home colours shards is there).each c fold at in
-      let a = right.within in let b = low c i in omega (arith, a, b)
+      let a = right.folded.within in let b = low c i in omega (arith, a, b)
 
   pub queue_within : (home colour count : ℕ) → kind_in objects object ≡ Some (kinds.Queue home colour)
       → length (line (w.histories home colour)) ≤ count → QueueWithin all object count
@@ -267,7 +273,7 @@ module _ (w : World) (objects : List Object) (all : List Fold) (object : ℕ) (k
 
 -- the fold of a map
 module _ (w : World) (home : ℕ) (colours : List ℕ) where
-  pub map_shards : (shards : Vec ShardFold Global) → IsFoldOf w (kinds.Map home colours) (folds.Map shards)
+  pub map_shards : (shards : Vec (KeptLine ShardMap) Global) → IsFoldOf w (kinds.Map home colours) (folds.Map shards)
       → AreShardFolds w home colours shards.items
   map_shards shards (h, cs, e, each) =
       let a : home ≡ h = cc in
@@ -276,7 +282,7 @@ module _ (w : World) (home : ℕ) (colours : List ℕ) where
       (subst (λ (x : List ℕ). AreShardFolds w h x shards.items) (sym b) each)
 
   pub only_map : (fold : Fold) → IsFoldOf w (kinds.Map home colours) fold
-      → ((shards : Vec ShardFold Global) → fold ≡ folds.Map shards → ⊥) → ⊥
+      → ((shards : Vec (KeptLine ShardMap) Global) → fold ≡ folds.Map shards → ⊥) → ⊥
   only_map (folds.Map shards) f n = n shards refl
   only_map (folds.Queue queue) (h, c, e, right) n = let g : ⊥ = cc in g
   only_map (folds.Causal regions) (c, e, right) n = let g : ⊥ = cc in g
@@ -284,7 +290,7 @@ module _ (w : World) (home : ℕ) (colours : List ℕ) where
 
 -- the fold of a queue
 module _ (w : World) (home colour : ℕ) where
-  pub queue_fold : (queue : QueueFold) → IsFoldOf w (kinds.Queue home colour) (folds.Queue queue)
+  pub queue_fold : (queue : KeptLine ValueQueue) → IsFoldOf w (kinds.Queue home colour) (folds.Queue queue)
       → IsQueueFold w home colour queue
   queue_fold queue (h, c, e, right) =
       let a : home ≡ h = cc in
@@ -292,7 +298,7 @@ module _ (w : World) (home colour : ℕ) where
       subst (λ (x : ℕ). IsQueueFold w x colour queue) (sym a) (subst (λ (x : ℕ). IsQueueFold w h x queue) (sym b) right)
 
   pub only_queue : (fold : Fold) → IsFoldOf w (kinds.Queue home colour) fold
-      → ((queue : QueueFold) → fold ≡ folds.Queue queue → ⊥) → ⊥
+      → ((queue : KeptLine ValueQueue) → fold ≡ folds.Queue queue → ⊥) → ⊥
   only_queue (folds.Map shards) (h, cs, e, right) n = let g : ⊥ = cc in g
   only_queue (folds.Queue queue) f n = n queue refl
   only_queue (folds.Causal regions) (c, e, right) n = let g : ⊥ = cc in g
@@ -300,89 +306,58 @@ module _ (w : World) (home colour : ℕ) where
 
 -- the fold of a transactional map
 module _ (w : World) (home : ℕ) (colours : List ℕ) where
-  pub tx_fold : (fold : TxFold) → IsFoldOf w (kinds.Tx home colours) (folds.Tx fold) → IsTxFold w fold
+  pub tx_fold : (fold : LinesFold TxState) → IsFoldOf w (kinds.Tx home colours) (folds.Tx fold)
+      → IsLinesFold IsTxState w fold
   tx_fold fold (h, cs, e, right) = right
 
   pub only_tx : (fold : Fold) → IsFoldOf w (kinds.Tx home colours) fold
-      → ((tx : TxFold) → fold ≡ folds.Tx tx → ⊥) → ⊥
+      → ((tx : LinesFold TxState) → fold ≡ folds.Tx tx → ⊥) → ⊥
   only_tx (folds.Map shards) (h, cs, e, right) n = let g : ⊥ = cc in g
   only_tx (folds.Queue queue) (h, c, e, right) n = let g : ⊥ = cc in g
   only_tx (folds.Causal regions) (c, e, right) n = let g : ⊥ = cc in g
   only_tx (folds.Tx tx) f n = n tx refl
 
 -- that of an object
-pub tx_of : (w : World) (objects : List Object) (all : List Fold) (object : ℕ) (fold : Fold) (tx : TxFold)
+pub tx_of : (w : World) (objects : List Object) (all : List Fold) (object : ℕ) (fold : Fold) (tx : LinesFold TxState)
     → AreFolded w objects all → IsTxAt objects object → fold ≡ get_or all object fold → fold ≡ folds.Tx tx
-    → IsTxFold w tx
+    → IsLinesFold IsTxState w tx
 tx_of w objects all object fold tx f at there same =
     tx_fold w at.0 at.1 tx
     (subst (IsFoldOf w (kinds.Tx at.0 at.1)) same
     (fold_there w objects all object (kinds.Tx at.0 at.1) f at.2 fold there))
 
 -- a shard that was folded on is within its bound
-pub within_with : (all : List Fold) (object : ℕ) (shards : Vec ShardFold Global) (n : ℕ) (fold : ShardFold)
+pub within_with : (all : List Fold) (object : ℕ) (shards : Vec (KeptLine ShardMap) Global) (n : ℕ) (fold : KeptLine ShardMap)
     (cs : List ℕ) (bound : ℕ → ℕ) → slice_get all object ≡ Some (folds.Map shards)
     → ShardsWithin all object cs bound → fold.count ≤ bound n
     → ShardsWithin (set all object (folds.Map (with_item shards n fold))) object cs bound
 within_with all object shards n fold cs bound there old low = λ c i others other at_object at_colour.
     by_place c i others other (set_cases all object object (folds.Map (with_item shards n fold)) (folds.Map others) at_object) at_colour where
-      by_colour : (c : ℕ) → Contains cs c → (other : ShardFold)
+      by_colour : (c : ℕ) → Contains cs c → (other : KeptLine ShardMap)
           → ((c ≡ n) × (fold ≡ other)) ⊎ ((c ≢ n) × (slice_get shards.items c ≡ Some other)) → other.count ≤ bound c
       by_colour c i other (inl p) =
-          subst (λ (k : ℕ). other.count ≤ bound k) (sym p.0) (subst (λ (x : ShardFold). x.count ≤ bound n) p.1 low)
+          subst (λ (k : ℕ). other.count ≤ bound k) (sym p.0) (subst (λ (x : KeptLine ShardMap). x.count ≤ bound n) p.1 low)
       by_colour c i other (inr p) = old c i shards other there p.1
 
-      by_place : (c : ℕ) → Contains cs c → (others : Vec ShardFold Global) (other : ShardFold)
+      by_place : (c : ℕ) → Contains cs c → (others : Vec (KeptLine ShardMap) Global) (other : KeptLine ShardMap)
           → ((object ≡ object) × (folds.Map (with_item shards n fold) ≡ folds.Map others))
           ⊎ ((object ≢ object) × (slice_get all object ≡ Some (folds.Map others)))
           → slice_get others.items c ≡ Some other → other.count ≤ bound c
       by_place c i others other (inl p) at =
           let same : with_item shards n fold ≡ others = let e = p.1 in cc in
           by_colour c i other (set_cases shards.items n c fold other
-          (ap (λ (v : Vec ShardFold Global). slice_get v.items c) same ∙ at))
+          (ap (λ (v : Vec (KeptLine ShardMap) Global). slice_get v.items c) same ∙ at))
       by_place c i others other (inr p) at = absurd (p.0 refl)
 
--- the next node of a line is folded
-module _ (w : World) (home colour : ℕ) (l : List Key) (place : ℕ) (d : Key) (text : List ℕ)
-    (same : l ≡ line (w.histories home colour)) (lt : place < length (line (w.histories home colour)))
-    (text_is : text ≡ (object_at w (get_or l place d)).text) where
-  abbrev key_there : Key
-  key_there = get_or l place d
-
-  at_line : (count : ℕ) → count ≡ place → get_or (line (w.histories home colour)) count d ≡ key_there
-  at_line count e = ap (λ (n : ℕ). get_or (line (w.histories home colour)) n d) e
-      ∙ ap (λ (xs : List Key). get_or xs place d) (sym same)
-
-  pub shard_step : (colours : List ℕ) (old new : ShardFold) → old.count ≡ place → new.count ≡ place + 1
-      → HasShardOf old.map new.map
-      → ((nodes : List ObjectNode) (node : ObjectNode) → node.text ≡ text → IsShardMap old.map nodes
-      → IsShardMap new.map (nodes ++ node ∷ []))
-      → IsShardFold w home colours colour old → IsShardFold w home colours colour new
-  shard_step colours old new here more mine fed f =
-      shard_more w home colour key_there d colours old new (omega (arith, here, lt)) (at_line old.count here)
-      (omega (arith, here, more)) mine
-      (fed (map (object_at w) (take old.count (line (w.histories home colour)))) (object_at w key_there) (sym text_is)
-      f.folded) f
-
-  pub queue_step : (old new : QueueFold) → old.count ≡ place → new.count ≡ place + 1
-      → ((nodes : List ObjectNode) (node : ObjectNode) → node.text ≡ text → IsQueue old.queue nodes
-      → IsQueue new.queue (nodes ++ node ∷ []))
-      → IsQueueFold w home colour old → IsQueueFold w home colour new
-  queue_step old new here more fed f =
-      queue_more w home colour key_there d old new (omega (arith, here, lt)) (at_line old.count here)
-      (omega (arith, here, more))
-      (fed (map (object_at w) (take old.count (line (w.histories home colour)))) (object_at w key_there) (sym text_is)
-      f.folded)
-
 -- an answer of a fold that has come to the nodes that are asked for
-pub shard_answer : (w : World) (first : FirstNodes) (colours key : List ℕ) (fold : ShardFold) (value : Value)
-    → fold.count ≡ first.count → IsShardFold w first.region colours first.colour fold
-    → ((nodes : List ObjectNode) → IsShardMap fold.map nodes
-    → value ≡ shard_value fold.map.colours fold.map.shard nodes key)
+pub shard_answer : (w : World) (first : FirstNodes) (colours key : List ℕ) (kept : KeptLine ShardMap) (value : Value)
+    → kept.count ≡ first.count → IsShardFold w first.region colours first.colour kept
+    → ((nodes : List ObjectNode) → IsShardMap kept.state nodes
+    → value ≡ shard_value kept.state.colours kept.state.shard nodes key)
     → value ≡ shard_value colours first.colour (nodes_at w first) key
-shard_answer w first colours key fold value here f answers =
-    answers (map (object_at w) (take fold.count (line_of w first))) f.folded
-    ∙ (ap (λ (cs : List ℕ). shard_value cs fold.map.shard (map (object_at w) (take fold.count (line_of w first))) key)
+shard_answer w first colours key kept value here f answers =
+    answers (map (object_at w) (take kept.count (line_of w first))) f.folded.folded
+    ∙ (ap (λ (cs : List ℕ). shard_value cs kept.state.shard (map (object_at w) (take kept.count (line_of w first))) key)
     f.colours_are
-    ∙ (ap (λ (c : ℕ). shard_value colours c (map (object_at w) (take fold.count (line_of w first))) key) f.shard_is
+    ∙ (ap (λ (c : ℕ). shard_value colours c (map (object_at w) (take kept.count (line_of w first))) key) f.shard_is
     ∙ ap (λ (n : ℕ). shard_value colours first.colour (map (object_at w) (take n (line_of w first))) key) here))

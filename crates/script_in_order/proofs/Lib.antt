@@ -28,6 +28,7 @@ mod Committing
 mod TransactionSteps
 mod KeysSplit
 mod LinesRead
-mod TxFolds
-mod TxFeeds
-mod ReadVerdicts
+mod LinesFolds
+mod LinesFeeds
+mod ReadTold
+mod TxVerdicts

@@ -7,6 +7,7 @@ use Rattle.world_laws.specs.Worlds.{World}
 use Rattle.log_node.specs.declared.ids.Id.{Id}
 use Rattle.script_meaning.specs.Appends.{point_in}
 use Rattle.script_in_order.specs.Points.{places_in, standing_in}
+use Rattle.log_node.proofs.CallerLemmas.{any_default}
 
 -- the first so many items changed
 abbrev pub changed : {A : Type 0} → (A → A) → ℕ → List A → List A
@@ -56,11 +57,6 @@ all_placed P [] a k d low = absurd (let f : ⊥ = omega (arith, low) in f)
 all_placed P (p ∷ points) a zero d low = a 0 0 (omega arith)
 all_placed P (p ∷ points) a (suc k) d low =
     all_placed P points (λ j e h. a (suc j) e (omega (arith, h))) k d (omega (arith, low))
-
-any_default : {A : Type 0} (xs : List A) (i : ℕ) (d e : A) → i < length xs → get_or xs i d ≡ get_or xs i e
-any_default [] i d e lt = absurd (let f : ⊥ = omega (arith, lt) in f)
-any_default (x ∷ xs) zero d e lt = refl
-any_default (x ∷ xs) (suc i) d e lt = any_default xs i d e (omega (arith, lt))
 
 pub all_there : (P : ℕ → Type 0) (xs : List ℕ) → ((x : ℕ) → Contains xs x → P x) → All P xs
 all_there P xs each k d low = each (get_or xs k d) (k, low, any_default xs k (get_or xs k d) d low)

@@ -5,6 +5,7 @@ use Rattle.std.proofs.lemmas.List.{take_more, map-append}
 use Rattle.std.proofs.lemmas.List.{length-take-le}
 use Rattle.std.proofs.lemmas.Grind.{flat_map-append}
 use Rattle.std.specs.List.{flat_map, range_with_len, enumerate_from}
+use Rattle.log_node.proofs.CallerLemmas.{enumerate-push as enumerate_append}
 
 pub range_more : (a n : ℕ) → range_with_len a (n + 1) ≡ range_with_len a n ++ (a + n) ∷ []
 range_more a zero = let e : a ≡ a + 0 = omega arith in ap (λ (k : ℕ). k ∷ []) e
@@ -23,14 +24,6 @@ flat_map_range_more f n =
       append-none : {A : Type 0} (xs : List A) → xs ++ [] ≡ xs
       append-none [] = refl
       append-none (x ∷ xs) = ap (λ l. x ∷ l) (append-none xs)
-
-enumerate_append : {A : Type 0} (n : ℕ) (xs : List A) (x : A)
-    → enumerate_from n (xs ++ x ∷ []) ≡ enumerate_from n xs ++ (n + length xs, x) ∷ []
-enumerate_append {A} n [] x = let e : n ≡ n + 0 = omega arith in ap (λ (k : ℕ). let p : ℕ × A = (k, x) in p ∷ []) e
-enumerate_append {A} n (y ∷ ys) x =
-    let e : n + 1 + length ys ≡ n + length (y ∷ ys) = omega arith in
-    ap (λ (l : List (ℕ × A)). let p : ℕ × A = (n, y) in p ∷ l) (enumerate_append (n + 1) ys x
-    ∙ ap (λ (k : ℕ). let p : ℕ × A = (k, x) in enumerate_from (n + 1) ys ++ p ∷ []) e)
 
 pub numbered_more : {A B : Type 0} (f : ℕ × A → B) (xs : List A) (n : ℕ) (x : A) → n < length xs → x ≡ get_or xs n x
     → map f (enumerate_from 0 (take (n + 1) xs)) ≡ map f (enumerate_from 0 (take n xs)) ++ f (n, x) ∷ []

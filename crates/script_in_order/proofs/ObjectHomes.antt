@@ -39,9 +39,7 @@ module _ (own : ℕ) (objects : List Object) (object : ℕ)
       of_kind : (kind : Kind) → is_map kind ≡ true → kind_in objects object ≡ Some kind
           → (colours : List ℕ) × (kind_in objects object ≡ Some (kinds.Map own colours))
       of_kind (kinds.Map home colours) q is = (colours, map_home home colours is)
-      of_kind (kinds.Tx home colours) q is = absurd (let f : ⊥ = cc in f)
-      of_kind (kinds.Causal colour) q is = absurd (let f : ⊥ = cc in f)
-      of_kind (kinds.Queue home colour) q is = absurd (let f : ⊥ = cc in f)
+      of_kind _ q is = absurd (let f : ⊥ = cc in f)
 
   pub queue_at : HasObject objects object is_queue
       → (colour : ℕ) × (kind_in objects object ≡ Some (kinds.Queue own colour))
@@ -49,7 +47,5 @@ module _ (own : ℕ) (objects : List Object) (object : ℕ)
     where
       of_kind : (kind : Kind) → is_queue kind ≡ true → kind_in objects object ≡ Some kind
           → (colour : ℕ) × (kind_in objects object ≡ Some (kinds.Queue own colour))
-      of_kind (kinds.Map home colours) q is = absurd (let f : ⊥ = cc in f)
-      of_kind (kinds.Tx home colours) q is = absurd (let f : ⊥ = cc in f)
-      of_kind (kinds.Causal colour) q is = absurd (let f : ⊥ = cc in f)
       of_kind (kinds.Queue home colour) q is = (colour, queue_home home colour is)
+      of_kind _ q is = absurd (let f : ⊥ = cc in f)

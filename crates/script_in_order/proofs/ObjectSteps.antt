@@ -49,16 +49,13 @@ pub map_kinds : (kind : Kind) → is_any_map kind ≡ true
     → ((home : ℕ) (colours : List ℕ) → kind ≡ kinds.Map home colours → ⊥)
     → ((colour : ℕ) → kind ≡ kinds.Causal colour → ⊥) → ⊥
 map_kinds (kinds.Map home colours) is p q = p home colours refl
-map_kinds (kinds.Tx home colours) is p q = let f : ⊥ = cc in f
 map_kinds (kinds.Causal colour) is p q = q colour refl
-map_kinds (kinds.Queue home colour) is p q = let f : ⊥ = cc in f
+map_kinds _ is p q = let f : ⊥ = cc in f
 
 pub put_is_form : (kind : Kind) (key value : List ℕ) → is_key key ≡ true → is_key value ≡ true
     → IsForm (put_form (Some kind) key value)
 put_is_form (kinds.Map home colours) key value k v = (key_is_word key k, key_is_word value v)
-put_is_form (kinds.Tx home colours) key value k v = (key_is_word key k, key_is_word value v)
-put_is_form (kinds.Causal colour) key value k v = (key_is_word key k, key_is_word value v)
-put_is_form (kinds.Queue home colour) key value k v = (key_is_word key k, key_is_word value v)
+put_is_form _ key value k v = (key_is_word key k, key_is_word value v)
 
 in_at : (xs : List ℕ) (k d : ℕ) → k < length xs → In (get_or xs k d) xs
 in_at [] k d lt = absurd (let f : ⊥ = omega (arith, lt) in f)
@@ -170,10 +167,8 @@ all_pairs colours are before pairs set i whole e =
 -- the set of the colour of a queue
 pub queue_shard : (kind : Kind) → is_queue kind ≡ true → (c : ℕ) → c ≡ shard_of (object_colours (Some kind)) []
     → set_of (c ∷ []) ≡ set_of (object_colours (Some kind))
-queue_shard (kinds.Map home colours) q c is = absurd (let f : ⊥ = cc in f)
-queue_shard (kinds.Tx home colours) q c is = absurd (let f : ⊥ = cc in f)
-queue_shard (kinds.Causal colour) q c is = absurd (let f : ⊥ = cc in f)
 queue_shard (kinds.Queue home colour) q c is = ap (λ (x : ℕ). set_of (x ∷ [])) is
+queue_shard _ q c is = absurd (let f : ⊥ = cc in f)
 
 -- a queue's set of colours
 module _ (regions count : ℕ) (few : count ≤ MAX_COLOURS) (objects : List Object)

@@ -1,27 +1,32 @@
 -- The replies of a run, and the commands one after another.
-use Rattle.std.proofs.Common.{◌≡◌, ℕ, zero, suc, ◌<◌, false, List, [], ◌∷◌, ◌++◌, length, get_or, set, Result, Ok}
-use Rattle.std.proofs.Common.{Err, refl, ap, sym, ◌∙◌, arith, get_or-set_same, get_or-set_other, length-set, Option, None, eq-eqb}
+use Rattle.std.proofs.Common.{◌≡◌, ℕ, ◌<◌, false, List, [], ◌∷◌, ◌++◌, length, set, Result, Ok}
+use Rattle.std.proofs.Common.{Err, refl, ap, sym, ◌∙◌, get_or-set_same, get_or-set_other, length-set, Option, None, eq-eqb}
 use Rattle.std.specs.Prelude.{MatchResult, IfOk, OnErr}
 use Rattle.std.specs.declared.alloc.AllocError.{AllocError}
 use mathlib.Core.Path.{fun_ext}
 use Rattle.std.proofs.lemmas.Bool.{true≢false}
 use Rattle.log_node.specs.Seen.{PlacedNode}
 use Rattle.log_node.specs.declared.forms.Version.{Version}
-use Rattle.col_core.specs.Keeping.{updated}
+use Rattle.col_core.specs.Keeping.{nothing_kept, updated}
 use Rattle.world_laws.proofs.CallerLemmas.{at_updated}
 use Rattle.world_laws.specs.Worlds.{World}
 use Rattle.world_code.specs.WorldView.{WorldView, world_of}
 use Rattle.script_text.specs.declared.script.Object.{Object}
 use Rattle.script_text.specs.declared.script.Command.{Command}
 use Rattle.script_text.specs.declared.script.What.{What}
-use Rattle.script_text.specs.declared.script.What.TheVariants as whats
+use Rattle.script_text.specs.declared.uses.ReadUse.TheVariants.{Takes, UsesUp}
+use Rattle.script_text.specs.declared.uses.Use.{Use}
+use Rattle.script_text.specs.declared.uses.Use.TheVariants.{OfObject}
+use Rattle.script_text.specs.Uses.{use_of}
 use Rattle.report_text.specs.declared.report.Answer.{Answer}
 use Rattle.report_text.specs.declared.report.Answer.TheVariants.{NoMemory}
 use Rattle.report_text.specs.declared.report.ReplyLine.{ReplyLine}
 use Rattle.script_meaning.specs.States.{State, Grants, Reads, all_granted, answered, reads_left}
-use Rattle.script_in_order.specs.Doing.{Does, transaction_of}
+use Rattle.script_in_order.specs.Doing.{Does, transacts, transaction_of}
+use Rattle.lawful_run.specs.Refusals.{before_by, behind_by}
 use Rattle.script_in_order.specs.Runs.{RepliesView, RunView, no_replies, with_reply, with_read, replies_at, read_at, state_of, reply_of, IsDone}
 use Rattle.script_in_order.specs.Transacting.{Transacts}
+pub use Rattle.log_node.proofs.CallerLemmas.{any_default}
 
 -- what is told of each client, where one client's replies are others
 module _ (replies : List RepliesView) (client : ℕ) (mine : RepliesView) (low : client < length replies) where
@@ -56,21 +61,12 @@ module _ (replies : List RepliesView) (client : ℕ) (mine : RepliesView) (low :
 
 -- a command that is no read and no commit leaves the reads
 pub left_alone : (what : What) (reads : Reads) → transaction_of what ≡ None → reads_left what reads ≡ reads
-left_alone (whats.Append colours text) reads e = refl
-left_alone (whats.Stop steps colours text) reads e = refl
-left_alone (whats.Sync colour) reads e = refl
-left_alone (whats.Scan colours) reads e = refl
-left_alone (whats.Pull region colour) reads e = refl
-left_alone (whats.Trim colour) reads e = refl
-left_alone (whats.Put object key value) reads e = refl
-left_alone (whats.Get object key) reads e = refl
-left_alone (whats.Del object key) reads e = refl
-left_alone (whats.PutAll object pairs) reads e = refl
-left_alone (whats.GetAll object keys) reads e = refl
-left_alone (whats.Read object keys) reads e = let f : ⊥ = cc in absurd f
-left_alone (whats.Commit object pairs) reads e = let f : ⊥ = cc in absurd f
-left_alone (whats.Enq object value) reads e = refl
-left_alone (whats.Deq object) reads e = refl
+left_alone what reads = by (use_of what) where
+  by : (u : Use) → transacts u ≡ None
+      → (behind_by u (before_by u (record nothing_kept { reads = reads }))).reads ≡ reads
+  by (OfObject object Takes) e = let f : ⊥ = cc in absurd f
+  by (OfObject object UsesUp) e = let f : ⊥ = cc in absurd f
+  by _ e = refl
 
 -- a command that is no read and no commit, with its reply
 pub command_done : (objects : List Object) (command : Command) (old : RunView) (world : WorldView)
@@ -170,8 +166,3 @@ transaction_done objects command object old world mine low there t = record {
   next : RepliesView
   next = with_reply (with_read (replies_at old.replies command.client) object t.kept)
       (reply_of command t.answer [])
-
-pub any_default : {A : Type 0} (xs : List A) (i : ℕ) (d e : A) → i < length xs → get_or xs i d ≡ get_or xs i e
-any_default [] i d e lt = absurd (let f : ⊥ = omega (arith, lt) in f)
-any_default (x ∷ xs) zero d e lt = refl
-any_default (x ∷ xs) (suc i) d e lt = any_default xs i d e (omega (arith, lt))

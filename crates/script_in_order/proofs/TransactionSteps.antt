@@ -9,11 +9,12 @@ use Rattle.col_core.proofs.CallerLemmas.{In}
 use Rattle.script_text.specs.declared.script.Kind.{Kind}
 use Rattle.script_text.specs.declared.script.Kind.TheVariants as kinds
 use Rattle.script_in_order.specs.Folds.{IsTxAt}
-use Rattle.script_text.specs.Fitting.{AreBelow, HasColours, AreObjectColours, IsKindWithin, UsesObject, HasObject, is_tx}
+use Rattle.script_text.specs.Fitting.{AreBelow, HasColours, AreObjectColours, IsKindWithin, UsesOne, UsesObject, HasObject, is_tx}
 use Rattle.script_text.specs.Grammar.{are_pairs}
 use Rattle.lawful_run.specs.Asks.{object_colours, keys_of}
+use Rattle.lawful_run.specs.Refusals.{before_by, behind_by}
 use Rattle.lawful_run.proofs.CallerLemmas.{get_within}
-use Rattle.script_meaning.proofs.CallerLemmas.{RunsTo, append_to, done_to, at_or, object_has, key_some, some_of, rising_below, rising_some}
+use Rattle.script_meaning.proofs.CallerLemmas.{RunsTo, append_to, at_or, object_has, key_some, some_of, rising_below, rising_some}
 use Rattle.log_node.specs.declared.ids.Id.{Id}
 use Rattle.log_node.specs.declared.ids.Key.{Key}
 use Rattle.log_node.specs.declared.node.Shape.{Shape}
@@ -26,7 +27,7 @@ use Rattle.log_node.specs.declared.forms.Form.TheVariants as forms
 use Rattle.object_form.specs.Forms.{AreVersions, form_text}
 use Rattle.object_fold.specs.declared.verdict.Verdict.{Verdict}
 use Rattle.object_fold.specs.Transactions.{value_of, writes_after, versions_after}
-use Rattle.col_core.specs.Keeping.{updated}
+use Rattle.col_core.specs.Keeping.{nothing_kept, updated}
 use Rattle.col_core.specs.History.{entry_key}
 use Rattle.world_laws.specs.Worlds.{World, next_id}
 use Rattle.world_laws.proofs.CallerLemmas.{in_right, run_grows}
@@ -34,6 +35,10 @@ use Rattle.script_text.specs.declared.script.Object.{Object}
 use Rattle.script_text.specs.declared.script.Command.{Command}
 use Rattle.script_text.specs.declared.script.What.{What}
 use Rattle.script_text.specs.declared.script.What.TheVariants as whats
+use Rattle.script_text.specs.declared.uses.ReadUse.TheVariants as reads
+use Rattle.script_text.specs.declared.uses.Use.{Use}
+use Rattle.script_text.specs.declared.uses.Use.TheVariants.{OfLog, OfObject}
+use Rattle.script_text.specs.Uses.{use_of}
 use Rattle.report_text.specs.declared.report.Answer.{Answer}
 use Rattle.report_text.specs.declared.report.Answer.TheVariants as answers
 use Rattle.report_text.specs.declared.report.KeyAnswer.{KeyAnswer}
@@ -46,9 +51,10 @@ use Rattle.script_meaning.specs.Objects.{caller_in, refusing_home, shard_set}
 use Rattle.script_meaning.specs.Dequeues.{object_at}
 use Rattle.script_meaning.specs.Gets.{key_answers}
 use Rattle.script_meaning.specs.Stamped.{ReadEnd, Whole, Refused, Unraised, StampedRead, stamped_read, ended_so}
-use Rattle.script_meaning.specs.Transactions.{found_by, read_in, ruled, ruled_by, verdict_in, version_keys, committed_by}
+use Rattle.script_meaning.specs.Telling.{told_by}
+use Rattle.script_meaning.specs.Transactions.{found_by, read_in, ruled, verdict_in, verdict_tells, version_keys, committed_by}
 use Rattle.script_meaning.specs.Meaning.{done, done_one, done_from}
-use Rattle.script_in_order.specs.Doing.{DoneBy, transaction_of, with_replies}
+use Rattle.script_in_order.specs.Doing.{DoneBy, transacts, transaction_of, with_replies}
 use Rattle.script_in_order.specs.declared.stamped.Stamped.{Stamped}
 use Rattle.script_in_order.specs.Stamped.{Reads, end_in}
 use Rattle.report_text.specs.declared.report.ReplyLine.{ReplyLine}
@@ -90,10 +96,8 @@ tx_is objects object other has =
     ap (λ (o : Object). is_tx o.kind) (at_or objects object has.found other has.there) ∙ has.kind
 
 its_kinds : (kind : Kind) → is_tx kind ≡ true → (home : ℕ) × (colours : List ℕ) × (kind ≡ kinds.Tx home colours)
-its_kinds (kinds.Map home of) is = absurd (let f : ⊥ = cc in f)
 its_kinds (kinds.Tx home of) is = (home, of, refl)
-its_kinds (kinds.Causal colour) is = absurd (let f : ⊥ = cc in f)
-its_kinds (kinds.Queue home colour) is = absurd (let f : ⊥ = cc in f)
+its_kinds _ is = absurd (let f : ⊥ = cc in f)
 
 pub tx_at : (objects : List Object) (object : ℕ) → HasObject objects object is_tx → IsTxAt objects object
 tx_at objects object has =
@@ -139,9 +143,9 @@ module _ (objects : List Object) (old new : World) (command : Command) (object :
         (found_by (with_replies old told) command object keys r.world) r.world r.ends) read_is
 
   -- where nothing is found, nothing is kept of the object
-  nothing_kept : (told : State) (answer : Answer)
+  none_is_kept : (told : State) (answer : Answer)
       → answered (with_replies old told) command new answer [] ≡ answered_keeping told command object new answer None
-  nothing_kept told answer =
+  none_is_kept told answer =
       ap (λ (what : What). record (answered told command new answer []) {
         reads = updated told.reads command.client (reads_left what (told.reads command.client));
       }) is
@@ -150,7 +154,7 @@ module _ (objects : List Object) (old new : World) (command : Command) (object :
   left_unraised reads = record {
     grants = grants Unraised reads true;
     begun = refl;
-    is = λ told same. reading_is Unraised reads true told ∙ nothing_kept told answers.NoMemory;
+    is = λ told same. reading_is Unraised reads true told ∙ none_is_kept told answers.NoMemory;
   }
 
   pub left_refused : (c : ℕ) (base : Counts) → Reads old new command.client cs (Refused c base)
@@ -158,7 +162,7 @@ module _ (objects : List Object) (old new : World) (command : Command) (object :
   left_refused c base reads = record {
     grants = grants (Refused c base) reads true;
     begun = refl;
-    is = λ told same. reading_is (Refused c base) reads true told ∙ nothing_kept told (answers.Trimmed c base);
+    is = λ told same. reading_is (Refused c base) reads true told ∙ none_is_kept told (answers.Trimmed c base);
   }
 
   module _ (stamp : ℕ) (raises : List RaisePiece) (syncs : List SyncPiece) (read : List Key)
@@ -167,7 +171,7 @@ module _ (objects : List Object) (old new : World) (command : Command) (object :
     left_without = record {
       grants = grants (Whole stamp raises syncs read) reads false;
       begun = refl;
-      is = λ told same. reading_is (Whole stamp raises syncs read) reads false told ∙ nothing_kept told answers.NoMemory;
+      is = λ told same. reading_is (Whole stamp raises syncs read) reads false told ∙ none_is_kept told answers.NoMemory;
     }
 
     pub left_found : (shown : List KeyAnswer) (versions : List Version)
@@ -189,7 +193,7 @@ module _ (objects : List Object) (old new : World) (command : Command) (object :
 module _ (client : ℕ) (colours : List ℕ) (own : Key) (row : Option ℕ) (points : List PointPiece) (old new : World) where
   module _ (ends : ReadEnd) (reads : Reads old new client colours ends) (items : Bool) (answer : Answer)
       (is : (grants : Grants) (state : State) (command : Command) → grants.items ≡ items
-      → ruled_by grants state command own row points new ends ≡ answered state command new answer []) where
+      → told_by verdict_tells grants state command own row points new ends ≡ answered state command new answer []) where
     pub rules : Rules client colours own row points old new answer
     rules =
         let given = found_with (λ _. true) reads.finds in record {
@@ -199,7 +203,7 @@ module _ (client : ℕ) (colours : List ℕ) (own : Key) (row : Option ℕ) (poi
           is = λ grants state command.
               let all : Grants = record grants { raises = reads.found; read_helps = given.helps; items = items } in
               let reading : Grants = record all { helps = given.helps } in
-              ap (λ (r : StampedRead). ruled_by all state command own row points r.world r.ends)
+              ap (λ (r : StampedRead). told_by verdict_tells all state command own row points r.world r.ends)
               (reads.is reading refl (finds_same given reading refl 0 reads.finds (finds_all (λ _. true) reads.finds)))
               ∙ is all state command refl;
         }
@@ -248,27 +252,17 @@ rules_not_begun client (c ∷ colours) key row points w some = record {
 -- such a command lets the object's read go
 lets_go : (what : What) (object : ℕ) → transaction_of what ≡ Some object
     → ◌≡◌ {A = Keeps → Keeps} (reads_left what) (λ reads. updated reads object None)
-lets_go (whats.Append colours text) object e = let f : ⊥ = cc in absurd f
-lets_go (whats.Stop steps colours text) object e = let f : ⊥ = cc in absurd f
-lets_go (whats.Sync colour) object e = let f : ⊥ = cc in absurd f
-lets_go (whats.Scan colours) object e = let f : ⊥ = cc in absurd f
-lets_go (whats.Pull region colour) object e = let f : ⊥ = cc in absurd f
-lets_go (whats.Trim colour) object e = let f : ⊥ = cc in absurd f
-lets_go (whats.Put o key value) object e = let f : ⊥ = cc in absurd f
-lets_go (whats.Get o key) object e = let f : ⊥ = cc in absurd f
-lets_go (whats.Del o key) object e = let f : ⊥ = cc in absurd f
-lets_go (whats.PutAll o pairs) object e = let f : ⊥ = cc in absurd f
-lets_go (whats.GetAll o keys) object e = let f : ⊥ = cc in absurd f
-lets_go (whats.Read o keys) object e = same o object cc where
-  same : (a b : ℕ) → a ≡ b
-      → ◌≡◌ {A = Keeps → Keeps} (λ reads. updated reads a None) (λ reads. updated reads b None)
-  same a b e = ap (λ (x : ℕ). λ (reads : Keeps). updated reads x None) e
-lets_go (whats.Commit o pairs) object e = same o object cc where
-  same : (a b : ℕ) → a ≡ b
-      → ◌≡◌ {A = Keeps → Keeps} (λ reads. updated reads a None) (λ reads. updated reads b None)
-  same a b e = ap (λ (x : ℕ). λ (reads : Keeps). updated reads x None) e
-lets_go (whats.Enq o value) object e = let f : ⊥ = cc in absurd f
-lets_go (whats.Deq o) object e = let f : ⊥ = cc in absurd f
+lets_go what object = by (use_of what) where
+  same : (o : ℕ) → o ≡ object
+      → ◌≡◌ {A = Keeps → Keeps} (λ reads. updated reads o None) (λ reads. updated reads object None)
+  same o e = ap (λ (x : ℕ). λ (reads : Keeps). updated reads x None) e
+
+  by : (u : Use) → transacts u ≡ Some object
+      → ◌≡◌ {A = Keeps → Keeps} (λ reads. (behind_by u (before_by u (record nothing_kept { reads = reads }))).reads)
+      (λ reads. updated reads object None)
+  by (OfObject o reads.Takes) e = same o cc
+  by (OfObject o reads.UsesUp) e = same o cc
+  by _ e = let f : ⊥ = cc in absurd f
 
 let_go : (command : Command) (object : ℕ) → transaction_of command.what ≡ Some object → (told : State) (w : World)
     (answer : Answer) → answered told command w answer [] ≡ answered_keeping told command object w answer None
@@ -350,12 +344,12 @@ module _ (objects : List Object) (command : Command) (object : ℕ) (before afte
   twice kept = ap (λ (l : List (Option (List Version))). record before { reads = l })
       (set_twice before.reads object None kept)
 
-  pub transacts : (old new : World) (answer : Answer) (kept taken : Option (List Version)) (reply : ReplyLine)
+  pub did_transact : (old new : World) (answer : Answer) (kept taken : Option (List Version)) (reply : ReplyLine)
       → taken ≡ read_at before.reads object → Whole_left objects command object taken old new answer kept
       → reply ≡ reply_of command answer []
       → after ≡ with_reply (with_read (with_read before object None) object kept) reply
       → Transacts objects command object old new before after
-  transacts old new answer kept taken reply its l is so = record {
+  did_transact old new answer kept taken reply its l is so = record {
     grants = l.grants;
     answer = answer;
     kept = kept;
@@ -492,25 +486,13 @@ commit_asks what object other pairs asks is =
 -- it is one of the objects
 pub object_there : (objects : List Object) (what : What) (object : ℕ) → transaction_of what ≡ Some object
     → UsesObject objects what → object < length objects
-object_there objects (whats.Append colours text) object e u = let f : ⊥ = cc in absurd f
-object_there objects (whats.Stop steps colours text) object e u = let f : ⊥ = cc in absurd f
-object_there objects (whats.Sync colour) object e u = let f : ⊥ = cc in absurd f
-object_there objects (whats.Scan colours) object e u = let f : ⊥ = cc in absurd f
-object_there objects (whats.Pull region colour) object e u = let f : ⊥ = cc in absurd f
-object_there objects (whats.Trim colour) object e u = let f : ⊥ = cc in absurd f
-object_there objects (whats.Put o key value) object e u = let f : ⊥ = cc in absurd f
-object_there objects (whats.Get o key) object e u = let f : ⊥ = cc in absurd f
-object_there objects (whats.Del o key) object e u = let f : ⊥ = cc in absurd f
-object_there objects (whats.PutAll o pairs) object e u = let f : ⊥ = cc in absurd f
-object_there objects (whats.GetAll o keys) object e u = let f : ⊥ = cc in absurd f
-object_there objects (whats.Read o keys) object e u =
-    let is : o ≡ object = cc in
-    subst (λ (n : ℕ). n < length objects) is (get_within objects o u.0.found u.0.there)
-object_there objects (whats.Commit o pairs) object e u =
-    let is : o ≡ object = cc in
-    subst (λ (n : ℕ). n < length objects) is (get_within objects o u.0.found u.0.there)
-object_there objects (whats.Enq o value) object e u = let f : ⊥ = cc in absurd f
-object_there objects (whats.Deq o) object e u = let f : ⊥ = cc in absurd f
+object_there objects what object = by (use_of what) where
+  by : (u : Use) → transacts u ≡ Some object → UsesOne objects what u → object < length objects
+  by (OfLog stops) e u = let f : ⊥ = cc in absurd f
+  by (OfObject o reads.Leaves) e u = let f : ⊥ = cc in absurd f
+  by (OfObject o _) e u =
+      let is : o ≡ object = cc in
+      subst (λ (n : ℕ). n < length objects) is (get_within objects o u.0.found u.0.there)
 
 -- what was taken is fit
 pub taken_fits : (reads : List (Option (List Version))) (object : ℕ) (taken : Option (List Version))

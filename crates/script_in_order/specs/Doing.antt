@@ -7,6 +7,10 @@ use Rattle.script_text.specs.declared.script.Command.{Command}
 use Rattle.script_text.specs.declared.script.What.{What}
 use Rattle.script_text.specs.declared.script.What.TheVariants as whats
 use Rattle.script_text.specs.declared.script.Object.{Object}
+use Rattle.script_text.specs.declared.uses.ReadUse.TheVariants.{Takes, UsesUp}
+use Rattle.script_text.specs.declared.uses.Use.{Use}
+use Rattle.script_text.specs.declared.uses.Use.TheVariants.{OfObject}
+use Rattle.script_text.specs.Uses.{use_of}
 use Rattle.script_text.specs.Fitting.{IsWithin, IsKindWithin, UsesObject}
 use Rattle.report_text.specs.declared.report.Answer.{Answer}
 use Rattle.script_meaning.specs.States.{State, Grants, answered}
@@ -37,39 +41,21 @@ DoesAtHome objects command old new answer nodes =
 
 -- the command folds nodes for its answer
 abbrev pub folds_nodes : What → Bool
-folds_nodes (whats.Append colours text) = false
-folds_nodes (whats.Stop steps colours text) = false
-folds_nodes (whats.Sync colour) = false
-folds_nodes (whats.Scan colours) = false
-folds_nodes (whats.Pull region colour) = false
-folds_nodes (whats.Trim colour) = false
-folds_nodes (whats.Put object key value) = false
 folds_nodes (whats.Get object key) = true
-folds_nodes (whats.Del object key) = false
-folds_nodes (whats.PutAll object pairs) = false
 folds_nodes (whats.GetAll object keys) = true
 folds_nodes (whats.Read object keys) = true
 folds_nodes (whats.Commit object pairs) = true
-folds_nodes (whats.Enq object value) = false
 folds_nodes (whats.Deq object) = true
+folds_nodes _ = false
 
 -- the object that a read or a commit is of
+abbrev pub transacts : Use → Option ℕ
+transacts (OfObject object Takes) = Some object
+transacts (OfObject object UsesUp) = Some object
+transacts _ = None
+
 abbrev pub transaction_of : What → Option ℕ
-transaction_of (whats.Append colours text) = None
-transaction_of (whats.Stop steps colours text) = None
-transaction_of (whats.Sync colour) = None
-transaction_of (whats.Scan colours) = None
-transaction_of (whats.Pull region colour) = None
-transaction_of (whats.Trim colour) = None
-transaction_of (whats.Put object key value) = None
-transaction_of (whats.Get object key) = None
-transaction_of (whats.Del object key) = None
-transaction_of (whats.PutAll object pairs) = None
-transaction_of (whats.GetAll object keys) = None
-transaction_of (whats.Read object keys) = Some object
-transaction_of (whats.Commit object pairs) = Some object
-transaction_of (whats.Enq object value) = None
-transaction_of (whats.Deq object) = None
+transaction_of what = transacts (use_of what)
 
 -- the command's client is one of the world's, and it names colours and regions of the world, and objects of these
 pub record IsFit (w : World) (objects : List Object) (client : ℕ) (what : What) : Type 0 where

@@ -2,6 +2,9 @@
 use Rattle.std.specs.Prelude.{◌≡◌, ℕ, ◌≤◌, ◌<◌, List, [], length, map, take, drop, Some, slice_get}
 use Rattle.std.specs.List.{Contains, fold}
 use Rattle.log_node.specs.declared.ids.Key.{Key}
+use Rattle.object_fold.specs.declared.kept_line.KeptLine.{KeptLine}
+use Rattle.object_fold.specs.declared.queue.ValueQueue.{ValueQueue}
+use Rattle.object_fold.specs.declared.shard_map.ShardMap.{ShardMap}
 use Rattle.object_fold.specs.Nodes.{ObjectNode}
 use Rattle.object_fold.specs.States.{IsShardMap, IsQueue, IsTxState}
 use Rattle.col_core.specs.History.{line}
@@ -13,10 +16,8 @@ use Rattle.script_text.specs.declared.script.Object.{Object}
 use Rattle.script_meaning.specs.States.{kind_in}
 use Rattle.script_meaning.specs.Dequeues.{object_at}
 use Rattle.script_in_order.specs.CausalFolds.{AreCausalFolds}
-use Rattle.script_in_order.specs.declared.tx_folds.TxFold.{TxFold}
+use Rattle.script_in_order.specs.declared.lines_fold.LinesFold.{LinesFold}
 use Rattle.script_in_order.specs.declared.folds.FirstNodes.{FirstNodes}
-use Rattle.script_in_order.specs.declared.folds.ShardFold.{ShardFold}
-use Rattle.script_in_order.specs.declared.folds.QueueFold.{QueueFold}
 use Rattle.script_in_order.specs.declared.folds.Fold.{Fold}
 use Rattle.script_in_order.specs.declared.folds.Fold.TheVariants as folds
 
@@ -34,24 +35,27 @@ pub record AreThere (w : World) (first : FirstNodes) : Type 0 where
   pub colour : first.colour < w.shape.colours
   pub count : first.count ≤ length (line_of w first)
 
+-- the fold is of the first nodes of the line of a region's column
+pub record IsKeptLine {F : Type 0} (Holds : F → List ObjectNode → Type 0) (w : World) (home colour : ℕ)
+    (kept : KeptLine F) : Type 0 where
+  pub within : kept.count ≤ length (line (w.histories home colour))
+  pub folded : Holds kept.state (nodes_at w (record { region = home; colour = colour; count = kept.count }))
+
 -- the fold is of the shard with this colour, of a map with these colours, and of the first nodes of its line at home
-pub record IsShardFold (w : World) (home : ℕ) (colours : List ℕ) (colour : ℕ) (fold : ShardFold) : Type 0 where
-  pub colours_are : fold.map.colours ≡ colours
-  pub shard_is : fold.map.shard ≡ colour
-  pub within : fold.count ≤ length (line (w.histories home colour))
-  pub folded : IsShardMap fold.map
-      (nodes_at w (record { region = home; colour = colour; count = fold.count }))
+pub record IsShardFold (w : World) (home : ℕ) (colours : List ℕ) (colour : ℕ) (kept : KeptLine ShardMap) : Type 0 where
+  pub colours_are : kept.state.colours ≡ colours
+  pub shard_is : kept.state.shard ≡ colour
+  pub folded : IsKeptLine IsShardMap w home colour kept
 
 -- a map has one for each colour that there is
-pub record AreShardFolds (w : World) (home : ℕ) (colours : List ℕ) (shards : List ShardFold) : Type 0 where
+pub record AreShardFolds (w : World) (home : ℕ) (colours : List ℕ) (shards : List (KeptLine ShardMap)) : Type 0 where
   pub all : length shards ≡ w.shape.colours
-  pub each : (colour : ℕ) (fold : ShardFold) → slice_get shards colour ≡ Some fold
-      → IsShardFold w home colours colour fold
+  pub each : (colour : ℕ) (kept : KeptLine ShardMap) → slice_get shards colour ≡ Some kept
+      → IsShardFold w home colours colour kept
 
 -- the fold is of the first nodes of the queue's line at home
-pub record IsQueueFold (w : World) (home colour : ℕ) (fold : QueueFold) : Type 0 where
-  pub within : fold.count ≤ length (line (w.histories home colour))
-  pub folded : IsQueue fold.queue (nodes_at w (record { region = home; colour = colour; count = fold.count }))
+abbrev pub IsQueueFold : World → ℕ → ℕ → KeptLine ValueQueue → Type 0
+IsQueueFold w home colour kept = IsKeptLine IsQueue w home colour kept
 
 -- the keys of the first nodes of some lines, in rising key, each once
 abbrev pub first_keys : World → List FirstNodes → List Key
@@ -69,11 +73,11 @@ pub record AreRead (w : World) (client stamp : ℕ) (colours : List ℕ) (firsts
   pub cut : (first : FirstNodes) → Contains firsts first
       → take first.count (line_of w first) ≡ up_to stamp (line_of w first)
 
--- a transactional map is folded from the first nodes of some lines, whose stamps are up to the fold's
-pub record IsTxFold (w : World) (fold : TxFold) : Type 0 where
+-- an object is folded from the first nodes of some lines, whose stamps are up to the fold's
+pub record IsLinesFold {F : Type 0} (Holds : F → List ObjectNode → Type 0) (w : World) (fold : LinesFold F) : Type 0 where
   pub there : (first : FirstNodes) → Contains fold.firsts.items first → AreThere w first
   pub low : (key : Key) → Contains (first_keys w fold.firsts.items) key → key.stamp ≤ fold.stamp
-  pub folded : IsTxState fold.state (map (object_at w) (first_keys w fold.firsts.items))
+  pub folded : Holds fold.kept.state (map (object_at w) (first_keys w fold.firsts.items))
 
 -- the fold is of an object of this kind, and right
 abbrev pub IsFoldOf : World → Kind → Fold → Type 0
@@ -83,7 +87,8 @@ IsFoldOf w kind (folds.Queue queue) =
     (home : ℕ) × (colour : ℕ) × (kind ≡ kinds.Queue home colour) × IsQueueFold w home colour queue
 IsFoldOf w kind (folds.Causal regions) =
     (colour : ℕ) × (kind ≡ kinds.Causal colour) × AreCausalFolds w colour regions.items
-IsFoldOf w kind (folds.Tx fold) = (home : ℕ) × (colours : List ℕ) × (kind ≡ kinds.Tx home colours) × IsTxFold w fold
+IsFoldOf w kind (folds.Tx fold) =
+    (home : ℕ) × (colours : List ℕ) × (kind ≡ kinds.Tx home colours) × IsLinesFold IsTxState w fold
 
 -- there is a right one for each of the objects
 pub record AreFolded (w : World) (objects : List Object) (all : List Fold) : Type 0 where
@@ -94,14 +99,14 @@ pub record AreFolded (w : World) (objects : List Object) (all : List Fold) : Typ
 -- of these colours no shard of the object is folded past its bound
 abbrev pub ShardsWithin : List Fold → ℕ → List ℕ → (ℕ → ℕ) → Type 0
 ShardsWithin all object colours bound =
-    (colour : ℕ) → Contains colours colour → (shards : _) (fold : ShardFold)
-    → slice_get all object ≡ Some (folds.Map shards) → slice_get shards.items colour ≡ Some fold
-    → fold.count ≤ bound colour
+    (colour : ℕ) → Contains colours colour → (shards : _) (kept : KeptLine ShardMap)
+    → slice_get all object ≡ Some (folds.Map shards) → slice_get shards.items colour ≡ Some kept
+    → kept.count ≤ bound colour
 
 -- the queue is not folded past this number
 abbrev pub QueueWithin : List Fold → ℕ → ℕ → Type 0
 QueueWithin all object count =
-    (fold : QueueFold) → slice_get all object ≡ Some (folds.Queue fold) → fold.count ≤ count
+    (kept : KeptLine ValueQueue) → slice_get all object ≡ Some (folds.Queue kept) → kept.count ≤ count
 
 -- The first nodes of a line may be folded, of the object with a number, which is of this kind.
 pub record MayFold (w : World) (objects : List Object) (all : List Fold) (object : ℕ) (kind : Kind)

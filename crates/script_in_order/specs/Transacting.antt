@@ -1,12 +1,10 @@
 -- What a read or a commit of an object does to a world, what it is answered, and what its client keeps of the object.
-use Rattle.std.specs.Prelude.{◌≡◌, ℕ, Bool, true, false, List, [], Option, Some, None, unwrap_or, if◌then◌else◌}
+use Rattle.std.specs.Prelude.{◌≡◌, ℕ, Bool, true, false, List, [], Option, Some, None, if◌then◌else◌}
 use Rattle.std.specs.List.{All, Contains}
 use Rattle.log_node.specs.Order.{same_key}
 use Rattle.log_node.specs.declared.ids.Key.{Key}
 use Rattle.log_node.specs.declared.forms.Version.{Version}
 use Rattle.object_form.specs.Forms.{AreVersions}
-use Rattle.object_fold.specs.declared.verdict.Verdict.{Verdict}
-use Rattle.object_fold.specs.declared.verdict.Verdict.TheVariants.{Committed}
 use Rattle.col_core.specs.History.{line}
 use Rattle.col_core.specs.Keeping.{updated}
 use Rattle.world_laws.specs.Worlds.{World}
@@ -16,7 +14,8 @@ use Rattle.report_text.specs.declared.report.Answer.{Answer}
 use Rattle.report_text.specs.declared.report.PointPiece.{PointPiece}
 use Rattle.script_meaning.specs.States.{State, Grants, Reads, answered}
 use Rattle.script_meaning.specs.Stamped.{stamped_read}
-use Rattle.script_meaning.specs.Transactions.{ruled_by}
+use Rattle.script_meaning.specs.Telling.{told_by}
+use Rattle.script_meaning.specs.Transactions.{verdict_tells}
 use Rattle.script_meaning.specs.Meaning.{done}
 use Rattle.script_in_order.specs.Doing.{with_replies}
 use Rattle.script_in_order.specs.Runs.{RepliesView, read_at, with_read, with_reply, reply_of}
@@ -31,11 +30,10 @@ AreOfLines w keys =
 abbrev pub AreOthers : Key → List Key → Type 0
 AreOthers own keys = All (λ (key : Key). same_key key own ≡ false) keys
 
--- the verdict on a node, where it was found before, or now that the one with this key was given its own
-abbrev pub found_with : Option Verdict → Option Verdict → Key → Key → Option Verdict
-found_with (Some verdict) given key own = Some verdict
-found_with None given key own =
-    if same_key key own then Some (unwrap_or given (Committed own.stamp)) else None
+-- what a node was told, where that was found before, or now that the one with this key was told this
+abbrev pub found_with : {T : Type 0} → Option (Option T) → Option T → Key → Key → Option (Option T)
+found_with (Some before) told key own = Some before
+found_with None told key own = if same_key key own then Some told else None
 
 -- what each read found is such as the text of a transaction may name
 abbrev pub AreFit : Reads → Type 0
@@ -67,7 +65,7 @@ pub record Rules (client : ℕ) (colours : List ℕ) (own : Key) (row : Option �
   pub is : (grants : Grants) (state : State) (command : Command)
       → (let all : Grants = record grants { raises = raises; read_helps = helps; items = items } in
       let read = stamped_read (record all { helps = helps }) old client colours in
-      ruled_by all state command own row points read.world read.ends) ≡ answered state command new answer []
+      told_by verdict_tells all state command own row points read.world read.ends) ≡ answered state command new answer []
 
 -- The command, granted some memory, leads from one world to the other; of the replies to its client, one more is kept, and
 -- what it left of the object for the next commit.

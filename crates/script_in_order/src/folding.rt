@@ -17,23 +17,14 @@ use world_code::World;
 pub fn folds_nodes(what: &What) -> bool
     ensures { result ≡ folds_nodes what.now }
 {
-    match what {
-        What::Append { .. } => false,
-        What::Stop { .. } => false,
-        What::Sync { .. } => false,
-        What::Scan { .. } => false,
-        What::Pull { .. } => false,
-        What::Trim { .. } => false,
-        What::Put { .. } => false,
-        What::Get { .. } => true,
-        What::Del { .. } => false,
-        What::PutAll { .. } => false,
-        What::GetAll { .. } => true,
-        What::Read { .. } => true,
-        What::Commit { .. } => true,
-        What::Enq { .. } => false,
-        What::Deq { .. } => true,
-    }
+    matches!(
+        what,
+        What::Get { .. }
+            | What::GetAll { .. }
+            | What::Read { .. }
+            | What::Commit { .. }
+            | What::Deq { .. }
+    )
 }
 
 /// What a command is answered that folds nodes and that no home refuses; `Err` means that it found no memory before it

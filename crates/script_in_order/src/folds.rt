@@ -6,6 +6,7 @@ ghost use Rattle.std.specs.List.{Contains};
 ghost use Rattle.log_node.specs.Sets.{members};
 ghost use Rattle.object_fold.specs.Transactions.{value_of, writes_after, versions_after};
 ghost use Rattle.object_fold.specs.Maps.{shard_value};
+ghost use Rattle.object_fold.specs.Nodes.{keyed_node};
 ghost use Rattle.object_fold.specs.Queues.{front_after};
 ghost use Rattle.col_core.specs.History.{line};
 ghost use Rattle.world_laws.specs.Worlds.{World as Meant};
@@ -18,43 +19,29 @@ ghost use Rattle.script_meaning.specs.Gets.{key_answers};
 ghost use Rattle.script_meaning.specs.Stamped.{keys_read};
 ghost use Rattle.script_meaning.specs.Transactions.{verdict_in};
 ghost use Rattle.script_in_order.specs.CausalFolds.{held_nodes, cut_of, AreCausalFolds};
-ghost use Rattle.script_in_order.specs.Folds.{nodes_at, AreThere, IsShardFold, AreShardFolds, IsQueueFold, IsFoldOf, AreFolded, ShardsWithin, QueueWithin, MayFold, IsTxAt};
+ghost use Rattle.script_in_order.specs.Folds.{nodes_at, AreThere, IsKeptLine, IsShardFold, AreShardFolds, IsQueueFold, IsFoldOf, AreFolded, ShardsWithin, QueueWithin, MayFold, IsTxAt};
 
 use crate::causal::CausalFold;
-use crate::tx_folds::{LinesRead, TxFold};
-use log_node::{ColourList, Key, Keys, ListOf, MAX_COLOURS, Names, Shape, Text, Versions};
-use object_fold::{ShardMap, ValueQueue, Verdict};
+use crate::lines_fold::{LinesFold, LinesRead};
+use log_node::{ColourList, Key, Keys, ListOf, MAX_COLOURS, Names, Node, Shape, Text, Versions};
+use object_fold::{KeptLine, LineFold, ShardMap, TxState, ValueQueue, Verdict};
 use report_text::KeyAnswer;
 use script_text::{Kind, Object, Script};
 use std::alloc::{AllocError, Global};
 use std::marker::Model;
 use world_code::World;
 
-/// The map of one shard, and how many first nodes of its colour's line are folded.
-#[derive(Drop)]
-pub struct ShardFold {
-    map: ShardMap,
-    count: usize,
-}
-
-/// The queue, and how many first nodes of its line are folded.
-#[derive(Drop)]
-pub struct QueueFold {
-    queue: ValueQueue,
-    count: usize,
-}
-
 /// What of one object is folded.
 #[derive(Drop)]
 pub enum Fold {
     /// Of a map: its shards by colours.
-    Map(Vec<ShardFold>),
+    Map(Vec<KeptLine<ShardMap>>),
     /// Of a queue.
-    Queue(QueueFold),
+    Queue(KeptLine<ValueQueue>),
     /// Of a causal map: what each region's column lets play, by region.
     Causal(Vec<CausalFold>),
     /// Of a transactional map.
-    Tx(TxFold),
+    Tx(LinesFold<TxState>),
 }
 
 /// What is folded of each object, by the object's number.
@@ -80,131 +67,100 @@ pub struct FirstNodes {
     pub count: usize,
 }
 
-/// The text of the node with a key of a line.
-pub fn text_of(world: &World, key: Key) -> &Text
+/// The node with a key of a line.
+pub fn node_of(world: &World, key: Key) -> &Node
     requires { (region : ℕ) × (colour : ℕ) × Contains (line ((world_of world.now).histories region colour)) key }
-    ensures { result.now ≡ (object_at (world_of world.now) key).text }
+    ensures { keyed_node key result.now ≡ object_at (world_of world.now) key }
 {
     world.is_whole();
     match world.node(key.id) {
-        Some(node) => &node.text,
+        Some(node) => node,
         None => unreachable!(),
     }
 }
 
-impl ShardFold {
-    // The fold of no node.
-    fn open(alloc: Global, colours: ColourList, shard: u8) -> Self
-        ensures { (w : Meant) (home : ℕ) → IsShardFold w home colours shard result }
-    {
-        ShardFold {
-            map: ShardMap::open(alloc, colours, shard),
-            count: 0,
-        }
+// Folds on up to the first so many nodes of the line of a column at home. Without memory it stays where it was, or has come
+// a part of the way.
+fn fold_to<F: LineFold>(
+    alloc: Global,
+    world: &World,
+    kept: &mut KeptLine<F>,
+    first: FirstNodes,
+) -> Result<(), AllocError>
+    requires there { AreThere (world_of world.now) first }
+    requires behind { kept.old.count ≤ first.count }
+    requires folded { IsKeptLine F.Holds (world_of world.now) first.region first.colour kept.old }
+    ensures opened { F.opened kept.new.state ≡ F.opened kept.old.state }
+    ensures ok { OnOk result (kept.new.count ≡ first.count) }
+    ensures within { kept.new.count ≤ first.count }
+    ensures folded { IsKeptLine F.Holds (world_of world.now) first.region first.colour kept.new }
+{
+    let line = world.column(first.region, first.colour).line();
+    for place in kept.count..first.count {
+        let key = line[place];
+        kept.feed(alloc, key, node_of(world, key))?;
     }
+    Ok(())
+}
 
-    // Folds on up to the first so many nodes of the line of a column at home. Without memory it stays where it was, or
-    // has come a part of the way.
-    fn fold_to(&mut self, alloc: Global, world: &World, first: FirstNodes) -> Result<(), AllocError>
-        requires there { AreThere (world_of world.now) first }
-        requires behind { self.old.count ≤ first.count }
-        requires folded { (colours : List ℕ) × IsShardFold (world_of world.now) first.region colours first.colour self.old }
-        ensures ok { OnOk result (self.new.count ≡ first.count) }
-        ensures within { self.new.count ≤ first.count }
-        ensures folded { (colours : List ℕ) → IsShardFold (world_of world.now) first.region colours first.colour self.old
-            → IsShardFold (world_of world.now) first.region colours first.colour self.new }
-    {
-        let line = world.column(first.region, first.colour).line();
-        for place in self.count..first.count {
-            self.map.feed(alloc, text_of(world, line[place]))?;
-            self.count = place + 1;
-        }
-        Ok(())
-    }
-
-    // The value of a key after the first nodes of the line of a column at home.
-    fn value(
-        &mut self,
-        alloc: Global,
-        world: &World,
-        first: FirstNodes,
-        key: &[u8],
-    ) -> Result<Option<Text>, AllocError>
-        requires there { AreThere (world_of world.now) first }
-        requires behind { self.old.count ≤ first.count }
-        requires folded { (colours : List ℕ) × IsShardFold (world_of world.now) first.region colours first.colour self.old }
-        ensures value { (colours : List ℕ) → IsShardFold (world_of world.now) first.region colours first.colour self.old
-            → IfOk result (λ value. value ≡ shard_value colours first.colour (nodes_at (world_of world.now) first) key.now) }
-        ensures within { self.new.count ≤ first.count }
-        ensures folded { (colours : List ℕ) → IsShardFold (world_of world.now) first.region colours first.colour self.old
-            → IsShardFold (world_of world.now) first.region colours first.colour self.new }
-    {
-        self.fold_to(alloc, world, first)?;
-        match self.map.get(key) {
-            None => Ok(None),
-            Some(value) => Ok(Some(Text::copied(alloc, value.as_bytes())?)),
-        }
+// The value of a key of a shard after the first nodes of the line of a column at home.
+fn shard_value(
+    alloc: Global,
+    world: &World,
+    kept: &mut KeptLine<ShardMap>,
+    first: FirstNodes,
+    key: &[u8],
+) -> Result<Option<Text>, AllocError>
+    requires there { AreThere (world_of world.now) first }
+    requires behind { kept.old.count ≤ first.count }
+    requires folded { (colours : List ℕ) × IsShardFold (world_of world.now) first.region colours first.colour kept.old }
+    ensures value { (colours : List ℕ) → IsShardFold (world_of world.now) first.region colours first.colour kept.old
+        → IfOk result (λ value. value ≡ shard_value colours first.colour (nodes_at (world_of world.now) first) key.now) }
+    ensures within { kept.new.count ≤ first.count }
+    ensures folded { (colours : List ℕ) → IsShardFold (world_of world.now) first.region colours first.colour kept.old
+        → IsShardFold (world_of world.now) first.region colours first.colour kept.new }
+{
+    fold_to(alloc, world, kept, first)?;
+    match kept.state.get(key) {
+        None => Ok(None),
+        Some(value) => Ok(Some(Text::copied(alloc, value.as_bytes())?)),
     }
 }
 
-impl QueueFold {
-    // The fold of no node.
-    fn open(alloc: Global) -> Self
-        ensures { (w : Meant) (home colour : ℕ) → IsQueueFold w home colour result }
-    {
-        QueueFold {
-            queue: ValueQueue::new(alloc),
-            count: 0,
-        }
-    }
-
-    // Folds on up to the first so many nodes of the line of a column at home. Without memory it stays where it was, or
-    // has come a part of the way.
-    fn fold_to(&mut self, alloc: Global, world: &World, first: FirstNodes) -> Result<(), AllocError>
-        requires there { AreThere (world_of world.now) first }
-        requires behind { self.old.count ≤ first.count }
-        requires folded { IsQueueFold (world_of world.now) first.region first.colour self.old }
-        ensures ok { OnOk result (self.new.count ≡ first.count) }
-        ensures folded { IsQueueFold (world_of world.now) first.region first.colour self.new }
-    {
-        let line = world.column(first.region, first.colour).line();
-        for place in self.count..first.count {
-            let _answer = self.queue.feed(alloc, text_of(world, line[place]))?;
-            self.count = place + 1;
-        }
-        Ok(())
-    }
-
-    // The front after the first nodes of the line of a column at home.
-    fn front(
-        &mut self,
-        alloc: Global,
-        world: &World,
-        first: FirstNodes,
-    ) -> Result<Option<Text>, AllocError>
-        requires there { AreThere (world_of world.now) first }
-        requires behind { self.old.count ≤ first.count }
-        requires folded { IsQueueFold (world_of world.now) first.region first.colour self.old }
-        ensures value { IfOk result (λ value. value ≡ front_after (nodes_at (world_of world.now) first)) }
-        ensures folded { IsQueueFold (world_of world.now) first.region first.colour self.new }
-    {
-        self.fold_to(alloc, world, first)?;
-        match self.queue.front() {
-            None => Ok(None),
-            Some(front) => Ok(Some(Text::copied(alloc, front.as_bytes())?)),
-        }
+// The front of a queue after the first nodes of the line of a column at home.
+fn queue_front(
+    alloc: Global,
+    world: &World,
+    kept: &mut KeptLine<ValueQueue>,
+    first: FirstNodes,
+) -> Result<Option<Text>, AllocError>
+    requires there { AreThere (world_of world.now) first }
+    requires behind { kept.old.count ≤ first.count }
+    requires folded { IsQueueFold (world_of world.now) first.region first.colour kept.old }
+    ensures value { IfOk result (λ value. value ≡ front_after (nodes_at (world_of world.now) first)) }
+    ensures folded { IsQueueFold (world_of world.now) first.region first.colour kept.new }
+{
+    fold_to(alloc, world, kept, first)?;
+    match kept.state.front() {
+        None => Ok(None),
+        Some(front) => Ok(Some(Text::copied(alloc, front.as_bytes())?)),
     }
 }
 
 // For each colour the fold of no node of a map with these colours.
-fn open_shards(alloc: Global, colours: &ColourList, count: u8) -> Result<Vec<ShardFold>, AllocError>
+fn open_shards(
+    alloc: Global,
+    colours: &ColourList,
+    count: u8,
+) -> Result<Vec<KeptLine<ShardMap>>, AllocError>
     ensures { (w : Meant) (home : ℕ) → w.shape.colours ≡ count
         → IfOk result (λ shards. AreShardFolds w home colours.now shards.items) }
 {
     let mut shards = Vec::new(alloc);
     for colour in 0..count {
         let copy = Vec::from_slice(alloc, colours.as_slice())?;
-        shards.push(ShardFold::open(alloc, ListOf::from(copy), colour))?;
+        let map = ShardMap::open(alloc, ListOf::from(copy), colour);
+        shards.push(KeptLine::new(map))?;
     }
     Ok(shards)
 }
@@ -235,11 +191,11 @@ fn open_fold(alloc: Global, kind: &Kind, shape: &Shape) -> Result<Fold, AllocErr
         Kind::Queue {
             home: _home,
             colour: _colour,
-        } => Ok(Fold::Queue(QueueFold::open(alloc))),
+        } => Ok(Fold::Queue(KeptLine::new(ValueQueue::new(alloc)))),
         Kind::Tx {
             home: _home,
             colours: _colours,
-        } => Ok(Fold::Tx(TxFold::open(alloc))),
+        } => Ok(Fold::Tx(LinesFold::open(alloc))),
         Kind::Causal { colour: _colour } => Ok(Fold::Causal(open_causal(alloc, shape.regions)?)),
     }
 }
@@ -281,7 +237,9 @@ impl Folds {
             → first.count ≤ bound first.colour → ShardsWithin self.new object colours bound }
     {
         match &mut self.of[object as usize] {
-            Fold::Map(shards) => { shards[first.colour as usize].value(alloc, world, first, key) }
+            Fold::Map(shards) => {
+                shard_value(alloc, world, &mut shards[first.colour as usize], first, key)
+            }
             _ => unreachable!(),
         }
     }
@@ -304,7 +262,7 @@ impl Folds {
             → AreFolded (world_of world.now) objects self.old → AreFolded (world_of world.now) objects self.new }
     {
         match &mut self.of[object as usize] {
-            Fold::Queue(fold) => fold.front(alloc, world, first),
+            Fold::Queue(kept) => queue_front(alloc, world, kept, first),
             _ => unreachable!(),
         }
     }

@@ -14,7 +14,7 @@ use crate::folding::{answer_by_fold, folds_nodes};
 use crate::folds::Folds;
 use log_node::{Items, ListOf};
 use report_text::Answer;
-use script_text::{Command, Kind, Object, What};
+use script_text::{Command, Kind, Object, Use, What};
 use std::alloc::{AllocError, Global};
 use world_code::World;
 
@@ -25,10 +25,10 @@ fn object_home(objects: &[Object], object: u8) -> Option<u8>
     match objects.get(object as usize) {
         None => None,
         Some(found) => match &found.kind {
-            Kind::Map { home, .. } => Some(*home),
-            Kind::Tx { home, .. } => Some(*home),
+            Kind::Map { home, .. } | Kind::Tx { home, .. } | Kind::Queue { home, .. } => Some(
+                *home,
+            ),
             Kind::Causal { .. } => None,
-            Kind::Queue { home, .. } => Some(*home),
         },
     }
 }
@@ -37,22 +37,9 @@ fn object_home(objects: &[Object], object: u8) -> Option<u8>
 fn home_asked(objects: &[Object], what: &What) -> Option<u8>
     ensures { (caller : Caller) → caller.objects ≡ objects.now → result ≡ home_asked caller what.now }
 {
-    match what {
-        What::Append { .. } => None,
-        What::Stop { .. } => None,
-        What::Sync { .. } => None,
-        What::Scan { .. } => None,
-        What::Pull { .. } => None,
-        What::Trim { .. } => None,
-        What::Put { object, .. } => object_home(objects, *object),
-        What::Get { object, .. } => object_home(objects, *object),
-        What::Del { object, .. } => object_home(objects, *object),
-        What::PutAll { object, .. } => object_home(objects, *object),
-        What::GetAll { object, .. } => object_home(objects, *object),
-        What::Read { object, .. } => object_home(objects, *object),
-        What::Commit { object, .. } => object_home(objects, *object),
-        What::Enq { object, .. } => object_home(objects, *object),
-        What::Deq { object } => object_home(objects, *object),
+    match what.use_of() {
+        Use::OfLog { .. } => None,
+        Use::OfObject { object, .. } => object_home(objects, object),
     }
 }
 

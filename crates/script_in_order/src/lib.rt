@@ -10,6 +10,7 @@ mod folds;
 mod gets;
 mod homes;
 mod in_order;
+mod lines_fold;
 mod moves;
 mod object_appends;
 mod points;
@@ -23,6 +24,6 @@ mod stamped;
 mod stops;
 mod syncs;
 mod transactions;
-mod tx_folds;
+mod tx_answers;
 
 pub use in_order::run_in_order;

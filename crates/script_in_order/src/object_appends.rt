@@ -90,9 +90,7 @@ fn put_form(alloc: Global, kind: &Kind, key: &Text, value: &Text) -> Result<Form
     let value = Text::copied(alloc, value.as_bytes())?;
     match kind {
         Kind::Causal { colour: _colour } => Ok(Form::Causal { key, value }),
-        Kind::Map { .. } => Ok(Form::Put { key, value }),
-        Kind::Tx { .. } => Ok(Form::Put { key, value }),
-        Kind::Queue { .. } => Ok(Form::Put { key, value }),
+        _ => Ok(Form::Put { key, value }),
     }
 }
 

@@ -25,15 +25,15 @@ ghost use Rattle.script_in_order.specs.Transacting.{Leaves, Rules};
 use crate::appends::next_id;
 use crate::folds::Folds;
 use crate::homes::refusing_home;
+use crate::lines_fold::LinesRead;
 use crate::object_appends::{append_form, copied_pairs, shard};
 use crate::stamped::{Stamped, stamped_read};
-use crate::tx_folds::LinesRead;
 use log_node::{
     Colours, Form, Key, Keys, ListOf, MAX_COLOURS, Pair, Pairs, Text, Version, Versions,
 };
 use object_fold::Verdict;
 use report_text::{Answer, PointPiece, Points, RaisePiece, SyncPiece};
-use script_text::{Command, Kind, Object, What};
+use script_text::{Command, Kind, Object, ReadUse, Use, What};
 use std::alloc::{AllocError, Global};
 use world_code::World;
 
@@ -41,22 +41,16 @@ use world_code::World;
 pub fn transaction_of(what: &What) -> Option<u8>
     ensures { result ≡ transaction_of what.now }
 {
-    match what {
-        What::Append { .. } => None,
-        What::Stop { .. } => None,
-        What::Sync { .. } => None,
-        What::Scan { .. } => None,
-        What::Pull { .. } => None,
-        What::Trim { .. } => None,
-        What::Put { .. } => None,
-        What::Get { .. } => None,
-        What::Del { .. } => None,
-        What::PutAll { .. } => None,
-        What::GetAll { .. } => None,
-        What::Read { object, .. } => Some(*object),
-        What::Commit { object, .. } => Some(*object),
-        What::Enq { .. } => None,
-        What::Deq { .. } => None,
+    match what.use_of() {
+        Use::OfObject {
+            object,
+            read: ReadUse::Takes,
+        } => Some(object),
+        Use::OfObject {
+            object,
+            read: ReadUse::UsesUp,
+        } => Some(object),
+        _ => None,
     }
 }
 

@@ -14,7 +14,8 @@ use Rattle.report_text.specs.declared.report.Answer.{Answer}
 use Rattle.report_text.specs.declared.report.Answer.TheVariants as answers
 use Rattle.report_text.specs.declared.report.RaisePiece.{RaisePiece}
 use Rattle.report_text.specs.declared.report.SyncPiece.{SyncPiece}
-use Rattle.lawful_run.specs.Asks.{Manner, Reading, manner_of, may_help, colours_synced}
+use Rattle.lawful_run.specs.Asks.{Manner, Reading, may_help}
+use Rattle.lawful_run.specs.Deeds.{manner_of, colours_synced}
 use Rattle.lawful_run.specs.Reads.{HidesRead, RefusesRead}
 use Rattle.lawful_run.specs.Refusals.{Hides, Refuses, hidden}
 use Rattle.script_meaning.specs.States.{State, Grants, answered}

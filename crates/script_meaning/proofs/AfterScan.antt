@@ -21,7 +21,7 @@ use Rattle.report_text.specs.declared.report.RaisePiece.{RaisePiece}
 use Rattle.report_text.specs.declared.report.SyncPiece.{SyncPiece}
 use Rattle.lawful_run.specs.Explains.{Explains}
 use Rattle.lawful_run.specs.Reads.{ShowsKey}
-use Rattle.lawful_run.specs.Asks.{manner_of, colours_synced}
+use Rattle.lawful_run.specs.Deeds.{manner_of, colours_synced}
 use Rattle.script_meaning.specs.States.{State, Grants}
 use Rattle.script_meaning.specs.Helping.{node_with}
 use Rattle.script_meaning.specs.Stamped.{stamped_read, shown_key, scan_answer, scanned}

@@ -30,7 +30,8 @@ use Rattle.script_text.specs.declared.script.Object.{Object}
 use Rattle.script_text.specs.declared.script.What.TheVariants as whats
 use Rattle.report_text.specs.declared.report.Answer.TheVariants as answers
 use Rattle.lawful_run.specs.Callers.{Caller, node_of}
-use Rattle.lawful_run.specs.Asks.{Stopping, manner_of}
+use Rattle.lawful_run.specs.Asks.{Stopping}
+use Rattle.lawful_run.specs.Deeds.{manner_of}
 use Rattle.lawful_run.specs.Appends.{BeginsRow, IsSettledIn, IsSettled, IsGoneAtEnd, none_for_several, IsGoneForMemory}
 use Rattle.lawful_run.specs.Refusals.{gone}
 use Rattle.lawful_run.specs.Explains.{Explains}

@@ -102,9 +102,6 @@ module _ (objects : List Object) (w : World) (reached : IsReached w) (u : ℕ) (
   row1 : row_of w1 row ≡ record { node = begun_node w u colours text; marks = λ _. marks.None; last = Open }
   row1 = updated_at-here w.rows u (w.clients u).used _
 
-  pub last1 : (row_of w1 row).last ≡ Open
-  last1 = ap (λ (r : RowState). r.last) row1
-
   pub marks1 : (c : ℕ) → (row_of w1 row).marks c ≡ marks.None
   marks1 c = ap (λ (r : RowState). r.marks c) row1
 

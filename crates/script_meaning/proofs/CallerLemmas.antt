@@ -1,13 +1,12 @@
 -- For those who do the commands: each state to which commands lead has a world of the script's shape that steps have
 -- made.
-use Rattle.std.proofs.Common.{◌≡◌, ℕ, List, [], ◌++◌, Some, refl, subst, ◌∙◌, ap, sym}
+use Rattle.std.proofs.Common.{◌≡◌, ℕ, List, [], ◌++◌, Some, refl, ◌∙◌, ap, sym}
 use Rattle.log_node.specs.declared.forms.Version.{Version}
 use Rattle.log_node.specs.declared.ids.Colours.{Colours}
 use Rattle.object_form.specs.Forms.{AreVersions}
 use Rattle.object_form.specs.Laws.{ReadsBack}
 use Rattle.world_laws.specs.Worlds.{World}
-use Rattle.world_laws.specs.Laws.{IsReached}
-use Rattle.world_laws.proofs.CallerLemmas.{opened_reached, run_reached, run_grows}
+use Rattle.world_laws.proofs.CallerLemmas.{run_grows}
 use Rattle.script_text.specs.declared.script.Command.{Command}
 use Rattle.script_text.specs.declared.script.Script.{Script}
 use Rattle.script_text.specs.declared.script.Object.{Object}
@@ -33,13 +32,6 @@ pub use Rattle.script_meaning.proofs.LaterNodes.{line_longer, nodes_stay, new_be
 pub use Rattle.script_meaning.proofs.ObjectKinds.{object_has, queue_colour, queue_one, some_of}
 pub use Rattle.script_meaning.proofs.Playing.{at_or}
 pub use Rattle.script_meaning.proofs.ObjectForms.{key_is_word, key_some, pairs_are}
-
-pub lead_reached : (script : Script) {commands : List Command} {state : State} → LeadTo script commands state
-    → IsReached state.world
-lead_reached script nothing = opened_reached script.shape
-lead_reached script (next {commands} {state} command grants leads) =
-    let more = (done_extends script.objects grants state command).world in
-    subst IsReached more.run (run_reached state.world more.steps (lead_reached script leads))
 
 pub lead_shape : (script : Script) {commands : List Command} {state : State} → LeadTo script commands state
     → state.world.shape ≡ script.shape

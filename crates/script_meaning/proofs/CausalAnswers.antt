@@ -17,6 +17,7 @@ use Rattle.col_core.proofs.CallerLemmas.{by_test, choice, if_true, if_false, In,
 use Rattle.object_fold.specs.Causal.{ChainNode, FollowsAtOnce, Follows, IsLatestWrite, IsCausalAnswer, written_value}
 use Rattle.object_fold.specs.Causal.Follows.{at_once, through}
 use Rattle.script_meaning.specs.CausalGets.{follows_at_once, follows, writes, is_latest_write, put_in_order, in_order, causal_values}
+use Rattle.log_node.proofs.CallerLemmas.{same_tests as same_test}
 
 -- Following
 
@@ -370,12 +371,6 @@ latest_moved ms ns key to back node l = record {
   writes = l.writes;
   latest = λ later inside wrote f. l.latest later (back later inside) wrote (moved ns ms back f);
 }
-
--- two tests with the same meaning
-same_test : (a b : Bool) → (a ≡ true → b ≡ true) → (b ≡ true → a ≡ true) → a ≡ b
-same_test true b to back = sym (to refl)
-same_test false true to back = back refl
-same_test false false to back = refl
 
 -- the nodes determine the answer
 pub one_answer : (ms ns : List ChainNode) (key : List ℕ) (xs ys : List (List ℕ)) → IsPermutation ms ns → IsCausalAnswer ms key xs

@@ -1,5 +1,5 @@
 -- The node at each place of a column's chains: it stands in its region's own line, and needs all that it wants.
-use Rattle.std.proofs.Common.{◌≡◌, ◌≢◌, ◌⊎◌, inl, inr, ℕ, zero, suc, ◌<◌, min, List, [], ◌∷◌, length, map, Some, true, false, refl, ap, sym, subst, ◌∙◌, arith, eq-eqb}
+use Rattle.std.proofs.Common.{◌≡◌, ◌≢◌, ◌⊎◌, inl, inr, ℕ, suc, ◌<◌, min, List, [], ◌∷◌, length, map, Some, true, false, refl, ap, sym, subst, ◌∙◌, arith, eq-eqb}
 use Rattle.std.specs.Prelude.{◌==◌, slice_get, Option, unwrap_or}
 use Rattle.std.specs.List.{range_with_len}
 use Rattle.std.proofs.lemmas.Bool.{true≢false, eqb-true}
@@ -35,18 +35,10 @@ use Rattle.script_meaning.proofs.ChainNodes.{line_event, own_chain, carried_of_r
 use Rattle.script_meaning.proofs.Lists.{in_range}
 use Rattle.script_meaning.proofs.Playing.{at_or, got_at}
 use Rattle.script_meaning.proofs.Reached.{held_of, told_of, listed_of, cuts_of}
+use Rattle.log_node.proofs.CallerLemmas.{get_map}
+use Rattle.col_core.proofs.CallerLemmas.{in_map as in_mapped}
 
 -- Lists
-
-get_map : {A B : Type 0} (f : A → B) (xs : List A) (i : ℕ) (x : A) → slice_get xs i ≡ Some x → slice_get (map f xs) i ≡ Some (f x)
-get_map f [] i x e = absurd (let g : ⊥ = cc in g)
-get_map f (y ∷ xs) zero x e = let same : y ≡ x = cc in ap (λ z. Some (f z)) same
-get_map f (y ∷ xs) (suc i) x e = get_map f xs i x e
-
-in_mapped : {A B : Type 0} (f : A → B) (xs : List A) (y : B) → In y (map f xs) → (x : A) × In x xs × (f x ≡ y)
-in_mapped f [] y i = absurd i
-in_mapped f (x ∷ xs) y (inl e) = (x, inl refl, e)
-in_mapped f (x ∷ xs) y (inr i) = let r = in_mapped f xs y i in (r.0, inr r.1, r.2)
 
 mapped_in : (ds : List Dated) (d : Dated) → In d ds → In d.entry (entries_of ds)
 mapped_in [] d i = absurd i

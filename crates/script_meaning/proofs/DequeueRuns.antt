@@ -18,7 +18,8 @@ use Rattle.script_text.specs.Fitting.{is_queue, HasObject}
 use Rattle.report_text.specs.declared.report.Answer.{Answer}
 use Rattle.report_text.specs.declared.report.Answer.TheVariants as answers
 use Rattle.lawful_run.specs.Callers.{Caller}
-use Rattle.lawful_run.specs.Asks.{colours_of, AsksToAppend, Dequeuing, manner_of, colours_synced}
+use Rattle.lawful_run.specs.Asks.{colours_of, Dequeuing}
+use Rattle.lawful_run.specs.Deeds.{AsksToAppend, manner_of, colours_synced}
 use Rattle.lawful_run.specs.Objects.{Takes}
 use Rattle.report_text.specs.declared.report.PointPiece.{PointPiece}
 use Rattle.object_fold.specs.Queues.{front_after}

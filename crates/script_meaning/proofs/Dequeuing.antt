@@ -1,5 +1,5 @@
 -- A dequeue: after its append, a sync and what the queue answers, or that it may not be read.
-use Rattle.std.proofs.Common.{◌≡◌, ◌≢◌, inl, inr, ℕ, zero, suc, ◌+◌, ◌<◌, ◌≤◌, max, true, false, List, [], ◌∷◌, ◌++◌, length, map, take, None, Some, Option, refl, ap, sym, subst, ◌∙◌, arith, append-nil}
+use Rattle.std.proofs.Common.{◌≡◌, ◌≢◌, inr, ℕ, ◌+◌, ◌<◌, ◌≤◌, max, true, false, List, [], ◌∷◌, ◌++◌, length, map, take, None, Some, Option, refl, ap, sym, subst, ◌∙◌, arith, append-nil}
 use Rattle.std.specs.Prelude.{IsTrue, ◌==◌, unwrap_or, slice_index, if◌then◌else◌}
 use Rattle.std.specs.List.{Contains}
 use mathlib.Core.Path.{fun_ext}
@@ -31,7 +31,8 @@ use Rattle.report_text.specs.declared.report.Answer.{Answer}
 use Rattle.report_text.specs.declared.report.Answer.TheVariants as answers
 use Rattle.report_text.specs.declared.report.PointPiece.{PointPiece}
 use Rattle.lawful_run.specs.Callers.{Caller, node_of}
-use Rattle.lawful_run.specs.Asks.{Manner, Stopping, Dequeuing, manner_of, may_help, colours_synced}
+use Rattle.lawful_run.specs.Asks.{Manner, Stopping, Dequeuing, may_help}
+use Rattle.lawful_run.specs.Deeds.{manner_of, colours_synced}
 use Rattle.lawful_run.specs.Appends.{Appends, AppendsOne, AppendsUnshown, one_unshown, HasNoStamp}
 use Rattle.lawful_run.specs.Objects.{IsObjectNode, AreObjectNodes, Takes}
 use Rattle.lawful_run.specs.Reads.{Syncs, IsTrimmed, kept_after_piece, played_stamp, HidesSyncs, not_played, played}
@@ -50,14 +51,9 @@ use Rattle.script_meaning.proofs.Reached.{held_of, listed_of, cuts_of}
 use Rattle.script_meaning.proofs.StaysComplete.{of_done_stays}
 use Rattle.script_meaning.proofs.Sync as sync
 use Rattle.playback.proofs.CallerLemmas.{order_is_played}
+use Rattle.col_core.proofs.CallerLemmas.{in_take as in_first}
 
 -- Nodes of a line as objects read them
-
-in_first : {A : Type 0} (n : ℕ) (xs : List A) (x : A) → In x (take n xs) → In x xs
-in_first zero xs x i = absurd i
-in_first (suc n) [] x i = absurd i
-in_first (suc n) (y ∷ xs) x (inl e) = inl e
-in_first (suc n) (y ∷ xs) x (inr i) = inr (in_first n xs x i)
 
 module _ (w : World) (reached : IsReached w) where
   is_object : (key : Key) (node : Node) → node_with w key.id ≡ Some node → IsObjectNode (log_of w) key (object_at w key)

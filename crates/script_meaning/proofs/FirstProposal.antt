@@ -1,8 +1,7 @@
 -- The first event that a begun append adds to a column is its proposal.
-use Rattle.std.proofs.Common.{◌≡◌, inl, inr, ℕ, ◌+◌, ◌<◌, List, [], ◌∷◌, ◌++◌, length, Some, Bool, true, refl, ap, sym, subst, ◌∙◌, arith, append-nil}
+use Rattle.std.proofs.Common.{◌≡◌, inl, ℕ, ◌+◌, ◌<◌, List, [], ◌∷◌, ◌++◌, length, Some, true, refl, ap, sym, subst, ◌∙◌, arith, append-nil}
 use Rattle.std.specs.Prelude.{slice_get, reverse}
-use Rattle.std.specs.List.{list_any}
-use Rattle.std.proofs.lemmas.Bool.{ltb-true, or_left, or_right}
+use Rattle.std.proofs.lemmas.Bool.{ltb-true}
 use Rattle.log_node.specs.declared.ids.Id.{Id}
 use Rattle.log_node.specs.declared.ids.Row.{Row}
 use Rattle.log_node.specs.declared.ids.Colours.{Colours}
@@ -27,11 +26,7 @@ use Rattle.script_meaning.proofs.Completions.{IsOn}
 use Rattle.script_meaning.proofs.Additions.{StepIn, OnRow}
 use Rattle.script_meaning.proofs.Reached.{held_of, told_of}
 use Rattle.script_meaning.proofs.BeginRow as begun
-
-pub in_any : {A : Type 0} (test : A → Bool) (xs : List A) (x : A) → In x xs → test x ≡ true → list_any test xs ≡ true
-in_any test [] x i t = absurd i
-in_any test (y ∷ xs) x (inl e) t = or_left (test y) _ (ap test e ∙ t)
-in_any test (y ∷ xs) x (inr i) t = or_right (test y) _ (in_any test xs x i t)
+pub use Rattle.col_core.proofs.CallerLemmas.{any_in as in_any}
 
 -- the append's proposal, where its column had so many events
 pub record ProposesFirst (w w3 : World) (u : ℕ) (node : Node) (row : Row) (c : ℕ) : Type 0 where

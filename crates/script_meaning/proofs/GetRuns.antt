@@ -30,7 +30,8 @@ use Rattle.report_text.specs.declared.report.KeyAnswer.{KeyAnswer}
 use Rattle.report_text.specs.declared.report.RaisePiece.{RaisePiece}
 use Rattle.report_text.specs.declared.report.SyncPiece.{SyncPiece}
 use Rattle.lawful_run.specs.Callers.{Caller}
-use Rattle.lawful_run.specs.Asks.{Getting, object_colours, colours_of, manner_of, colours_synced, shards}
+use Rattle.lawful_run.specs.Asks.{Getting, object_colours, colours_of, shards}
+use Rattle.lawful_run.specs.Deeds.{manner_of, colours_synced}
 use Rattle.lawful_run.specs.Explains.{Explains}
 use Rattle.lawful_run.specs.Objects.{AreObjectNodes, own_played}
 use Rattle.lawful_run.specs.Reads.{Syncs, ReadsAt, kept_after_piece}
@@ -213,23 +214,25 @@ module _ (script : Script) (commands : List Command) (state : State) (command : 
               (keys_answer x u its_colours keys n raises syncs read) [] h.after) (sym ended.is) (
                 refl,
                 h.after,
-                subst (λ (l : List ℕ). ReadsAt log there kept l (read_stamp w u cs) raises syncs h.after)
-                    (sym (read_of x)) h.reads,
-                read,
-                ended.read,
-                nodes,
-                listed_objects x reached read ended.nodes,
-                inl (
-                  object,
-                  keys,
-                  asked,
-                  record {
-                    keys_are = answered_keys value_of keys;
-                    values_are = answered_values value_of keys
-                        ∙ map_same value_of (value_among its_colours nodes) keys (λ y i. value_of_key read ended.keys_are
-                        (λ c j. ended.clear c j) y i);
-                  },
-                  refl,
+                (
+                  subst (λ (l : List ℕ). ReadsAt log there kept l (read_stamp w u cs) raises syncs h.after)
+                      (sym (read_of x)) h.reads,
+                  read,
+                  ended.read,
+                  nodes,
+                  listed_objects x reached read ended.nodes,
+                  inl (
+                    object,
+                    keys,
+                    asked,
+                    record {
+                      keys_are = answered_keys value_of keys;
+                      values_are = answered_values value_of keys
+                          ∙ map_same value_of (value_among its_colours nodes) keys (λ y i. value_of_key read ended.keys_are
+                          (λ c j. ended.clear c j) y i);
+                    },
+                    refl,
+                  ),
                 ),
               );
         } where

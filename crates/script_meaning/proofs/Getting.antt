@@ -12,7 +12,8 @@ use Rattle.script_text.specs.declared.script.Object.{Object}
 use Rattle.script_text.specs.declared.script.What.{What}
 use Rattle.report_text.specs.declared.report.Answer.{Answer}
 use Rattle.report_text.specs.declared.report.Answer.TheVariants as answers
-use Rattle.lawful_run.specs.Asks.{Getting, manner_of, colours_synced}
+use Rattle.lawful_run.specs.Asks.{Getting}
+use Rattle.lawful_run.specs.Deeds.{manner_of, colours_synced}
 use Rattle.lawful_run.specs.Callers.{Caller}
 use Rattle.lawful_run.specs.Explains.{Explains}
 use Rattle.lawful_run.specs.Reads.{Syncs, HidesSyncs, kept_after_piece, not_played}

@@ -45,7 +45,8 @@ use Rattle.lawful_run.specs.Asks.{kind_of, colours_of, keys_of, put_form, shards
 use Rattle.script_meaning.specs.Objects.{caller_in, refusing_home, shard_set}
 use Rattle.script_meaning.specs.Dequeues.{object_at, first_nodes, sync_now, base_now, dequeued_at, dequeued_by}
 use Rattle.script_meaning.specs.Gets.{value_now, got, key_answers, keys_answer}
-use Rattle.script_meaning.specs.Transactions.{all_colours, found_by, ruled, verdict_in, ruled_by, read_behind, version_keys, committed_by}
+use Rattle.script_meaning.specs.Telling.{Tells, all_colours, appended_and_told, told_by, told_behind}
+use Rattle.script_meaning.specs.Transactions.{found_by, verdict_tells, version_keys, committed_by}
 use Rattle.script_meaning.specs.CausalGets.{causal_values, nodes_up_to_cut}
 use Rattle.script_meaning.specs.Meaning.{done_one, done_from, done, TellsNoWant}
 use Rattle.script_meaning.proofs.GrantedSteps.{IsClean, RunsTo, stays_there, runs_on, clean_from, complete_exact, taken_exact, clears_run, clears_exact}
@@ -211,43 +212,48 @@ module _ (objects : List Object) (grants : Grants) (state : State) (command : Co
       (λ v stamp raises syncs keys. answered state command v (answer v stamp raises syncs keys) (shown v keys))
       (λ v stamp raises syncs keys. answer_extends state command v (answer v stamp raises syncs keys) (shown v keys))
 
-  -- a commit behind its append
-  ruled_world : (g : Grants) (own : Key) (row : Option ℕ) (points : List PointPiece) (v : World)
-      (ends : ReadEnd) → (ruled_by g state command own row points v ends).world ≡ v
-  ruled_world g own row points v (Whole at raises syncs keys) =
+  -- what a command is told behind its append
+  told_world : (tells : Tells) (g : Grants) (own : Key) (row : Option ℕ) (points : List PointPiece) (v : World)
+      (ends : ReadEnd) → (told_by tells g state command own row points v ends).world ≡ v
+  told_world tells g own row points v (Whole at raises syncs keys) =
       choice (λ (s : State). s.world ≡ v) g.items
-      (answered state command v (ruled (verdict_in v keys own) row points at raises syncs) [])
+      (answered state command v (tells v keys own row points at raises syncs) [])
       (answered state command v (answers.UnreadNoMemory own.stamp) []) (λ _. refl) (λ _. refl)
-  ruled_world g own row points v (Refused colour base) = refl
-  ruled_world g own row points v Unraised = refl
+  told_world tells g own row points v (Refused colour base) = refl
+  told_world tells g own row points v Unraised = refl
 
-  ruled_extends : (own : Key) (row : Option ℕ) (points : List PointPiece) (v : World)
-      (ends : ReadEnd) → RunsTo w v → Extends state (ruled_by grants state command own row points v ends)
-  ruled_extends own row points v (Whole at raises syncs keys) r =
-      let answer = ruled (verdict_in v keys own) row points at raises syncs in
+  told_extends : (tells : Tells) (own : Key) (row : Option ℕ) (points : List PointPiece) (v : World)
+      (ends : ReadEnd) → RunsTo w v → Extends state (told_by tells grants state command own row points v ends)
+  told_extends tells own row points v (Whole at raises syncs keys) r =
+      let answer = tells v keys own row points at raises syncs in
       choice (Extends state) grants.items (answered state command v answer [])
       (answered state command v (answers.UnreadNoMemory own.stamp) [])
       (λ _. answer_extends state command v answer [] r)
       (λ _. answer_extends state command v (answers.UnreadNoMemory own.stamp) [] r)
-  ruled_extends own row points v (Refused colour base) r =
+  told_extends tells own row points v (Refused colour base) r =
       answer_extends state command v (answers.UnreadTrimmed own.stamp colour base) [] r
-  ruled_extends own row points v Unraised r =
+  told_extends tells own row points v Unraised r =
       answer_extends state command v (answers.UnreadNoMemory own.stamp) [] r
 
   -- the grants of a read behind an append
   abbrev behind : Grants → Grants
   behind g = record g { helps = g.read_helps }
 
+  telling_extends : (tells : Tells) (object : ℕ) (set : Colours) (text : List ℕ)
+      → Extends state (appended_and_told tells objects grants state command object set text)
+  telling_extends tells object set text =
+      append_so_extends (told_behind tells objects grants state command object)
+      (λ v stamp row points r. let read = stamped_read (behind grants) v u (all_colours objects state command object) in
+      told_extends tells (entry_key stamp (next_id w u)) row points read.world read.ends
+      (runs_on w v read.world r (read_runs (behind grants) v u (all_colours objects state command object))))
+      set text (members set)
+
   commit_extends : (object : ℕ) (pairs : List Pair) (found : Option (List Version))
       → Extends state (committed_by objects grants state command object pairs found)
   commit_extends object pairs None = answer_extends state command w answers.NoTx [] (stays_there w)
   commit_extends object pairs (Some versions) =
-      let set = shard_set (colours_of caller object) (version_keys versions ++ keys_of pairs) in
-      append_so_extends (read_behind objects grants state command object)
-      (λ v stamp row points r. let read = stamped_read (behind grants) v u (all_colours objects state command object) in
-      ruled_extends (entry_key stamp (next_id w u)) row points read.world read.ends
-      (runs_on w v read.world r (read_runs (behind grants) v u (all_colours objects state command object))))
-      set (form_text (forms.Transaction versions pairs)) (members set)
+      telling_extends verdict_tells object (shard_set (colours_of caller object) (version_keys versions ++ keys_of pairs))
+      (form_text (forms.Transaction versions pairs))
 
   nothing_done : Extends state state
   nothing_done = record { world = stays_there w; replies = λ n r i. i }
@@ -306,13 +312,11 @@ module _ (objects : List Object) (grants : Grants) (state : State) (command : Co
       (λ _. answer_extends state command w base [] (stays_there w))
 
   got_extends : (kind : Option Kind) (key : List ℕ) → Extends state (got grants state command kind key)
-  got_extends None key = nothing_done
   got_extends (Some (kinds.Map home colours)) key =
       let c = shard_of colours key in get_extends c (answers.Got (value_now w u colours c key) (sync_now w u c))
-  got_extends (Some (kinds.Tx home colours)) key = nothing_done
   got_extends (Some (kinds.Causal colour)) key =
       get_extends colour (answers.GotMany (causal_values (nodes_up_to_cut w u colour) key) (sync_now w u colour))
-  got_extends (Some (kinds.Queue home colour)) key = nothing_done
+  got_extends _ key = nothing_done
 
   one_command_extends : (what : What) → Extends state (done_one objects grants state command what)
   one_command_extends (whats.Append colours text) = append_extends colours text (members colours)
@@ -601,22 +605,51 @@ module _ (objects : List Object) (grants : Grants) (state : State) (command : Co
       (λ v stamp raises syncs keys. answered state command v (answer v stamp raises syncs keys) (shown v keys))
       (λ v stamp raises syncs keys. refl) colours
 
-  -- the read behind a commit's append
-  ruled_exact : (own : Key) (row : Option ℕ) (points : List PointPiece) (v : World)
-      (ends : ReadEnd) → TellsNone (ruled_by grants state command own row points v ends)
-      → IsRaised ends × (ruled_by grants state command own row points v ends
-      ≡ ruled_by all_granted state command own row points v ends)
-  ruled_exact own row points v (Whole at raises syncs keys) tells =
-      let told : State = answered state command v (ruled (verdict_in v keys own) row points at raises syncs) [] in
+  -- the read behind such a command's append
+  told_exact : (tells : Tells) (own : Key) (row : Option ℕ) (points : List PointPiece) (v : World)
+      (ends : ReadEnd) → TellsNone (told_by tells grants state command own row points v ends)
+      → IsRaised ends × (told_by tells grants state command own row points v ends
+      ≡ told_by tells all_granted state command own row points v ends)
+  told_exact tells own row points v (Whole at raises syncs keys) none =
+      let told : State = answered state command v (tells v keys own row points at raises syncs) [] in
       let unread : State = answered state command v (answers.UnreadNoMemory own.stamp) [] in
       let t : all_granted.items ≡ true = refl in (
         tt,
         by_test _ grants.items
             (λ is. if_true grants.items told unread is ∙ sym (if_true all_granted.items told unread t))
-            (λ f. absurd (told_unread v own.stamp (subst TellsNone (if_false grants.items told unread f) tells))),
+            (λ f. absurd (told_unread v own.stamp (subst TellsNone (if_false grants.items told unread f) none))),
       )
-  ruled_exact own row points v (Refused colour base) tells = (tt, refl)
-  ruled_exact own row points v Unraised tells = absurd (told_unread v own.stamp tells)
+  told_exact tells own row points v (Refused colour base) none = (tt, refl)
+  told_exact tells own row points v Unraised none = absurd (told_unread v own.stamp none)
+
+  telling_exact : (tells : Tells) (object : ℕ) (set : Colours) (text : List ℕ)
+      → IsClean (appended_and_told tells objects grants state command object set text).world
+      → TellsNone (appended_and_told tells objects grants state command object set text)
+      → appended_and_told tells objects grants state command object set text
+      ≡ appended_and_told tells objects all_granted state command object set text
+  telling_exact tells object set text =
+      append_so_exact (told_behind tells objects grants state command object)
+      (told_behind tells objects all_granted state command object)
+      (λ v stamp row points. let read = stamped_read (behind grants) v u cs in
+      subst (RunsTo v) (sym (told_world tells grants (entry_key stamp (next_id w u)) row points read.world read.ends))
+      (read_runs (behind grants) v u cs)) same set text (members set)
+    where
+      cs : List ℕ
+      cs = all_colours objects state command object
+
+      same : (v : World) (stamp : ℕ) (row : Option ℕ) (points : List PointPiece)
+          → IsClean (told_behind tells objects grants state command object v stamp row points).world
+          → TellsNone (told_behind tells objects grants state command object v stamp row points)
+          → told_behind tells objects grants state command object v stamp row points
+          ≡ told_behind tells objects all_granted state command object v stamp row points
+      same v stamp row points clean none =
+          let own = entry_key stamp (next_id w u) in
+          let read = stamped_read (behind grants) v u cs in
+          let ended = told_exact tells own row points read.world read.ends none in
+          ended.1
+          ∙ ap (λ (r : StampedRead). told_by tells all_granted state command own row points r.world r.ends)
+          (read_exact (behind grants) v u cs
+          (subst IsClean (told_world tells grants own row points read.world read.ends) clean) ended.0)
 
   commit_exact : (object : ℕ) (pairs : List Pair) (found : Option (List Version))
       → IsClean (committed_by objects grants state command object pairs found).world
@@ -625,38 +658,14 @@ module _ (objects : List Object) (grants : Grants) (state : State) (command : Co
       ≡ committed_by objects all_granted state command object pairs found
   commit_exact object pairs None clean tells = refl
   commit_exact object pairs (Some versions) clean tells =
-      let set = shard_set (colours_of caller object) (version_keys versions ++ keys_of pairs) in
-      append_so_exact (read_behind objects grants state command object)
-      (read_behind objects all_granted state command object)
-      (λ v stamp row points. let read = stamped_read (behind grants) v u cs in
-      subst (RunsTo v) (sym (ruled_world grants (entry_key stamp (next_id w u)) row points read.world read.ends))
-      (read_runs (behind grants) v u cs)) same set (form_text (forms.Transaction versions pairs)) (members set) clean tells
-    where
-      cs : List ℕ
-      cs = all_colours objects state command object
-
-      same : (v : World) (stamp : ℕ) (row : Option ℕ) (points : List PointPiece)
-          → IsClean (read_behind objects grants state command object v stamp row points).world
-          → TellsNone (read_behind objects grants state command object v stamp row points)
-          → read_behind objects grants state command object v stamp row points
-          ≡ read_behind objects all_granted state command object v stamp row points
-      same v stamp row points clean tells =
-          let own = entry_key stamp (next_id w u) in
-          let read = stamped_read (behind grants) v u (all_colours objects state command object) in
-          let ended = ruled_exact own row points read.world read.ends tells in
-          ended.1
-          ∙ ap (λ (r : StampedRead). ruled_by all_granted state command own row points r.world r.ends)
-          (read_exact (behind grants) v u (all_colours objects state command object)
-          (subst IsClean (ruled_world grants own row points read.world read.ends) clean) ended.0)
+      telling_exact verdict_tells object (shard_set (colours_of caller object) (version_keys versions ++ keys_of pairs))
+      (form_text (forms.Transaction versions pairs)) clean tells
 
   got_exact : (kind : Option Kind) (key : List ℕ) → IsClean (got grants state command kind key).world
       → TellsNone (got grants state command kind key)
       → got grants state command kind key ≡ got all_granted state command kind key
-  got_exact None key clean tells = refl
   got_exact (Some (kinds.Map home colours)) key clean tells = refl
-  got_exact (Some (kinds.Tx home colours)) key clean tells = refl
-  got_exact (Some (kinds.Causal colour)) key clean tells = refl
-  got_exact (Some (kinds.Queue home colour)) key clean tells = refl
+  got_exact _ key clean tells = refl
 
   one_command_exact : (what : What) → IsClean (done_one objects grants state command what).world
       → TellsNone (done_one objects grants state command what)

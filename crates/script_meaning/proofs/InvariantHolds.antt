@@ -27,7 +27,8 @@ use Rattle.script_text.specs.Fitting.{IsFitting, HasColours, IsWithin, is_queue,
 use Rattle.report_text.specs.declared.report.Answer.{Answer}
 use Rattle.report_text.specs.declared.report.Answer.TheVariants as answers
 use Rattle.lawful_run.specs.Callers.{Caller, caller_of}
-use Rattle.lawful_run.specs.Asks.{kind_of, colours_of, home_asked, shards, keys_of, put_form, AsksToAppend, Appending, manner_of}
+use Rattle.lawful_run.specs.Asks.{kind_of, colours_of, home_asked, shards, keys_of, put_form, Appending}
+use Rattle.lawful_run.specs.Deeds.{AsksToAppend, manner_of}
 use Rattle.lawful_run.specs.Refusals.{IsAway}
 use Rattle.lawful_run.proofs.CallerLemmas.{get_within, get-append}
 use Rattle.script_meaning.specs.States.{State, Grants, kind_in, StopsAreLast, answered}
@@ -195,11 +196,10 @@ module _ (back : ReadsBack) (script : Script) (commands : List Command) (state :
       → is_any_map kind ≡ true → Runs script commands' (got grants state command (Some kind) key)
   runs_get object key asked has (kinds.Map home colours) is map =
       gets.runs_get_value script commands state command grants runs fit object home colours key asked is has
-  runs_get object key asked has (kinds.Tx home colours) is map = absurd (let f : ⊥ = cc in f)
   runs_get object key asked has (kinds.Causal colour) is map =
       causal.runs_got_values script commands state command grants runs fit object colour key asked is
       (causal_colour script.objects script.shape.regions script.shape.colours fit.kinds object has colour is)
-  runs_get object key asked has (kinds.Queue home colour) is map = absurd (let f : ⊥ = cc in f)
+  runs_get object key asked has _ is map = absurd (let f : ⊥ = cc in f)
 
   runs_what : (what : What) → command.what ≡ what
       → IsWithin script.shape.regions script.shape.colours what → UsesObject script.objects what
@@ -253,27 +253,14 @@ module _ (back : ReadsBack) (script : Script) (commands : List Command) (state :
       (λ is w' kept. subst (λ (what : What). AsksToAppend (caller_in w' script.objects u) kept what
       (set_of (colours_of caller object)) (form_text (forms.Enqueue value))) (sym asked) (is, refl))
   runs_what (whats.Deq object) asked within uses =
-      dequeues.runs_dequeue script commands state command grants runs fit object asked uses
+      dequeues.runs_dequeue script commands state command grants runs fit object asked uses.0
 
 -- whether a command is a read of an object
 read_or_not : (what : What)
     → ((object : ℕ) × (keys : List (List ℕ)) × (what ≡ whats.Read object keys))
     ⊎ ((object : ℕ) (keys : List (List ℕ)) → what ≡ whats.Read object keys → ⊥)
-read_or_not (whats.Append colours text) = inr (λ o k e. let f : ⊥ = cc in f)
-read_or_not (whats.Stop steps colours text) = inr (λ o k e. let f : ⊥ = cc in f)
-read_or_not (whats.Sync colour) = inr (λ o k e. let f : ⊥ = cc in f)
-read_or_not (whats.Scan colours) = inr (λ o k e. let f : ⊥ = cc in f)
-read_or_not (whats.Pull region colour) = inr (λ o k e. let f : ⊥ = cc in f)
-read_or_not (whats.Trim colour) = inr (λ o k e. let f : ⊥ = cc in f)
-read_or_not (whats.Put object key value) = inr (λ o k e. let f : ⊥ = cc in f)
-read_or_not (whats.Get object key) = inr (λ o k e. let f : ⊥ = cc in f)
-read_or_not (whats.Del object key) = inr (λ o k e. let f : ⊥ = cc in f)
-read_or_not (whats.PutAll object pairs) = inr (λ o k e. let f : ⊥ = cc in f)
-read_or_not (whats.GetAll object keys) = inr (λ o k e. let f : ⊥ = cc in f)
 read_or_not (whats.Read object keys) = inl (object, keys, refl)
-read_or_not (whats.Commit object pairs) = inr (λ o k e. let f : ⊥ = cc in f)
-read_or_not (whats.Enq object value) = inr (λ o k e. let f : ⊥ = cc in f)
-read_or_not (whats.Deq object) = inr (λ o k e. let f : ⊥ = cc in f)
+read_or_not _ = inr (λ o k e. let f : ⊥ = cc in f)
 
 module _ (script : Script) (commands : List Command) (command : Command)
     (fit : IsFitWhere script commands command ⊥ (Unit {0}))

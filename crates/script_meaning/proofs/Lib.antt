@@ -48,7 +48,7 @@ mod FitCommands
 mod AppendCases
 mod AppendsBehind
 mod TransactionVerdicts
-mod Committing
+mod Telling
 mod VersionsFit
 mod DequeueRuns
 mod AfterRead
@@ -57,6 +57,7 @@ mod Getting
 mod ShardReads
 mod GetRuns
 mod TransactionReads
+mod TellingRuns
 mod CommitRuns
 mod InvariantHolds
 mod RowsOfClients

@@ -1,30 +1,14 @@
 -- Ranges, items that pass a test, and one item more at the end of a list.
-use Rattle.std.proofs.Common.{◌≡◌, ◌≢◌, ℕ, zero, suc, ◌+◌, ◌<◌, ◌≤◌, List, [], ◌∷◌, ◌++◌, length, Bool, true, cond, refl, ap, sym, ◌∙◌, inl, inr, ◌⊎◌, arith, eq-eqb, ne_eqb, append-nil}
+use Rattle.std.proofs.Common.{◌≡◌, ◌≢◌, ℕ, ◌<◌, List, [], ◌∷◌, ◌++◌, length, Bool, true, cond, refl, ap, sym, ◌∙◌, inl, inr, arith, eq-eqb, ne_eqb, append-nil}
 use Rattle.std.specs.Prelude.{◌==◌, map}
-use Rattle.std.specs.List.{filter, list_all, range_with_len}
-use Rattle.std.proofs.lemmas.Bool.{and_from, cases_lt}
+use Rattle.std.specs.List.{filter, list_all}
+use Rattle.std.proofs.lemmas.Bool.{and_from}
 use Rattle.std.proofs.lemmas.List.Elements.{filter-append}
 use Rattle.col_core.proofs.CallerLemmas.{both, In}
 use Rattle.script_text.specs.declared.script.Command.{Command}
-
-pub in_range : (a k n : ℕ) → In n (range_with_len a k) → (a ≤ n) × (n < a + k)
-in_range a zero n i = absurd i
-in_range a (suc k) n (inl e) = (omega (arith, e), omega (arith, e))
-in_range a (suc k) n (inr i) =
-    let r = in_range (a + 1) k n i in let x = r.0 in let y = r.1 in (omega (arith, x), omega (arith, y))
-
-pub range_in : (a k n : ℕ) → a ≤ n → n < a + k → In n (range_with_len a k)
-range_in a zero n le lt = absurd (let f : ⊥ = omega (arith, le, lt) in f)
-range_in a (suc k) n le lt =
-    turn (cases_lt a n) (λ less. range_in (a + 1) k n (omega (arith, less)) (omega (arith, lt))) where
-      turn : (a < n) ⊎ (n ≤ a) → (a < n → In n (range_with_len (a + 1) k)) → (a ≡ n) ⊎ In n (range_with_len (a + 1) k)
-      turn (inl less) rest = inr (rest less)
-      turn (inr more) rest = inl (omega (arith, le, more))
-
-pub in_map_back : {A B : Type 0} (f : A → B) (xs : List A) (x : A) → In x xs → In (f x) (map f xs)
-in_map_back f [] x i = absurd i
-in_map_back f (y ∷ xs) x (inl e) = inl (ap f e)
-in_map_back f (y ∷ xs) x (inr i) = inr (in_map_back f xs x i)
+pub use Rattle.col_core.proofs.CallerLemmas.{range_has as range_in}
+pub use Rattle.col_core.proofs.CallerLemmas.{in_range}
+pub use Rattle.col_core.proofs.CallerLemmas.{in_map-back as in_map_back}
 
 pub some_in : (xs : List ℕ) → 1 < length xs → (x : ℕ) × In x xs
 some_in [] lt = absurd (let f : ⊥ = omega (arith, lt) in f)

@@ -14,9 +14,11 @@ use Rattle.script_text.specs.declared.script.What.TheVariants as whats
 use Rattle.report_text.specs.declared.report.Answer.{Answer}
 use Rattle.report_text.specs.declared.report.Answer.TheVariants as answers
 use Rattle.lawful_run.specs.Callers.{Caller, node_of}
-use Rattle.lawful_run.specs.Asks.{AsksToAppend, Manner, Appending, Stopping, manner_of, may_help}
+use Rattle.lawful_run.specs.Asks.{Manner, Appending, Stopping, may_help}
+use Rattle.lawful_run.specs.Deeds.{AsksToAppend, manner_of}
 use Rattle.lawful_run.specs.Appends.{IsGoneForMemory}
-use Rattle.lawful_run.specs.Explains.{Explains, AppendsBy, IsNoStopAtOnce}
+use Rattle.lawful_run.specs.Explains.{Explains, IsNoStopAtOnce}
+use Rattle.lawful_run.specs.Shapes.{AppendsBy}
 use Rattle.lawful_run.specs.Refusals.{FindsNoMemory, nothing, gone, gave, hidden}
 use Rattle.script_meaning.proofs.Additions.{adds_map}
 use Rattle.script_meaning.proofs.Kept.{caller_in, MadeBy, Does}
@@ -77,12 +79,12 @@ module _ (objects : List Object) (u : ℕ) (what : What) (colours : Colours) (te
   explains_as log w kept (answers.Got value sync) nodes after e = let x = e.3 in absurd (let f : ⊥ = cc in f)
   explains_as log w kept (answers.GotMany values sync) nodes after e =
       let x = e.3 in absurd (let f : ⊥ = cc in f)
-  explains_as log w kept (answers.GotKeys stamp shown raises syncs) nodes after e = absurd (elim e.7 [
+  explains_as log w kept (answers.GotKeys stamp shown raises syncs) nodes after e = let t = e.2 in absurd (elim t.5 [
     | inl g ↦ let x = g.2 in let f : ⊥ = cc in f
     | inr g ↦ let x = g.2 in let f : ⊥ = cc in f
   ])
   explains_as log w kept (answers.Ruled conflict stamp row points read_stamp raises syncs) nodes after e =
-      let x = e.1 in absurd (let f : ⊥ = cc in f)
+      let x = e.1.0 in absurd (let f : ⊥ = cc in f)
   explains_as log w kept answers.NoTx nodes after e = let x = e.4 in absurd (let f : ⊥ = cc in f)
   explains_as log w kept (answers.Took value point sync) nodes after e =
       let x = e.1 in absurd (let f : ⊥ = cc in f)

@@ -38,17 +38,14 @@ one_colour count c lt = record { some = omega arith; below = one } where
 
 kind_colours : (regions count : ℕ) (kind : Kind) → IsKindWithin regions count kind
     → AreObjectColours count (object_colours (Some kind))
-kind_colours regions count (kinds.Map home colours) w = w.1
-kind_colours regions count (kinds.Tx home colours) w = w.1
 kind_colours regions count (kinds.Causal colour) w = one_colour count colour w
 kind_colours regions count (kinds.Queue home colour) w = one_colour count colour w.1
+kind_colours regions count _ w = w.1
 
 queue_set : (regions count : ℕ) → count ≤ MAX_COLOURS → (kind : Kind) → IsKindWithin regions count kind → is_queue kind ≡ true
     → members (set_of (object_colours (Some kind))) ≡ object_colours (Some kind)
-queue_set regions count few (kinds.Map home colours) w q = absurd (let f : ⊥ = cc in f)
-queue_set regions count few (kinds.Tx home colours) w q = absurd (let f : ⊥ = cc in f)
-queue_set regions count few (kinds.Causal colour) w q = absurd (let f : ⊥ = cc in f)
 queue_set regions count few (kinds.Queue home colour) w q = members-one colour (let lt = w.1 in omega (arith, lt, few))
+queue_set regions count few _ w q = absurd (let f : ⊥ = cc in f)
 
 module _ (objects : List Object) (regions count : ℕ)
     (all : All (λ (o : Object). IsKindWithin regions count o.kind) objects) (object : ℕ) (test : Kind → Bool)
@@ -74,10 +71,8 @@ module _ (objects : List Object) (regions count : ℕ)
 
 queue_of : (regions count : ℕ) (kind : Kind) → IsKindWithin regions count kind → is_queue kind ≡ true
     → (c : ℕ) × (object_colours (Some kind) ≡ c ∷ []) × (c < count)
-queue_of regions count (kinds.Map home colours) w q = absurd (let f : ⊥ = cc in f)
-queue_of regions count (kinds.Tx home colours) w q = absurd (let f : ⊥ = cc in f)
-queue_of regions count (kinds.Causal colour) w q = absurd (let f : ⊥ = cc in f)
 queue_of regions count (kinds.Queue home colour) w q = (colour, refl, w.1)
+queue_of regions count _ w q = absurd (let f : ⊥ = cc in f)
 
 -- the one colour of a queue
 pub queue_colour : (objects : List Object) (regions count : ℕ)
@@ -91,10 +86,8 @@ queue_colour objects regions count all object has =
 
 -- a transactional map has a home
 pub tx_home : (kind : Kind) → is_tx kind ≡ true → (home : ℕ) × (object_home (Some kind) ≡ Some home)
-tx_home (kinds.Map home colours) t = absurd (let f : ⊥ = cc in f)
 tx_home (kinds.Tx home colours) t = (home, refl)
-tx_home (kinds.Causal colour) t = absurd (let f : ⊥ = cc in f)
-tx_home (kinds.Queue home colour) t = absurd (let f : ⊥ = cc in f)
+tx_home _ t = absurd (let f : ⊥ = cc in f)
 
 none_some : {A : Type 0} (x : A) → Some x ≡ None → ⊥
 none_some x e = let f : ⊥ = cc in f

@@ -1,9 +1,8 @@
 -- The nodes of a play order: each stands in its chain, and their greatest stamp is that of the nodes between.
-use Rattle.std.proofs.Common.{◌≡◌, ℕ, zero, suc, ◌+◌, ◌<◌, ◌≤◌, List, [], ◌∷◌, length, map, take, drop, Some, Bool, true, false, cond, refl, subst, ap, sym, ◌∙◌, inl, inr, arith}
+use Rattle.std.proofs.Common.{◌≡◌, ℕ, zero, suc, ◌+◌, ◌<◌, ◌≤◌, List, [], ◌∷◌, map, take, drop, Some, Bool, true, cond, refl, subst, ap, sym, ◌∙◌, inl, inr, arith}
 use Rattle.std.specs.Prelude.{nat_lt, nat_le, slice_get, slice_index_or}
 use Rattle.std.specs.List.{AllZip, count_by, flat_map}
 use Rattle.std.proofs.lemmas.Bool.{ltb-true, leb-true, lt-ltb, le-leb, and_from}
-use Rattle.std.proofs.lemmas.List.Sums.{sum_by-cons}
 use Rattle.std.proofs.lemmas.Simd.{map-map}
 use Rattle.log_node.specs.declared.ids.Counts.{Counts}
 use Rattle.log_node.specs.declared.node.Head.{Head}
@@ -13,15 +12,15 @@ use Rattle.log_node.specs.Outcomes.{greatest}
 use Rattle.log_node.specs.Reach.{Chains, Reachable}
 use Rattle.col_core.specs.PlayOrder.{Place, same_place, is_between, Stands, IsPlayOrder, nodes_between, greatest_between}
 use Rattle.col_core.proofs.CallerLemmas.{by_test, both, reached_within, In, same_place-is, same_place-itself}
-use Rattle.world_laws.proofs.CallerLemmas.{in_left, in_right, in_flat_map}
+use Rattle.world_laws.proofs.CallerLemmas.{in_flat_map}
 use Rattle.lawful_run.specs.Reads.{greatest_stamp}
 use Rattle.script_meaning.proofs.Lists.{in_map_back}
+use Rattle.log_node.proofs.CallerLemmas.{one_if}
+use Rattle.log_node.proofs.CallerLemmas.{count_by-cons as counted}
+pub use Rattle.log_node.proofs.CallerLemmas.{get_within as got_at}
+pub use Rattle.col_core.proofs.CallerLemmas.{in_flat_map-back}
 
 -- Lists
-
-counted : {A : Type 0} (test : A → Bool) (y : A) (ys : List A)
-    → count_by test (y ∷ ys) ≡ cond (test y) 1 0 + count_by test ys
-counted test y ys = sum_by-cons (λ x. cond (test x) 1 0) y ys
 
 -- what passes the test is counted
 in_counted : {A : Type 0} (test : A → Bool) (xs : List A) (x : A) → In x xs → test x ≡ true → 0 < count_by test xs
@@ -37,15 +36,6 @@ counted_in test (y ∷ ys) h =
     by_test _ (test y) (λ t. (y, inl refl, t))
     (λ f. let c = counted test y ys ∙ ap (λ (b : Bool). cond b 1 0 + count_by test ys) f in
     let r = counted_in test ys (omega (arith, c, h)) in (r.0, inr r.1, r.2))
-
-one_if : (b : Bool) → 0 < cond b 1 0 → b ≡ true
-one_if true h = refl
-one_if false h = absurd (let f : ⊥ = omega (arith, h) in f)
-
-pub got_at : {A : Type 0} (xs : List A) (j : ℕ) → j < length xs → (y : A) × (slice_get xs j ≡ Some y)
-got_at [] j less = absurd (let f : ⊥ = omega (arith, less) in f)
-got_at (y ∷ xs) zero less = (y, refl)
-got_at (y ∷ xs) (suc j) less = got_at xs j (omega (arith, less))
 
 pub at_or : {A : Type 0} (xs : List A) (i : ℕ) (x d : A) → slice_get xs i ≡ Some x → slice_index_or xs i d ≡ x
 at_or [] i x d e = absurd (let f : ⊥ = cc in f)
@@ -77,13 +67,6 @@ stretch_in (suc k) (suc m) (y ∷ xs) x j =
     let le = r.2 in
     let lt = r.3 in
     (suc r.0, r.1, omega (arith, le), omega (arith, lt))
-
-pub in_flat_map-back : {A B : Type 0} (f : A → List B) (xs : List A) (x : A) (y : B) → In x xs → In y (f x)
-    → In y (flat_map f xs)
-in_flat_map-back f [] x y i j = absurd i
-in_flat_map-back {A} {B} f (z ∷ xs) x y (inl e) j =
-    in_left y (f z) (flat_map f xs) (subst (λ (k : A). In y (f k)) (sym e) j)
-in_flat_map-back f (z ∷ xs) x y (inr i) j = in_right y (f z) (flat_map f xs) (in_flat_map-back f xs x y i j)
 
 -- a list beside what a function makes of it
 pub beside : {A B : Type 0} (R : A → B → Type 0) (f : A → B) (xs : List A) → ((x : A) → In x xs → R x (f x))

@@ -4,7 +4,7 @@ use Rattle.std.specs.Prelude.{◌≢◌, ◌==◌}
 use mathlib.Core.Path.{fun_ext}
 use Rattle.log_node.specs.declared.forms.Version.{Version}
 use Rattle.log_node.specs.Seen.{PlacedNode}
-use Rattle.col_core.specs.Keeping.{Kept, updated, with_read}
+use Rattle.col_core.specs.Keeping.{Kept, nothing_kept, updated, with_read}
 use Rattle.col_core.proofs.CallerLemmas.{if_true, if_false}
 use Rattle.world_laws.specs.declared.steps.Step.{Step}
 use Rattle.world_laws.specs.Worlds.{World, home_of, run_steps}
@@ -13,13 +13,17 @@ use Rattle.world_laws.proofs.CallerLemmas.{at_updated}
 use Rattle.script_text.specs.declared.script.What.{What}
 use Rattle.script_text.specs.declared.script.What.TheVariants as whats
 use Rattle.script_text.specs.declared.script.Object.{Object}
+use Rattle.script_text.specs.declared.uses.ReadUse.TheVariants.{Takes, UsesUp}
+use Rattle.script_text.specs.declared.uses.Use.{Use}
+use Rattle.script_text.specs.declared.uses.Use.TheVariants.{OfObject}
+use Rattle.script_text.specs.Uses.{use_of}
 use Rattle.report_text.specs.declared.report.Answer.{Answer}
 use Rattle.report_text.specs.declared.report.Answer.TheVariants as answers
 use Rattle.report_text.specs.declared.report.KeyAnswer.{KeyAnswer}
 use Rattle.report_text.specs.declared.report.RaisePiece.{RaisePiece}
 use Rattle.report_text.specs.declared.report.SyncPiece.{SyncPiece}
 use Rattle.lawful_run.specs.Explains.{Explains}
-use Rattle.lawful_run.specs.Refusals.{kept_before, kept_behind}
+use Rattle.lawful_run.specs.Refusals.{before_by, behind_by, kept_before, kept_behind}
 use Rattle.lawful_run.proofs.CallerLemmas.{before_is, behind_is, explained_keeps}
 use Rattle.script_meaning.specs.States.{Reads, reads_left}
 use Rattle.script_meaning.proofs.Additions.{Adds}
@@ -71,23 +75,12 @@ found_anew reads object found = fun_ext (λ n.
 -- a command that found nothing leaves the reads that are meant
 left_is : (what : What) (kept after : Kept) (reads : Reads) → kept.reads ≡ reads
     → after.reads ≡ (kept_before what kept).reads → (kept_behind what after).reads ≡ reads_left what reads
-left_is (whats.Append colours text) kept after reads same stays = stays ∙ same
-left_is (whats.Stop steps colours text) kept after reads same stays = stays ∙ same
-left_is (whats.Sync colour) kept after reads same stays = stays ∙ same
-left_is (whats.Scan colours) kept after reads same stays = stays ∙ same
-left_is (whats.Pull region colour) kept after reads same stays = stays ∙ same
-left_is (whats.Trim colour) kept after reads same stays = stays ∙ same
-left_is (whats.Put object key value) kept after reads same stays = stays ∙ same
-left_is (whats.Get object key) kept after reads same stays = stays ∙ same
-left_is (whats.Del object key) kept after reads same stays = stays ∙ same
-left_is (whats.PutAll object pairs) kept after reads same stays = stays ∙ same
-left_is (whats.GetAll object keys) kept after reads same stays = stays ∙ same
-left_is (whats.Read object keys) kept after reads same stays =
-    stays ∙ ap (λ (r : Reads). updated r object None) same
-left_is (whats.Commit object pairs) kept after reads same stays =
-    ap (λ (r : Reads). updated r object None) (stays ∙ same)
-left_is (whats.Enq object value) kept after reads same stays = stays ∙ same
-left_is (whats.Deq object) kept after reads same stays = stays ∙ same
+left_is what kept after reads same = by (use_of what) where
+  by : (u : Use) → after.reads ≡ (before_by u kept).reads
+      → (behind_by u after).reads ≡ (behind_by u (before_by u (record nothing_kept { reads = reads }))).reads
+  by (OfObject object Takes) stays = stays ∙ ap (λ (r : Reads). updated r object None) same
+  by (OfObject object UsesUp) stays = ap (λ (r : Reads). updated r object None) (stays ∙ same)
+  by _ stays = stays ∙ same
 
 without : (reads : Reads) (object other : ℕ) (versions : List Version)
     → updated reads object None other ≡ Some versions → reads other ≡ Some versions
@@ -98,21 +91,12 @@ without reads object other versions =
 -- no read comes by a command that found nothing
 pub left_before : (what : What) (reads : Reads) (other : ℕ) (versions : List Version)
     → reads_left what reads other ≡ Some versions → reads other ≡ Some versions
-left_before (whats.Append colours text) reads other versions e = e
-left_before (whats.Stop steps colours text) reads other versions e = e
-left_before (whats.Sync colour) reads other versions e = e
-left_before (whats.Scan colours) reads other versions e = e
-left_before (whats.Pull region colour) reads other versions e = e
-left_before (whats.Trim colour) reads other versions e = e
-left_before (whats.Put object key value) reads other versions e = e
-left_before (whats.Get object key) reads other versions e = e
-left_before (whats.Del object key) reads other versions e = e
-left_before (whats.PutAll object pairs) reads other versions e = e
-left_before (whats.GetAll object keys) reads other versions e = e
-left_before (whats.Read object keys) reads other versions e = without reads object other versions e
-left_before (whats.Commit object pairs) reads other versions e = without reads object other versions e
-left_before (whats.Enq object value) reads other versions e = e
-left_before (whats.Deq object) reads other versions e = e
+left_before what reads other versions = by (use_of what) where
+  by : (u : Use) → (behind_by u (before_by u (record nothing_kept { reads = reads }))).reads other ≡ Some versions
+      → reads other ≡ Some versions
+  by (OfObject object Takes) e = without reads object other versions e
+  by (OfObject object UsesUp) e = without reads object other versions e
+  by _ e = e
 
 -- What a command does
 

@@ -17,7 +17,7 @@ use Rattle.script_text.specs.declared.script.What.TheVariants as whats
 use Rattle.report_text.specs.declared.report.Answer.{Answer}
 use Rattle.report_text.specs.declared.report.Answer.TheVariants as answers
 use Rattle.lawful_run.specs.Callers.{Caller}
-use Rattle.lawful_run.specs.Asks.{AsksToAppend}
+use Rattle.lawful_run.specs.Deeds.{AsksToAppend}
 use Rattle.lawful_run.specs.Appends.{none_for_one}
 use Rattle.lawful_run.specs.Stops.{stopped_at_once}
 use Rattle.lawful_run.specs.Explains.{Explains, IsNoStopAtOnce}

@@ -17,6 +17,7 @@ use Rattle.script_text.proofs.CallerLemmas.{bits_few}
 use Rattle.lawful_run.specs.Asks.{colours_where, shards, rising}
 use Rattle.script_meaning.specs.Objects.{shard_set}
 use Rattle.script_meaning.proofs.Lists.{each_true, in_range, range_in}
+use Rattle.col_core.proofs.CallerLemmas.{any_in as any_back}
 
 -- Lists
 
@@ -41,14 +42,6 @@ in_any test (x ∷ xs) e = turn (or_cases (test x) (list_any test xs) e) (λ r. 
       → (list_any test xs ≡ true → (y : _) × In y xs × (test y ≡ true)) → (y : _) × In y (x ∷ xs) × (test y ≡ true)
   turn (inl t) rest = (x, inl refl, t)
   turn (inr t) rest = let r = rest t in (r.0, inr r.1, r.2)
-
-any_back : {A : Type 0} (test : A → Bool) (xs : List A) (x : A) → In x xs → test x ≡ true → list_any test xs ≡ true
-any_back test [] x i t = absurd i
-any_back test (y ∷ xs) x (inl e) t = ap (λ (b : Bool). b || list_any test xs) (ap test e ∙ t)
-any_back test (y ∷ xs) x (inr i) t = ap (λ (b : Bool). test y || b) (any_back test xs x i t) ∙ or_true (test y) where
-  or_true : (b : Bool) → (b || true) ≡ true
-  or_true true = refl
-  or_true false = refl
 
 -- Sets of listed colours
 

@@ -29,7 +29,8 @@ use Rattle.script_text.specs.declared.script.What.{What}
 use Rattle.script_text.specs.declared.script.Object.{Object}
 use Rattle.report_text.specs.declared.report.RaisePiece.{RaisePiece}
 use Rattle.report_text.specs.declared.report.SyncPiece.{SyncPiece}
-use Rattle.lawful_run.specs.Asks.{manner_of, may_help}
+use Rattle.lawful_run.specs.Asks.{may_help}
+use Rattle.lawful_run.specs.Deeds.{manner_of}
 use Rattle.lawful_run.specs.Callers.{Caller}
 use Rattle.lawful_run.specs.Reads.{IsTrimmed, IsReadStamp, events_until, ReadsAt, lines_read, AreRead, HidesRead, HidesSyncs, ClearSyncs, Raises, RefusesRead}
 use Rattle.lawful_run.proofs.CallerLemmas.{hides_none, hides_without, prefix_length, prefix_take, raises_later}

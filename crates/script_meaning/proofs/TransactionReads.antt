@@ -23,7 +23,8 @@ use Rattle.report_text.specs.declared.report.Answer.{Answer}
 use Rattle.report_text.specs.declared.report.Answer.TheVariants as answers
 use Rattle.report_text.specs.declared.report.RaisePiece.{RaisePiece}
 use Rattle.report_text.specs.declared.report.SyncPiece.{SyncPiece}
-use Rattle.lawful_run.specs.Asks.{colours_of, colours_synced, manner_of, may_help}
+use Rattle.lawful_run.specs.Asks.{colours_of, may_help}
+use Rattle.lawful_run.specs.Deeds.{colours_synced, manner_of}
 use Rattle.lawful_run.specs.Callers.{Caller}
 use Rattle.lawful_run.specs.Explains.{Explains}
 use Rattle.lawful_run.specs.Refusals.{kept_before, kept_behind}
@@ -33,7 +34,8 @@ use Rattle.script_meaning.specs.Stamped.{read_stamp, stamped_read}
 use Rattle.script_meaning.specs.Dequeues.{object_at}
 use Rattle.script_meaning.specs.Gets.{key_answers}
 use Rattle.script_meaning.specs.Objects.{caller_in}
-use Rattle.script_meaning.specs.Transactions.{all_colours, found_by, read_in}
+use Rattle.script_meaning.specs.Telling.{all_colours}
+use Rattle.script_meaning.specs.Transactions.{found_by, read_in}
 use Rattle.script_meaning.proofs.AfterRead.{EndsTold, did, read_reached, after_read_so}
 use Rattle.script_meaning.proofs.AfterScan.{filtered_distinct}
 use Rattle.script_meaning.proofs.Dequeuing.{listed_objects}

@@ -1,5 +1,5 @@
 -- Gets: what maps answer for keys, after a sync or a stamped read.
-use Rattle.std.specs.Prelude.{ℕ, List, [], map, Option, Some, None, if◌then◌else◌}
+use Rattle.std.specs.Prelude.{ℕ, List, [], map, Option, Some, if◌then◌else◌}
 use Rattle.log_node.specs.declared.ids.Key.{Key}
 use Rattle.log_node.specs.Vectors.{at}
 use Rattle.object_fold.specs.Nodes.{shard_of}
@@ -43,11 +43,9 @@ got_value state command colours key =
 
 -- a get, by the kind of its object
 abbrev pub got : Grants → State → Command → Option Kind → List ℕ → State
-got grants state command None key = state
 got grants state command (Some (kinds.Map home colours)) key = got_value state command colours key
-got grants state command (Some (kinds.Tx home colours)) key = state
 got grants state command (Some (kinds.Causal colour)) key = got_values state command colour key
-got grants state command (Some (kinds.Queue home colour)) key = state
+got grants state command _ key = state
 
 -- keys with their values
 abbrev pub key_answers : (List ℕ → Value) → List (List ℕ) → List KeyAnswer

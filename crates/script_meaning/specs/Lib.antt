@@ -7,6 +7,7 @@ pub mod Objects
 pub mod Dequeues
 pub mod CausalGets
 pub mod Gets
+pub mod Telling
 pub mod Transactions
 pub mod Meaning
 pub mod Laws

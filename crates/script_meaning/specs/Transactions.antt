@@ -1,17 +1,15 @@
 -- Transactions: reads of transactional maps, and commits that rest on them.
-use Rattle.std.specs.Prelude.{ℕ, List, [], ◌++◌, map, Option, Some, None, unwrap_or, if◌then◌else◌}
+use Rattle.std.specs.Prelude.{ℕ, List, [], ◌++◌, map, Option, Some, None, unwrap_or}
 use Rattle.log_node.specs.declared.ids.Key.{Key}
 use Rattle.log_node.specs.declared.forms.Pair.{Pair}
 use Rattle.log_node.specs.declared.forms.Version.{Version}
 use Rattle.log_node.specs.declared.forms.Form.TheVariants as forms
-use Rattle.log_node.specs.Sets.{members}
 use Rattle.object_form.specs.Forms.{form_text}
 use Rattle.object_fold.specs.declared.verdict.Verdict.{Verdict}
 use Rattle.object_fold.specs.declared.verdict.Verdict.TheVariants.{Committed, Conflict}
 use Rattle.object_fold.specs.Transactions.{writes_after, value_of, versions_after, verdict_of}
-use Rattle.col_core.specs.History.{entry_key}
 use Rattle.col_core.specs.Keeping.{updated}
-use Rattle.world_laws.specs.Worlds.{World, next_id}
+use Rattle.world_laws.specs.Worlds.{World}
 use Rattle.script_text.specs.declared.script.Object.{Object}
 use Rattle.script_text.specs.declared.script.Command.{Command}
 use Rattle.report_text.specs.declared.report.Answer.{Answer}
@@ -19,17 +17,13 @@ use Rattle.report_text.specs.declared.report.Answer.TheVariants as answers
 use Rattle.report_text.specs.declared.report.PointPiece.{PointPiece}
 use Rattle.report_text.specs.declared.report.RaisePiece.{RaisePiece}
 use Rattle.report_text.specs.declared.report.SyncPiece.{SyncPiece}
-use Rattle.lawful_run.specs.Asks.{colours_of, rising, keys_of}
+use Rattle.lawful_run.specs.Asks.{colours_of, keys_of}
 use Rattle.script_meaning.specs.States.{State, Grants, answered}
-use Rattle.script_meaning.specs.Appends.{appended_so}
-use Rattle.script_meaning.specs.Stamped.{ReadEnd, Whole, Refused, Unraised, stamped_read, ended_so}
+use Rattle.script_meaning.specs.Stamped.{stamped_read, ended_so}
 use Rattle.script_meaning.specs.Objects.{caller_in, shard_set}
+use Rattle.script_meaning.specs.Telling.{Tells, all_colours, appended_and_told}
 use Rattle.script_meaning.specs.Dequeues.{object_at}
 use Rattle.script_meaning.specs.Gets.{key_answers}
-
--- the colours of an object in rising number
-abbrev pub all_colours : List Object → State → Command → ℕ → List ℕ
-all_colours objects state command object = rising (colours_of (caller_in state.world objects command.client) object)
 
 -- A read of keys that is whole, and has read the nodes with these keys of a world: it answers by them, and in place of
 -- what an earlier read found the client keeps for a commit who wrote the keys last.
@@ -58,37 +52,20 @@ ruled (Conflict key stamp) row points at raises syncs = answers.Ruled (Some key)
 abbrev pub verdict_in : World → List Key → Key → Verdict
 verdict_in w read own = unwrap_or (verdict_of (map (object_at w) read) own) (Committed own.stamp)
 
--- A commit whose node stands under this key, in the row and at the points, by how the stamped read behind it ended: it
--- answers the verdict on its own node among those that were read.
-abbrev pub ruled_by : Grants → State → Command → Key → Option ℕ → List PointPiece → World → ReadEnd → State
-ruled_by grants state command own row points w (Whole at raises syncs read) =
-    if grants.items then answered state command w (ruled (verdict_in w read own) row points at raises syncs) []
-    else answered state command w (answers.UnreadNoMemory own.stamp) []
-ruled_by grants state command own row points w (Refused colour base) =
-    answered state command w (answers.UnreadTrimmed own.stamp colour base) []
-ruled_by grants state command own row points w Unraised =
-    answered state command w (answers.UnreadNoMemory own.stamp) []
-
--- Its node stands in this world, under the stamp: then comes a stamped read of all colours of the object.
-abbrev pub read_behind : List Object → Grants → State → Command → ℕ → World → ℕ → Option ℕ → List PointPiece → State
-read_behind objects grants state command object w stamp row points =
-    let read = stamped_read (record grants { helps = grants.read_helps }) w command.client
-    (all_colours objects state command object) in
-    ruled_by grants state command (entry_key stamp (next_id state.world command.client)) row points
-    read.world read.ends
+-- what a commit is told: the verdict on its own node among those that were read
+abbrev pub verdict_tells : Tells
+verdict_tells w read own row points at raises syncs = ruled (verdict_in w read own) row points at raises syncs
 
 -- the keys of versions
 abbrev pub version_keys : List Version → List (List ℕ)
 version_keys versions = map (λ (v : Version). v.key) versions
 
--- A commit that rests on these versions: an append of its transaction to the shards of the keys read and written, and
--- then the stamped read.
+-- A commit that rests on these versions: its transaction stands in the shards of the keys read and written, and is told.
 abbrev pub committed_on : List Object → Grants → State → Command → ℕ → List Pair → List Version → State
 committed_on objects grants state command object pairs versions =
     let set = shard_set (colours_of (caller_in state.world objects command.client) object)
     (version_keys versions ++ keys_of pairs) in
-    appended_so grants state command set (form_text (forms.Transaction versions pairs)) (members set)
-    (read_behind objects grants state command object)
+    appended_and_told verdict_tells objects grants state command object set (form_text (forms.Transaction versions pairs))
 
 -- a commit, by what the client's last read of the object found
 abbrev pub committed_by : List Object → Grants → State → Command → ℕ → List Pair → Option (List Version) → State

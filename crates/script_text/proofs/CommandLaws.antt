@@ -43,57 +43,15 @@ word_ok field word e = (bytes_eq-Decides field (word_text word)).0 (find_passes 
 
 pub word_again : (word : Word) → word_at (word_text word) ≡ Some word
 word_again words.Append = refl
-word_again words.Stop = refl
-word_again words.Sync = refl
-word_again words.Scan = refl
-word_again words.Pull = refl
-word_again words.Trim = refl
-word_again words.Put = refl
-word_again words.Get = refl
-word_again words.Del = refl
-word_again words.PutAll = refl
-word_again words.GetAll = refl
-word_again words.Read = refl
-word_again words.Commit = refl
-word_again words.Enq = refl
-word_again words.Deq = refl
-
-pub word_is : (field : List ℕ) (word : Word) → bytes_eq field (word_text word) ≡ true → Some word ≡ word_at field
-word_is field word e = sym (ap word_at ((bytes_eq-Decides field (word_text word)).0 e) ∙ word_again word)
+word_again _ = refl
 
 word_what : (word : Word) (given : Given) → word_of (what_of word given) ≡ word
 word_what words.Append given = refl
-word_what words.Stop given = refl
-word_what words.Sync given = refl
-word_what words.Scan given = refl
-word_what words.Pull given = refl
-word_what words.Trim given = refl
-word_what words.Put given = refl
-word_what words.Get given = refl
-word_what words.Del given = refl
-word_what words.PutAll given = refl
-word_what words.GetAll given = refl
-word_what words.Read given = refl
-word_what words.Commit given = refl
-word_what words.Enq given = refl
-word_what words.Deq given = refl
+word_what _ given = refl
 
 pub word_full : (word : Word) → is_empty (word_text word) ≡ false
 word_full words.Append = refl
-word_full words.Stop = refl
-word_full words.Sync = refl
-word_full words.Scan = refl
-word_full words.Pull = refl
-word_full words.Trim = refl
-word_full words.Put = refl
-word_full words.Get = refl
-word_full words.Del = refl
-word_full words.PutAll = refl
-word_full words.GetAll = refl
-word_full words.Read = refl
-word_full words.Commit = refl
-word_full words.Enq = refl
-word_full words.Deq = refl
+word_full _ = refl
 
 -- ---- after the fields
 

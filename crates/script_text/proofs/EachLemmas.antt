@@ -74,11 +74,6 @@ pub bind_ok : {A B : Type 0} (r : Result A Reason) (f : A → Result B Reason) (
 bind_ok (Ok x) f y e = (x, refl, e)
 bind_ok (Err d) f y e = absurd cc
 
--- what fails, fails with what would be done after it
-pub fails_before : {A B : Type 0} (fault : Fault) (reading : Result A Reason) (f : A → Result B Reason) → Fails fault reading → Fails fault (reading >>= f)
-fails_before faults.NoMemory reading f h = tt
-fails_before (faults.Refused why) reading f h = rw h refl
-
 -- a new name is the field itself
 pub new_name_is : (names : List (List ℕ)) (field name : List ℕ) → new_name_at names field ≡ Ok name → name ≡ field
 unfolding new_name_at

@@ -252,25 +252,13 @@ read_faults before client given =
 last_faults : (before : List Item) (client : ℕ) (word : Word) (args : List (List ℕ)) (given : Given) → given_at (known_of before) (row_fields word) args nothing ≡ Ok given
     → Tests (last_tests before client (last_of word) args) (ended_well (known_of before) client (last_of word) given)
 unfolding ended_well
-last_faults before client words.Append args given e = tests_ok given
 last_faults before client words.Stop args given e =
     let s = stop_given before args given e in
     tests_same (stop_last given.count given.number) (last_tests before client lasts.StopFits args) (ended_well (known_of before) client lasts.StopFits given)
     (ap (λ k. stop_last k (number_value (field_at args 0))) (sym s.1) ∙ ap (stop_last given.count) (sym s.0)) (stop_faults before client given)
-last_faults before client words.Sync args given e = tests_ok given
-last_faults before client words.Scan args given e = tests_ok given
-last_faults before client words.Pull args given e = tests_ok given
-last_faults before client words.Trim args given e = tests_ok given
-last_faults before client words.Put args given e = tests_ok given
-last_faults before client words.Get args given e = tests_ok given
-last_faults before client words.Del args given e = tests_ok given
-last_faults before client words.PutAll args given e = tests_ok given
-last_faults before client words.GetAll args given e = tests_ok given
-last_faults before client words.Read args given e = tests_ok given
 last_faults before client words.Commit args given e =
     rw (commit_given before args given e) (read_faults before client given)
-last_faults before client words.Enq args given e = tests_ok given
-last_faults before client words.Deq args given e = tests_ok given
+last_faults before client _ args given e = tests_ok given
 
 what_tests : (before : List Item) (client : ℕ) (word : Word) (args : List (List ℕ)) → Tests (word_tests before client (Some word) args) (what_at (known_of before) client word args)
 unfolding what_at

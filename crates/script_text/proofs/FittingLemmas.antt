@@ -312,15 +312,7 @@ what_within before client words.Scan args given s e w =
     (has_given 1 (length (region_names before)) (length (colour_names before)) given (omega (arith, same, some)) w, w.set.low)
 what_within before client words.Pull args given s e w = (w.region, w.colour)
 what_within before client words.Trim args given s e w = w.colour
-what_within before client words.Put args given s e w = tt
-what_within before client words.Get args given s e w = tt
-what_within before client words.Del args given s e w = tt
-what_within before client words.PutAll args given s e w = tt
-what_within before client words.GetAll args given s e w = tt
-what_within before client words.Read args given s e w = tt
-what_within before client words.Commit args given s e w = tt
-what_within before client words.Enq args given s e w = tt
-what_within before client words.Deq args given s e w = tt
+what_within before client _ args given s e w = tt
 
 is_within : (before : List Item) (client : ℕ) (args : List (List ℕ)) (what : What) → 0 < length (region_names before) → 0 < length (colour_names before) → length (colour_names before) ≤ MAX_COLOURS
     → SpellsWhat before client args what → IsWithin (length (region_names before)) (length (colour_names before)) what
@@ -459,9 +451,7 @@ module _ (before : List Item) (fit : Fits (length (region_names before)) (length
   more_item number fields (items.Declared object) says ok = more_object object (by_kind object.kind (and-left _ _ (and-left _ _ ok))) where
     by_kind : (kind : Kind) → may_come before (sort_text (sort_of kind)) ≡ true → (0 < regions) × (0 < colours) × (0 < length homes) × (asked ≡ [])
     by_kind (kinds.Map _ _) come = at_end (codes "map") refl refl refl refl refl (stage_of before) regions colours homes asked come fit.early
-    by_kind (kinds.Tx _ _) come = at_end (codes "tx") refl refl refl refl refl (stage_of before) regions colours homes asked come fit.early
-    by_kind (kinds.Causal _) come = at_end (codes "causal") refl refl refl refl refl (stage_of before) regions colours homes asked come fit.early
-    by_kind (kinds.Queue _ _) come = at_end (codes "queue") refl refl refl refl refl (stage_of before) regions colours homes asked come fit.early
+    by_kind kind come = at_end (sort_text (sort_of kind)) refl refl refl refl refl (stage_of before) regions colours homes asked come fit.early
   more_item number fields items.Begin says ok = more_begin ok
   more_item number fields (items.Asks command) says ok =
       let ab = and-left _ _ ok in more_command command says.1 (and-left _ _ ab) (and-right _ _ ab) says.2

@@ -112,9 +112,7 @@ version_line line e = sym (join_with_byte-slice_split 32 line) ∙ ap (join_with
 -- nothing else may come first
 first_kind : (kind : Kind) → may_come [] (sort_text (sort_of kind)) ≡ true → ⊥
 first_kind (kinds.Map home ns) h = cc
-first_kind (kinds.Tx home ns) h = cc
-first_kind (kinds.Causal colour) h = cc
-first_kind (kinds.Queue home colour) h = cc
+first_kind _ h = cc
 
 only_version : (number : ℕ) (line : List ℕ) (item : Item) → Follows [] number (fields_of line) item → line ≡ codes "fuzzylog 1"
 only_version number line items.Version f = version_line line f.says

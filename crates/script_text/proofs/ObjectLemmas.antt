@@ -11,6 +11,7 @@ use Rattle.script_text.specs.declared.script.Word.{Word}
 use Rattle.script_text.specs.declared.script.Word.TheVariants as words
 use Rattle.script_text.specs.declared.script.Command.{Command}
 use Rattle.script_text.specs.declared.table.Kinds.{Kinds}
+use Rattle.script_text.specs.declared.table.TheConstants.{MAP, ANY_MAP, TX, QUEUE}
 use Rattle.script_text.specs.declared.table.Sort.{Sort}
 use Rattle.script_text.specs.declared.table.Sort.TheVariants as sorts
 use Rattle.script_text.specs.declared.given.Given.{Given}
@@ -23,7 +24,7 @@ use Rattle.script_text.specs.Words.{word_of}
 use Rattle.script_text.specs.Pieces.{is_among}
 use Rattle.script_text.specs.Items.{stage_after, stage_of, header_words, may_come, regions_in, colours_in, objects_in, commands_in, last_said, region_names, colour_names, client_homes, objects, commands}
 use Rattle.script_text.specs.Grammar.{may_follow, is_colour, are_colours, is_one_of, SpellAll, SpellsKind, SpellsWhat, Says}
-use Rattle.script_text.specs.Fitting.{AreObjectColours, IsKindWithin, is_map, is_any_map, is_tx, is_queue, HasObject, UsesObject}
+use Rattle.script_text.specs.Fitting.{AreObjectColours, IsKindWithin, HasObject, UsesObject}
 use Rattle.script_text.proofs.FittingLemmas.{Fit, and-left, and-right, All-cons, filter_map-more, filter_map-said, last-more, one-more, no, at_fuzzylog, at_regions, at_colours, at_rows, at_end}
 
 -- no object is declared before this stage
@@ -91,98 +92,52 @@ kind_is before args sorts.Queue given s =
 
 -- WHAT A COMMAND USES
 
-has_object : (of : Kinds) (test : Kind → Bool) → ((kind : Kind) → is_of of kind ≡ true → test kind ≡ true)
-    → (made : List Object) (object : ℕ) → IsTrue (is_one_of of (slice_get made object)) → HasObject made object test
-has_object of test h made object ok = pick (slice_get made object) refl ok where
-  pick : (o : Option Object) → slice_get made object ≡ o → is_one_of of o ≡ true → HasObject made object test
+has_object : (of : Kinds) (made : List Object) (object : ℕ) → IsTrue (is_one_of of (slice_get made object))
+    → HasObject made object (is_of of)
+has_object of made object ok = pick (slice_get made object) refl ok where
+  pick : (o : Option Object) → slice_get made object ≡ o → is_one_of of o ≡ true → HasObject made object (is_of of)
   pick None e f = no f
-  pick (Some o) e f = record { found = o; there = e; kind = h o.kind f }
-
-any_map : Kinds
-any_map = record { map = true; tx = false; causal = true; queue = false }
-
-map_only : Kinds
-map_only = record { map = true; tx = false; causal = false; queue = false }
-
-tx_only : Kinds
-tx_only = record { map = false; tx = true; causal = false; queue = false }
-
-queue_only : Kinds
-queue_only = record { map = false; tx = false; causal = false; queue = true }
-
-of_any_map : (kind : Kind) → is_of any_map kind ≡ true → is_any_map kind ≡ true
-unfolding any_map
-of_any_map (kinds.Map _ _) e = e
-of_any_map (kinds.Tx _ _) e = e
-of_any_map (kinds.Causal _) e = e
-of_any_map (kinds.Queue _ _) e = e
-
-of_map : (kind : Kind) → is_of map_only kind ≡ true → is_map kind ≡ true
-unfolding map_only
-of_map (kinds.Map _ _) e = e
-of_map (kinds.Tx _ _) e = e
-of_map (kinds.Causal _) e = e
-of_map (kinds.Queue _ _) e = e
-
-of_tx : (kind : Kind) → is_of tx_only kind ≡ true → is_tx kind ≡ true
-unfolding tx_only
-of_tx (kinds.Map _ _) e = e
-of_tx (kinds.Tx _ _) e = e
-of_tx (kinds.Causal _) e = e
-of_tx (kinds.Queue _ _) e = e
-
-of_queue : (kind : Kind) → is_of queue_only kind ≡ true → is_queue kind ≡ true
-unfolding queue_only
-of_queue (kinds.Map _ _) e = e
-of_queue (kinds.Tx _ _) e = e
-of_queue (kinds.Causal _) e = e
-of_queue (kinds.Queue _ _) e = e
+  pick (Some o) e f = record { found = o; there = e; kind = f }
 
 uses_of : (before : List Item) (args : List (List ℕ)) (word : Word) (given : Given)
     → SpellAll before (row_fields word) args nothing given → UsesObject (objects before) (what_of word given)
-unfolding any_map map_only tx_only queue_only
-uses_of before args words.Append given s = tt
-uses_of before args words.Stop given s = tt
-uses_of before args words.Sync given s = tt
-uses_of before args words.Scan given s = tt
-uses_of before args words.Pull given s = tt
-uses_of before args words.Trim given s = tt
 uses_of before args words.Put given s =
     let whole = s.2.2.2.1 ∙ (s.2.2.1.3 ∙ ap (λ (g : Given). record g { value = s.2.2.1.0 })
     (s.2.1.3 ∙ ap (λ (g : Given). record g { key = s.2.1.0 }) s.1.3)) in
     subst (λ (g : Given). UsesObject (objects before) (what_of words.Put g)) (sym whole)
-    (has_object any_map is_any_map of_any_map (objects before) s.1.0 s.1.2, s.2.1.2, s.2.2.1.2)
+    (has_object ANY_MAP (objects before) s.1.0 s.1.2, (s.2.1.2, s.2.2.1.2))
 uses_of before args words.Get given s =
     let whole = s.2.2.1 ∙ (s.2.1.3 ∙ ap (λ (g : Given). record g { key = s.2.1.0 }) s.1.3) in
     subst (λ (g : Given). UsesObject (objects before) (what_of words.Get g)) (sym whole)
-    (has_object any_map is_any_map of_any_map (objects before) s.1.0 s.1.2, s.2.1.2)
+    (has_object ANY_MAP (objects before) s.1.0 s.1.2, s.2.1.2)
 uses_of before args words.Del given s =
     let whole = s.2.2.1 ∙ (s.2.1.3 ∙ ap (λ (g : Given). record g { key = s.2.1.0 }) s.1.3) in
     subst (λ (g : Given). UsesObject (objects before) (what_of words.Del g)) (sym whole)
-    (has_object map_only is_map of_map (objects before) s.1.0 s.1.2, s.2.1.2)
+    (has_object MAP (objects before) s.1.0 s.1.2, s.2.1.2)
 uses_of before args words.PutAll given s =
     let whole = s.2.2.1 ∙ (s.2.1.2 ∙ ap (λ (g : Given). record g { pairs = _ }) s.1.3) in
     subst (λ (g : Given). UsesObject (objects before) (what_of words.PutAll g)) (sym whole)
-    (has_object map_only is_map of_map (objects before) s.1.0 s.1.2, s.2.1.1)
+    (has_object MAP (objects before) s.1.0 s.1.2, s.2.1.1)
 uses_of before args words.GetAll given s =
     let whole = s.2.2.1 ∙ (s.2.1.1 ∙ ap (λ (g : Given). record g { keys = _ }) s.1.3) in
     subst (λ (g : Given). UsesObject (objects before) (what_of words.GetAll g)) (sym whole)
-    (has_object map_only is_map of_map (objects before) s.1.0 s.1.2, s.2.1.0)
+    (has_object MAP (objects before) s.1.0 s.1.2, s.2.1.0)
 uses_of before args words.Read given s =
     let whole = s.2.2.1 ∙ (s.2.1.1 ∙ ap (λ (g : Given). record g { keys = _ }) s.1.3) in
     subst (λ (g : Given). UsesObject (objects before) (what_of words.Read g)) (sym whole)
-    (has_object tx_only is_tx of_tx (objects before) s.1.0 s.1.2, s.2.1.0)
+    (has_object TX (objects before) s.1.0 s.1.2, s.2.1.0)
 uses_of before args words.Commit given s =
     let whole = s.2.2.1 ∙ (s.2.1.2 ∙ ap (λ (g : Given). record g { pairs = _ }) s.1.3) in
     subst (λ (g : Given). UsesObject (objects before) (what_of words.Commit g)) (sym whole)
-    (has_object tx_only is_tx of_tx (objects before) s.1.0 s.1.2, s.2.1.1)
+    (has_object TX (objects before) s.1.0 s.1.2, s.2.1.1)
 uses_of before args words.Enq given s =
     let whole = s.2.2.1 ∙ (s.2.1.3 ∙ ap (λ (g : Given). record g { value = s.2.1.0 }) s.1.3) in
     subst (λ (g : Given). UsesObject (objects before) (what_of words.Enq g)) (sym whole)
-    (has_object queue_only is_queue of_queue (objects before) s.1.0 s.1.2, s.2.1.2)
+    (has_object QUEUE (objects before) s.1.0 s.1.2, s.2.1.2)
 uses_of before args words.Deq given s =
     subst (λ (g : Given). UsesObject (objects before) (what_of words.Deq g)) (sym (s.2.1 ∙ s.1.3))
-    (has_object queue_only is_queue of_queue (objects before) s.1.0 s.1.2)
+    (has_object QUEUE (objects before) s.1.0 s.1.2, tt)
+uses_of before args _ given s = tt
 
 -- ONE MORE ITEM
 
@@ -199,14 +154,10 @@ none_all P xs e = subst (λ l. All P l) (sym e) (All-nil P)
 -- no object is declared where clients are named
 bare_client : (s : Stage) (made : List Object) → is_among (header_words s) (codes "client") ≡ true → Bare s made
     → made ≡ []
-bare_client stages.Nothing made e b = no e
-bare_client stages.Version made e b = no e
-bare_client stages.Regions made e b = no e
 bare_client stages.Colours made e b = b
 bare_client stages.Rows made e b = b
 bare_client stages.Clients made e b = b
-bare_client stages.Objects made e b = no e
-bare_client stages.Commands made e b = no e
+bare_client _ made e b = no e
 
 module _ (before : List Item) (fit : Fit before) (named : Names before) where
   abbrev regions : ℕ
@@ -315,9 +266,7 @@ module _ (before : List Item) (fit : Fit before) (named : Names before) where
 
   by_kind : (kind : Kind) → may_come before (sort_text (sort_of kind)) ≡ true → commands before ≡ []
   by_kind (kinds.Map _ _) come = none_asked (codes "map") refl refl refl refl refl come
-  by_kind (kinds.Tx _ _) come = none_asked (codes "tx") refl refl refl refl refl come
-  by_kind (kinds.Causal _) come = none_asked (codes "causal") refl refl refl refl refl come
-  by_kind (kinds.Queue _ _) come = none_asked (codes "queue") refl refl refl refl refl come
+  by_kind kind come = none_asked (sort_text (sort_of kind)) refl refl refl refl refl come
 
   pub more_named : (number : ℕ) (fields : List (List ℕ)) (item : Item) → Says before number fields item
       → may_follow before item ≡ true → Names (before ++ item ∷ [])

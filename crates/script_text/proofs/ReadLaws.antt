@@ -4,11 +4,15 @@ use Rattle.std.specs.List.{list_any, filter, fold}
 use Rattle.std.proofs.lemmas.Bool.{cases_Bool, and_parts, eqb-true, eqb-false, ne_eqb, eq-eqb}
 use Rattle.std.proofs.lemmas.List.Folds.{list_any-append}
 use Rattle.script_text.specs.declared.script.What.{What}
-use Rattle.script_text.specs.declared.script.What.TheVariants as whats
 use Rattle.script_text.specs.declared.script.Command.{Command}
 use Rattle.script_text.specs.declared.reads.HeldRead.{HeldRead}
-use Rattle.script_text.specs.Reads.{same_read, holds, with_read, without_read, reads_after, held_after}
-use Rattle.script_text.specs.Items.{holds_read}
+use Rattle.script_text.specs.declared.uses.ReadUse.TheVariants.{Takes, UsesUp}
+use Rattle.script_text.specs.declared.uses.Use.{Use}
+use Rattle.script_text.specs.declared.uses.Use.TheVariants.{OfObject}
+use Rattle.script_text.specs.Uses.{use_of}
+use Rattle.script_text.specs.Reads.{same_read, holds, with_read, without_read, reads_by, reads_after, held_after}
+use Rattle.script_text.specs.Items.{held_by, holds_read}
+use Rattle.log_node.proofs.CallerLemmas.{or_false}
 
 pub held_push : (reads : List HeldRead) (cs : List Command) (c : Command) → held_after reads (cs ++ c ∷ []) ≡ reads_after (held_after reads cs) c.client c.what
 held_push reads [] c = refl
@@ -23,10 +27,6 @@ eqb_turn a b =
 
 abbrev of : ℕ → ℕ → HeldRead
 of client object = record { client = client; object = object }
-
-or_false : (b : Bool) → (b || false) ≡ b
-or_false true = refl
-or_false false = refl
 
 -- what is added
 cond_same : {A : Type 0} (b : Bool) (x : A) → cond b x x ≡ x
@@ -115,21 +115,12 @@ used reads caller o client object false same_object a b = left reads (of caller 
 
 step : (reads : List HeldRead) (caller : ℕ) (what : What) (client object : ℕ)
     → holds (reads_after reads caller what) (of client object) ≡ cond (eqb caller client) (holds_read object (holds reads (of client object)) what) (holds reads (of client object))
-step reads caller (whats.Append colours text) client object = sym (cond_same (eqb caller client) (holds reads (of client object)))
-step reads caller (whats.Stop steps colours text) client object = sym (cond_same (eqb caller client) (holds reads (of client object)))
-step reads caller (whats.Sync colour) client object = sym (cond_same (eqb caller client) (holds reads (of client object)))
-step reads caller (whats.Scan colours) client object = sym (cond_same (eqb caller client) (holds reads (of client object)))
-step reads caller (whats.Pull region colour) client object = sym (cond_same (eqb caller client) (holds reads (of client object)))
-step reads caller (whats.Trim colour) client object = sym (cond_same (eqb caller client) (holds reads (of client object)))
-step reads caller (whats.Put o key value) client object = sym (cond_same (eqb caller client) (holds reads (of client object)))
-step reads caller (whats.Get o key) client object = sym (cond_same (eqb caller client) (holds reads (of client object)))
-step reads caller (whats.Del o key) client object = sym (cond_same (eqb caller client) (holds reads (of client object)))
-step reads caller (whats.PutAll o pairs) client object = sym (cond_same (eqb caller client) (holds reads (of client object)))
-step reads caller (whats.GetAll o keys) client object = sym (cond_same (eqb caller client) (holds reads (of client object)))
-step reads caller (whats.Read o keys) client object = added reads caller o client object (eqb caller client) (eqb o object) (holds reads (of caller o)) refl refl refl
-step reads caller (whats.Commit o pairs) client object = used reads caller o client object (eqb caller client) (eqb o object) refl refl
-step reads caller (whats.Enq o value) client object = sym (cond_same (eqb caller client) (holds reads (of client object)))
-step reads caller (whats.Deq o) client object = sym (cond_same (eqb caller client) (holds reads (of client object)))
+step reads caller what client object = by (use_of what) where
+  by : (u : Use) → holds (reads_by reads caller u) (of client object)
+      ≡ cond (eqb caller client) (held_by object (holds reads (of client object)) u) (holds reads (of client object))
+  by (OfObject o Takes) = added reads caller o client object (eqb caller client) (eqb o object) (holds reads (of caller o)) refl refl refl
+  by (OfObject o UsesUp) = used reads caller o client object (eqb caller client) (eqb o object) refl refl
+  by _ = sym (cond_same (eqb caller client) (holds reads (of client object)))
 
 abbrev follow : ℕ → ℕ → Bool → Command → Bool
 follow client object held c = cond (eqb c.client client) (holds_read object held c.what) held

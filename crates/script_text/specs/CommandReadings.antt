@@ -62,22 +62,27 @@ append_at known cols text = do
   bytes ← text_at text
   Ok (whats.Append set.0 bytes)
 
+-- a sync: its colour
 unfoldable pub sync_at : Known → List ℕ → Result What Reason
 sync_at known field = number_at reasons.UnknownColour known.script.colours field >>= λ colour. Ok (whats.Sync colour)
 
+-- a trim: its colour
 unfoldable pub trim_at : Known → List ℕ → Result What Reason
 trim_at known field = number_at reasons.UnknownColour known.script.colours field >>= λ colour. Ok (whats.Trim colour)
 
+-- a pull: the region from which, and the colour
 unfoldable pub pull_at : Known → List ℕ → List ℕ → Result What Reason
 pull_at known name field = do
   region ← number_at reasons.UnknownRegion known.script.regions name
   colour ← number_at reasons.UnknownColour known.script.colours field
   Ok (whats.Pull region colour)
 
+-- what a command asks for, if its word is one of the table
 unfoldable pub worded_at : Known → ℕ → Option Word → List (List ℕ) → Result What Reason
 worded_at known client None args = Err reasons.UnknownCommand
 worded_at known client (Some word) args = what_at known client word args
 
+-- what the fields behind a client's name ask for
 unfoldable pub asked_at : Known → ℕ → List (List ℕ) → Result What Reason
 asked_at known client [] = Err reasons.UnknownCommand
 asked_at known client (field ∷ args) = worded_at known client (word_at field) args
@@ -88,6 +93,7 @@ caller_at known name = do
   client ← number_at reasons.UnknownClient known.script.clients name
   refuse (list_any (λ c. c == client) known.stopped) reasons.ClientStopped (Ok client)
 
+-- a command line: its client, and what it asks for
 unfoldable pub command_at : Known → ℕ → List ℕ → List (List ℕ) → Result Item Reason
 command_at known number name fields = do
   client ← caller_at known name

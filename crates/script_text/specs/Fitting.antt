@@ -1,5 +1,5 @@
 -- What holds of the numbers in a script: each names something, and the shape keeps its limits.
-use Rattle.std.specs.Prelude.{◌≡◌, Bool, true, false, IsTrue, ℕ, ◌+◌, ◌*◌, ◌<◌, ◌≤◌, ◌^◌, List, length, Some, slice_get}
+use Rattle.std.specs.Prelude.{◌≡◌, Bool, IsTrue, ℕ, ◌+◌, ◌*◌, ◌<◌, ◌≤◌, ◌^◌, List, ◌∷◌, length, Some, slice_get}
 use Rattle.std.specs.List.{All}
 use Rattle.log_node.specs.declared.node.Shape.{Shape}
 use Rattle.log_node.specs.declared.ids.Colours.{Colours}
@@ -13,6 +13,15 @@ use Rattle.script_text.specs.declared.script.What.TheVariants as whats
 use Rattle.script_text.specs.declared.script.Command.{Command}
 use Rattle.script_text.specs.declared.script.Script.{Script}
 use Rattle.script_text.specs.declared.limits.TheConstants.{VERSION_1}
+use Rattle.script_text.specs.declared.table.Field.{Field}
+use Rattle.script_text.specs.declared.table.Field.TheVariants as fields
+use Rattle.script_text.specs.declared.table.Kinds.{Kinds}
+use Rattle.script_text.specs.declared.table.TheConstants.{NONE, MAP, ANY_MAP, TX, QUEUE}
+use Rattle.script_text.specs.Words.{word_of}
+use Rattle.script_text.specs.Table.{row_fields, is_of}
+use Rattle.script_text.specs.declared.uses.Use.{Use}
+use Rattle.script_text.specs.declared.uses.Use.TheVariants.{OfLog, OfObject}
+use Rattle.script_text.specs.Uses.{use_of}
 use Rattle.script_text.specs.Pieces.{is_key}
 use Rattle.script_text.specs.Grammar.{are_keys, are_pairs}
 
@@ -45,15 +54,7 @@ IsWithin regions colours (whats.Sync colour) = colour < colours
 IsWithin regions colours (whats.Scan set) = HasColours 1 set × AreBelow colours set
 IsWithin regions colours (whats.Pull region colour) = (region < regions) × (colour < colours)
 IsWithin regions colours (whats.Trim colour) = colour < colours
-IsWithin regions colours (whats.Put object key value) = Unit {0}
-IsWithin regions colours (whats.Get object key) = Unit {0}
-IsWithin regions colours (whats.Del object key) = Unit {0}
-IsWithin regions colours (whats.PutAll object pairs) = Unit {0}
-IsWithin regions colours (whats.GetAll object keys) = Unit {0}
-IsWithin regions colours (whats.Read object keys) = Unit {0}
-IsWithin regions colours (whats.Commit object pairs) = Unit {0}
-IsWithin regions colours (whats.Enq object value) = Unit {0}
-IsWithin regions colours (whats.Deq object) = Unit {0}
+IsWithin regions colours _ = Unit {0}
 
 -- one colour or more, each below this number
 pub record AreObjectColours (count : ℕ) (colours : List ℕ) : Type 0 where
@@ -69,29 +70,19 @@ IsKindWithin regions colours (kinds.Queue home colour) = (home < regions) × (co
 
 -- a map with a home
 abbrev pub is_map : Kind → Bool
-is_map (kinds.Map home of) = true
-is_map (kinds.Tx home of) = false
-is_map (kinds.Causal colour) = false
-is_map (kinds.Queue home colour) = false
+is_map = is_of MAP
 
 -- a map, with a home or a causal one
 abbrev pub is_any_map : Kind → Bool
-is_any_map (kinds.Map home of) = true
-is_any_map (kinds.Tx home of) = false
-is_any_map (kinds.Causal colour) = true
-is_any_map (kinds.Queue home colour) = false
+is_any_map = is_of ANY_MAP
 
+-- a transactional map
 abbrev pub is_tx : Kind → Bool
-is_tx (kinds.Map home of) = false
-is_tx (kinds.Tx home of) = true
-is_tx (kinds.Causal colour) = false
-is_tx (kinds.Queue home colour) = false
+is_tx = is_of TX
 
+-- a queue
 abbrev pub is_queue : Kind → Bool
-is_queue (kinds.Map home of) = false
-is_queue (kinds.Tx home of) = false
-is_queue (kinds.Causal colour) = false
-is_queue (kinds.Queue home colour) = true
+is_queue = is_of QUEUE
 
 -- there is an object with this number, of such a kind
 pub record HasObject (objects : List Object) (object : ℕ) (test : Kind → Bool) : Type 0 where
@@ -99,25 +90,37 @@ pub record HasObject (objects : List Object) (object : ℕ) (test : Kind → Boo
   pub there : slice_get objects object ≡ Some found
   pub kind : IsTrue (test found.kind)
 
--- a command of an object names one of a kind that has the command, with keys and values that may be
-abbrev pub UsesObject : List Object → What → Type 0
-UsesObject objects (whats.Append set text) = Unit {0}
-UsesObject objects (whats.Stop steps set text) = Unit {0}
-UsesObject objects (whats.Sync colour) = Unit {0}
-UsesObject objects (whats.Scan set) = Unit {0}
-UsesObject objects (whats.Pull region colour) = Unit {0}
-UsesObject objects (whats.Trim colour) = Unit {0}
-UsesObject objects (whats.Put object key value) =
-    HasObject objects object is_any_map × IsTrue (is_key key) × IsTrue (is_key value)
-UsesObject objects (whats.Get object key) = HasObject objects object is_any_map × IsTrue (is_key key)
-UsesObject objects (whats.Del object key) = HasObject objects object is_map × IsTrue (is_key key)
-UsesObject objects (whats.PutAll object pairs) = HasObject objects object is_map × IsTrue (are_pairs 4 pairs)
-UsesObject objects (whats.GetAll object keys) = HasObject objects object is_map × IsTrue (are_keys 4 keys)
-UsesObject objects (whats.Read object keys) = HasObject objects object is_tx × IsTrue (are_keys 2 keys)
-UsesObject objects (whats.Commit object pairs) = HasObject objects object is_tx × IsTrue (are_pairs 2 pairs)
-UsesObject objects (whats.Enq object value) = HasObject objects object is_queue × IsTrue (is_key value)
-UsesObject objects (whats.Deq object) = HasObject objects object is_queue
+-- the kinds of object that have a command: those of its first field
+abbrev pub kinds_first : List Field → Kinds
+kinds_first (fields.Object of ∷ _) = of
+kinds_first _ = NONE
 
+-- the kinds of object that have this command
+abbrev pub kinds_asked : What → Kinds
+kinds_asked what = kinds_first (row_fields (word_of what))
+
+-- the keys and values of a command may be
+abbrev pub HasWords : What → Type 0
+HasWords (whats.Put object key value) = IsTrue (is_key key) × IsTrue (is_key value)
+HasWords (whats.Get object key) = IsTrue (is_key key)
+HasWords (whats.Del object key) = IsTrue (is_key key)
+HasWords (whats.PutAll object pairs) = IsTrue (are_pairs 4 pairs)
+HasWords (whats.GetAll object keys) = IsTrue (are_keys 4 keys)
+HasWords (whats.Read object keys) = IsTrue (are_keys 2 keys)
+HasWords (whats.Commit object pairs) = IsTrue (are_pairs 2 pairs)
+HasWords (whats.Enq object value) = IsTrue (is_key value)
+HasWords _ = Unit {0}
+
+-- a command of an object names one of a kind that has the command
+abbrev pub UsesOne : List Object → What → Use → Type 0
+UsesOne objects what (OfLog stops) = Unit {0}
+UsesOne objects what (OfObject object read) = HasObject objects object (is_of (kinds_asked what)) × HasWords what
+
+-- the object that a command names is there, and has the command
+abbrev pub UsesObject : List Object → What → Type 0
+UsesObject objects what = UsesOne objects what (use_of what)
+
+-- the shape keeps its limits, there is a name for each of its numbers, and each number in the script names something
 pub record IsFitting (script : Script) : Type 0 where
   pub shape : IsShape script.shape
   pub regions : length script.regions ≡ script.shape.regions

@@ -15,28 +15,35 @@ use Rattle.script_text.specs.Readings.{◌>>=◌, refuse, number_at, new_name_at
 use Rattle.script_text.specs.Table.{fits, nothing, sort_fields, sort_at, kind_of}
 use Rattle.script_text.specs.CommandReadings.{given_at}
 
+-- the version, of which there is one
 unfoldable pub version_at : List (List ℕ) → Result Item Reason
 version_at (one ∷ []) = refuse (not (bytes_eq one (codes "1"))) reasons.BadVersion (Ok items.Version)
 version_at _ = Err reasons.BadVersion
 
+-- the line of the regions: their names, no more than there may be
 unfoldable pub regions_at : List (List ℕ) → Result Item Reason
 regions_at args = refuse (not (is_between 1 VERSION_1.regions (length args))) reasons.BadForm (new_names_at args >>= λ names. Ok (items.Regions names))
 
+-- the line of the colours, in the same way
 unfoldable pub colour_line_at : List (List ℕ) → Result Item Reason
 colour_line_at args = refuse (not (is_between 1 VERSION_1.colours (length args))) reasons.BadForm (new_names_at args >>= λ names. Ok (items.Colours names))
 
+-- the line of the rows: how many each client may begin
 unfoldable pub rows_at : List ℕ → Result Item Reason
 rows_at field = refuse (not (is_number ROWS_DIGITS field && is_between 1 VERSION_1.rows (number_value field))) reasons.BadNumber (Ok (items.Rows (number_value field)))
 
+-- a client's new name, and its region
 unfoldable pub client_named_at : Known → List ℕ → List ℕ → Result Item Reason
 client_named_at known field region = do
   name ← new_name_at known.script.clients field
   home ← number_at reasons.UnknownRegion known.script.regions region
   Ok (items.Client name home)
 
+-- the line of a client, where there is room for one
 unfoldable pub client_at : Known → List ℕ → List ℕ → Result Item Reason
 client_at known field region = refuse (nat_le VERSION_1.clients (length known.script.clients)) reasons.BadForm (client_named_at known field region)
 
+-- the names of the objects so far
 abbrev pub object_names_in : Known → List (List ℕ)
 object_names_in known = map (λ (o : Object). o.name) known.script.objects
 
@@ -52,6 +59,7 @@ sorted_at known sort (field ∷ args) = refuse (not (fits (sort_fields sort) arg
   given ← given_at known (sort_fields sort) args nothing
   Ok (items.Declared (record { name = name; kind = kind_of sort given })))
 
+-- the line of an object, if the word is one that declares objects
 unfoldable pub declared_at : Known → Option Sort → List (List ℕ) → Result Item Reason
 declared_at known None args = Err reasons.BadHeader
 declared_at known (Some sort) args = sorted_at known sort args
@@ -67,5 +75,6 @@ headed_at known word args =
     else (if bytes_eq word (codes "begin") then with_none (Ok items.Begin) args
     else declared_at known (sort_at word) args)))))
 
+-- a header line, where its word may come
 unfoldable pub header_at : Known → List ℕ → List (List ℕ) → Result Item Reason
 header_at known word args = refuse (not (is_among (header_words known.stage) word)) reasons.BadHeader (headed_at known word args)

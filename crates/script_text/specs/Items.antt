@@ -4,8 +4,10 @@ use Rattle.std.specs.List.{filter_map, list_any, fold, last_or}
 use Rattle.script_text.specs.declared.script.Object.{Object}
 use Rattle.script_text.specs.declared.script.Command.{Command}
 use Rattle.script_text.specs.declared.script.What.{What}
-use Rattle.script_text.specs.declared.script.What.TheVariants as whats
 use Rattle.script_text.specs.declared.script.Script.{Script}
+use Rattle.script_text.specs.declared.uses.ReadUse.TheVariants.{Takes, UsesUp}
+use Rattle.script_text.specs.declared.uses.Use.{Use}
+use Rattle.script_text.specs.declared.uses.Use.TheVariants.{OfLog, OfObject}
 use Rattle.script_text.specs.declared.item.Item.{Item}
 use Rattle.script_text.specs.declared.item.Item.TheVariants as items
 use Rattle.script_text.specs.declared.item.Stage.{Stage}
@@ -13,6 +15,7 @@ use Rattle.script_text.specs.declared.item.Stage.TheVariants as stages
 use Rattle.script_text.specs.declared.limits.Limits.{Limits}
 use Rattle.script_text.specs.declared.limits.TheConstants.{VERSION_1}
 use Rattle.script_text.specs.Pieces.{is_among}
+use Rattle.script_text.specs.Uses.{use_of}
 
 -- what lines end with whose last item is this
 abbrev pub stage_after : Option Item → Stage
@@ -26,6 +29,7 @@ stage_after (Some (items.Declared _)) = stages.Objects
 stage_after (Some items.Begin) = stages.Commands
 stage_after (Some (items.Asks _)) = stages.Commands
 
+-- what the lines so far end with
 abbrev pub stage_of : List Item → Stage
 stage_of before = stage_after (last_or None before)
 
@@ -49,29 +53,36 @@ abbrev pub is_begun : Stage → Bool
 is_begun stages.Commands = true
 is_begun _ = false
 
+-- the same of the lines so far
 abbrev pub has_begun : List Item → Bool
 has_begun before = is_begun (stage_of before)
 
+-- the names of the regions, if the line says them
 abbrev pub regions_in : Item → Option (List (List ℕ))
 regions_in (items.Regions names) = Some names
 regions_in _ = None
 
+-- the names of the colours, if the line says them
 abbrev pub colours_in : Item → Option (List (List ℕ))
 colours_in (items.Colours names) = Some names
 colours_in _ = None
 
+-- the number of rows, if the line says it
 abbrev pub rows_in : Item → Option ℕ
 rows_in (items.Rows number) = Some number
 rows_in _ = None
 
+-- a client's name and its region, if the line says them
 abbrev pub clients_in : Item → Option (List ℕ × ℕ)
 clients_in (items.Client name home) = Some (name, home)
 clients_in _ = None
 
+-- an object, if the line declares one
 abbrev pub objects_in : Item → Option Object
 objects_in (items.Declared object) = Some object
 objects_in _ = None
 
+-- a command, if the line asks for something
 abbrev pub commands_in : Item → Option Command
 commands_in (items.Asks command) = Some command
 commands_in _ = None
@@ -81,9 +92,11 @@ abbrev pub last_said : {X : Type 0} → X → List X → X
 last_said x [] = x
 last_said x (y ∷ ys) = last_said y ys
 
+-- the names of the regions, by number
 abbrev pub region_names : List Item → List (List ℕ)
 region_names before = last_said [] (filter_map regions_in before)
 
+-- the names of the colours, by number
 abbrev pub colour_names : List Item → List (List ℕ)
 colour_names before = last_said [] (filter_map colours_in before)
 
@@ -95,18 +108,23 @@ limits_of before = VERSION_1
 abbrev pub row_number : List Item → ℕ
 row_number before = last_said (limits_of before).unsaid_rows (filter_map rows_in before)
 
+-- the names of the clients, by number
 abbrev pub client_names : List Item → List (List ℕ)
 client_names before = map (λ c. c.0) (filter_map clients_in before)
 
+-- the regions of the clients, by number
 abbrev pub client_homes : List Item → List ℕ
 client_homes before = map (λ c. c.1) (filter_map clients_in before)
 
+-- the objects, by number
 abbrev pub objects : List Item → List Object
 objects before = filter_map objects_in before
 
+-- the names of the objects, by number
 abbrev pub object_names : List Item → List (List ℕ)
 object_names before = map (λ o. o.name) (objects before)
 
+-- the commands, in the order of the file
 abbrev pub commands : List Item → List Command
 commands before = filter_map commands_in before
 
@@ -126,44 +144,28 @@ script_of said = record {
   commands = commands said;
 }
 
+-- the command is its client's last
+abbrev pub is_last : Use → Bool
+is_last (OfLog stops) = stops
+is_last _ = false
+
+-- the command is to stop within its append
 abbrev pub is_stop : What → Bool
-is_stop (whats.Append _ _) = false
-is_stop (whats.Stop _ _ _) = true
-is_stop (whats.Sync _) = false
-is_stop (whats.Scan _) = false
-is_stop (whats.Pull _ _) = false
-is_stop (whats.Trim _) = false
-is_stop (whats.Put _ _ _) = false
-is_stop (whats.Get _ _) = false
-is_stop (whats.Del _ _) = false
-is_stop (whats.PutAll _ _) = false
-is_stop (whats.GetAll _ _) = false
-is_stop (whats.Read _ _) = false
-is_stop (whats.Commit _ _) = false
-is_stop (whats.Enq _ _) = false
-is_stop (whats.Deq _) = false
+is_stop what = is_last (use_of what)
 
 -- an earlier command of the client is its last
 abbrev pub has_stopped : List Item → ℕ → Bool
 has_stopped before client = list_any (λ c. (c.client == client) && is_stop c.what) (commands before)
 
 -- whether a read of the object is there to be used up, after a command where it was or was not before
+abbrev pub held_by : ℕ → Bool → Use → Bool
+held_by object held (OfObject other Takes) = held || (other == object)
+held_by object held (OfObject other UsesUp) = held && not (other == object)
+held_by object held _ = held
+
+-- the same after the command
 abbrev pub holds_read : ℕ → Bool → What → Bool
-holds_read object held (whats.Append _ _) = held
-holds_read object held (whats.Stop _ _ _) = held
-holds_read object held (whats.Sync _) = held
-holds_read object held (whats.Scan _) = held
-holds_read object held (whats.Pull _ _) = held
-holds_read object held (whats.Trim _) = held
-holds_read object held (whats.Put _ _ _) = held
-holds_read object held (whats.Get _ _) = held
-holds_read object held (whats.Del _ _) = held
-holds_read object held (whats.PutAll _ _) = held
-holds_read object held (whats.GetAll _ _) = held
-holds_read object held (whats.Read other _) = held || (other == object)
-holds_read object held (whats.Commit other _) = held && not (other == object)
-holds_read object held (whats.Enq _ _) = held
-holds_read object held (whats.Deq _) = held
+holds_read object held what = held_by object held (use_of what)
 
 -- the client has a read of the object that no commit has used up
 abbrev pub has_read : List Item → ℕ → ℕ → Bool

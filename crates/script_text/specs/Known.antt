@@ -12,9 +12,11 @@ use Rattle.script_text.specs.declared.reads.HeldRead.{HeldRead}
 use Rattle.script_text.specs.Items.{stage_of, stage_after, script_of, commands, is_stop}
 use Rattle.script_text.specs.Reads.{reads_after, held_after}
 
+-- the client of the command, if it is a stop
 abbrev pub stopped_in : Command → Option ℕ
 stopped_in command = if is_stop command.what then Some command.client else None
 
+-- what is known after lines that say these items
 abbrev pub known_of : List Item → Known
 known_of before = record {
   stage = stage_of before;
@@ -35,14 +37,17 @@ with_item script (items.Declared object) = record script { objects = script.obje
 with_item script items.Begin = script
 with_item script (items.Asks command) = record script { commands = script.commands ++ command ∷ [] }
 
+-- the client that the line stops, if it stops one
 abbrev pub stops_in : Item → List ℕ
 stops_in (items.Asks command) = if is_stop command.what then command.client ∷ [] else []
 stops_in _ = []
 
+-- the reads that commits may use up, after one more line
 abbrev pub held_with : List HeldRead → Item → List HeldRead
 held_with held (items.Asks command) = reads_after held command.client command.what
 held_with held _ = held
 
+-- what is known after one more item
 abbrev pub known_after : Known → Item → Known
 known_after known item = record {
   stage = stage_after (Some item);

@@ -48,6 +48,7 @@ pub record IsAsked (known : Known) (bytes : List ℕ) (what : What) : Type 0 whe
   pub whole : IsWellCut bytes
   pub asks : (client : ℕ) → asked_at known client (fields_of bytes) ≡ Ok what
 
+-- what a line of ASCII gives; line 1 is the version's
 unfoldable pub line_at : Known → ℕ → List ℕ → Result (Option Item) Reason
 line_at known number line =
     refuse (not (is_ascii_line line)) reasons.NotAscii (refuse ((number == 1) && not (bytes_eq line (codes "fuzzylog 1"))) reasons.BadVersion (said_at known number line))
@@ -69,10 +70,12 @@ ended_at number known =
     if is_begun known.stage then Ok known.script
     else Err (number + 1, if number == 0 then reasons.BadVersion else reasons.MissingBegin)
 
+-- the same, where no line was refused before
 abbrev pub ends_at : ℕ → Result Known (ℕ × Reason) → Result Script (ℕ × Reason)
 ends_at number (Ok known) = ended_at number known
 ends_at number (Err refusal) = Err refusal
 
+-- the script that the bytes give, or the first faulty line with its reason
 unfoldable pub script_at : List ℕ → Result Script (ℕ × Reason)
 script_at bytes =
     if nat_lt MAX_BYTES (length bytes) then Err (0, reasons.ScriptTooLong)
@@ -88,6 +91,7 @@ abbrev pub FailsAt : {X : Type 0} → ScriptFault → Result X (ℕ × Reason) �
 FailsAt script_faults.NoMemory reading = Unit {0}
 FailsAt (script_faults.Refused line why) reading = reading ≡ Err (line, why)
 
+-- the same of all that it may have returned, a value or a fault
 abbrev pub GivesAt : {X : Type 0} → Result X ScriptFault → Result X (ℕ × Reason) → Type 0
 GivesAt (Ok x) reading = reading ≡ Ok x
 GivesAt (Err fault) reading = FailsAt fault reading

@@ -24,18 +24,23 @@ abbrev pub first_in : List (List ℕ) → List ℕ
 first_in [] = []
 first_in (field ∷ fields) = field
 
+-- from the one number to the other
 abbrev pub is_between : ℕ → ℕ → ℕ → Bool
 is_between low high n = nat_le low n && nat_le n high
 
+-- bytes that a line may have: printable ASCII
 abbrev pub is_ascii_line : List ℕ → Bool
 is_ascii_line line = list_all (is_between 32 126) line
 
+-- a small letter
 abbrev pub is_letter : ℕ → Bool
 is_letter b = is_between 97 122 b
 
+-- a decimal digit
 abbrev pub is_digit : ℕ → Bool
 is_digit b = is_between 48 57 b
 
+-- a small letter or a digit
 abbrev pub is_letter_or_digit : ℕ → Bool
 is_letter_or_digit b = is_letter b || is_digit b
 
@@ -57,9 +62,11 @@ abbrev pub is_number : ℕ → List ℕ → Bool
 is_number most [] = false
 is_number most (b ∷ bs) = list_all is_digit (b ∷ bs) && (is_between 49 57 b || (length bs == 0)) && nat_lt (length bs) most
 
+-- the number that digits say
 abbrev pub number_value : List ℕ → ℕ
 number_value digits = fold (λ n b. 10 * n + (b - 48)) 0 digits
 
+-- the name is one of these
 abbrev pub is_among : List (List ℕ) → List ℕ → Bool
 is_among names name = list_any (bytes_eq name) names
 

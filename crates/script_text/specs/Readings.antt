@@ -16,6 +16,7 @@ use Rattle.script_text.specs.Table.{is_of}
 use Rattle.script_text.specs.Grammar.{has_equals, key_in, value_in}
 
 infixl 10 ◌>>=◌
+-- what is read on with a value, or the reason why there is none
 abbrev pub ◌>>=◌ : {A B : Type 0} → Result A Reason → (A → Result B Reason) → Result B Reason
 (Ok x) >>= f = f x
 (Err why) >>= f = Err why
@@ -30,6 +31,7 @@ abbrev pub Fails : {X : Type 0} → Fault → Result X Reason → Type 0
 Fails faults.NoMemory reading = Unit {0}
 Fails (faults.Refused why) reading = reading ≡ Err why
 
+-- the same of all that it may have returned, a value or a fault
 abbrev pub Gives : {X : Type 0} → Result X Fault → Result X Reason → Type 0
 Gives (Ok x) reading = reading ≡ Ok x
 Gives (Err fault) reading = Fails fault reading
@@ -52,6 +54,7 @@ fields_in fields = map (λ field. field.now) fields
 unfoldable pub number_at : Reason → List (List ℕ) → List ℕ → Result ℕ Reason
 number_at why names field = found_or why (number_of names field)
 
+-- a name that is new among those of its kind
 unfoldable pub new_name_at : List (List ℕ) → List ℕ → Result (List ℕ) Reason
 new_name_at names field = refuse (not (is_name field)) reasons.BadName (refuse (is_among names field) reasons.NameRepeated (Ok field))
 
@@ -63,6 +66,7 @@ each_at one earlier (field ∷ fields) = do
   others ← each_at one (earlier ++ field ∷ []) fields
   Ok (first ∷ others)
 
+-- new names of one kind, each apart from those before it
 abbrev pub new_names_at : List (List ℕ) → Result (List (List ℕ)) Reason
 new_names_at fields = each_at new_name_at [] fields
 
@@ -78,6 +82,7 @@ fresh_colour_at names set field = do
   colour ← number_at reasons.UnknownColour names field
   refuse (has set colour) reasons.ColourRepeated (Ok colour)
 
+-- the numbers of distinct colours
 abbrev pub colours_at : List (List ℕ) → List (List ℕ) → Result (List ℕ) Reason
 colours_at names fields = each_at (colour_at names) [] fields
 
@@ -87,9 +92,11 @@ colours_set_at names fields = do
   order ← colours_at names fields
   Ok (set_of order, length order)
 
+-- a node's text
 unfoldable pub text_at : List ℕ → Result (List ℕ) Reason
 text_at field = refuse (not (is_text field)) reasons.TextLength (Ok field)
 
+-- a value of an object
 unfoldable pub value_at : List ℕ → Result (List ℕ) Reason
 value_at field = refuse (not (is_key field)) reasons.BadValue (Ok field)
 
@@ -121,14 +128,17 @@ object_at of (first ∷ objects) field =
 
 -- ---- so many fields
 
+-- a line with no field behind its word
 abbrev pub with_none : {A : Type 0} → Result A Reason → List (List ℕ) → Result A Reason
 with_none reading [] = reading
 with_none reading (a ∷ args) = Err reasons.BadForm
 
+-- a line with one field behind its word
 abbrev pub with_one : {A : Type 0} → (List ℕ → Result A Reason) → List (List ℕ) → Result A Reason
 with_one f (a ∷ []) = f a
 with_one f _ = Err reasons.BadForm
 
+-- a line with two fields behind its word
 abbrev pub with_two : {A : Type 0} → (List ℕ → List ℕ → Result A Reason) → List (List ℕ) → Result A Reason
 with_two f (a ∷ b ∷ []) = f a b
 with_two f _ = Err reasons.BadForm

@@ -18,9 +18,11 @@ use Rattle.script_text.specs.declared.table.Sort.TheVariants as sorts
 use Rattle.script_text.specs.declared.given.Given.{Given}
 use Rattle.script_text.specs.Words.{row_of, word_text}
 
+-- the fields behind a word
 abbrev pub row_fields : Word → List Field
 row_fields word = (row_of word).2.now
 
+-- what is tested after the fields
 abbrev pub last_of : Word → Last
 last_of word = (row_of word).3
 
@@ -49,14 +51,17 @@ at_most (fields.Keys most) = Some most
 at_most (fields.Pairs most) = Some most
 at_most (fields.Colours most) = Some most
 
+-- the fields that one kind takes: one, or all that are left
 abbrev pub own_in : Option ℕ → List (List ℕ) → List (List ℕ)
 own_in None args = take 1 args
 own_in (Some most) args = args
 
+-- the fields that it leaves
 abbrev pub later_in : Option ℕ → List (List ℕ) → List (List ℕ)
 later_in None args = drop 1 args
 later_in (Some most) args = []
 
+-- so many fields are as many as it may take
 abbrev pub has_in : Option ℕ → ℕ → Bool
 has_in None n = nat_le 1 n
 has_in (Some most) n = nat_le 1 n && nat_le n most
@@ -65,6 +70,7 @@ has_in (Some most) n = nat_le 1 n && nat_le n most
 abbrev pub own_fields : Field → List (List ℕ) → List (List ℕ)
 own_fields field args = own_in (at_most field) args
 
+-- of the fields that are left, those after the ones that it takes
 abbrev pub later_fields : Field → List (List ℕ) → List (List ℕ)
 later_fields field args = later_in (at_most field) args
 
@@ -120,15 +126,18 @@ what_of words.Deq g = whats.Deq g.object
 abbrev pub SortRow : Type 0
 SortRow = (record { now : List ℕ }) × (record { now : List Field })
 
+-- the row of each sort of object
 abbrev pub sort_row : Sort → SortRow
 sort_row sorts.Map = MAP_LINE
 sort_row sorts.Tx = TX_LINE
 sort_row sorts.Causal = CAUSAL_LINE
 sort_row sorts.Queue = QUEUE_LINE
 
+-- the word of an object's line
 abbrev pub sort_text : Sort → List ℕ
 sort_text sort = (sort_row sort).0.now
 
+-- the fields after the object's name
 abbrev pub sort_fields : Sort → List Field
 sort_fields sort = (sort_row sort).1.now
 
@@ -136,6 +145,7 @@ sort_fields sort = (sort_row sort).1.now
 abbrev pub sort_at : List ℕ → Option Sort
 sort_at word = find (λ sort. bytes_eq word (sort_text sort)) SORTS
 
+-- the sort of an object
 abbrev pub sort_of : Kind → Sort
 sort_of (kinds.Map _ _) = sorts.Map
 sort_of (kinds.Tx _ _) = sorts.Tx

@@ -3,6 +3,7 @@ ghost use Rattle.std.specs.Prelude.{◌≡◌, [], OnOk};
 ghost use Rattle.script_text.specs.Reads.{same_read, holds, with_read, without_read, reads_after};
 
 use crate::script::What;
+use crate::uses::{ReadUse, Use};
 use std::alloc::{AllocError, Global};
 use std::marker::Model;
 
@@ -76,24 +77,19 @@ impl HeldReads {
     pub fn follow(&mut self, client: u8, what: &What) -> Result<(), AllocError>
         ensures { OnOk result (self.new ≡ reads_after self.old client what.now) }
     {
-        match what {
-            What::Read { object, .. } => self.add(HeldRead {
-                client,
-                object: *object,
-            }),
-            What::Commit { object, .. } => {
-                self.use_up(HeldRead {
-                    client,
-                    object: *object,
-                });
+        match what.use_of() {
+            Use::OfObject {
+                object,
+                read: ReadUse::Takes,
+            } => self.add(HeldRead { client, object }),
+            Use::OfObject {
+                object,
+                read: ReadUse::UsesUp,
+            } => {
+                self.use_up(HeldRead { client, object });
                 Ok(())
             }
-            What::Append { .. } | What::Stop { .. } | What::Sync { .. } | What::Scan { .. } => Ok(
-                (),
-            ),
-            What::Pull { .. } | What::Trim { .. } | What::Put { .. } | What::Get { .. } => Ok(()),
-            What::Del { .. } | What::PutAll { .. } | What::GetAll { .. } => Ok(()),
-            What::Enq { .. } | What::Deq { .. } => Ok(()),
+            _ => Ok(()),
         }
     }
 }

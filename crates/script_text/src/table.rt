@@ -1,7 +1,7 @@
 // The table of commands: for each word one row.
 //
 // A new command without an object is a variant of `What` and of `Word`, a row here and its place in `WORDS`, and its line in
-// `row_of`, `what_of` and `word_of`; the checker names each of these. A new kind of field has its line in `Spells`,
+// `row_of`, `what_of`, `word_of` and `use_of`; the checker names each of these. A new kind of field has its line in `Spells`,
 // `kind_tests`, `taken_at` and `Given::take`.
 ghost use Rattle.std.specs.Prelude.{◌≡◌, ◌≤◌, length};
 ghost use Rattle.script_text.specs.Table.{sort_text, sort_fields, sort_at, row_fields, last_of, word_at, at_most, own_fields, later_fields, has, fits};
@@ -54,23 +54,23 @@ pub enum Last {
 /// A word, its text, the fields after it from left to right, and what is tested then.
 pub type Row = (Word, &'static [u8], &'static [Field], Last);
 
-const NONE: Kinds = Kinds {
+pub const NONE: Kinds = Kinds {
     map: false,
     tx: false,
     causal: false,
     queue: false,
 };
 
-const MAP: Kinds = Kinds { map: true, ..NONE };
+pub const MAP: Kinds = Kinds { map: true, ..NONE };
 
-const ANY_MAP: Kinds = Kinds {
+pub const ANY_MAP: Kinds = Kinds {
     causal: true,
     ..MAP
 };
 
-const TX: Kinds = Kinds { tx: true, ..NONE };
+pub const TX: Kinds = Kinds { tx: true, ..NONE };
 
-const QUEUE: Kinds = Kinds {
+pub const QUEUE: Kinds = Kinds {
     queue: true,
     ..NONE
 };

@@ -4,9 +4,7 @@ use Rattle.std.proofs.Common.{get_or, drop, refl, sym, ap, ◌∙◌, arith, inl
 use Rattle.std.specs.Prelude.{map, Some, ◌||◌, unwrap_or}
 use Rattle.std.specs.List.{AllByRecursion, filter, find, list_all, list_any}
 use Rattle.std.proofs.lemmas.Bool.{cond_both, cond-true, cond-false, or_parts, or_cases, cases_Bool, false≢true}
-
-some_inj : {X : Type 0} {x y : X} → Some x ≡ Some y → x ≡ y
-some_inj {x} e = ap (λ o. unwrap_or o x) e
+use Rattle.log_node.proofs.CallerLemmas.{same_some as some_inj}
 
 module _ {X : Type 0} where
   pub each-weaker : (P Q : X → Type 0) → ((x : X) → P x → Q x) → (xs : List X) → AllByRecursion P xs →

@@ -7,6 +7,7 @@ use Rattle.log_node.specs.declared.marks.Why.TheVariants.{Memory, StampEnd}
 use Rattle.log_node.specs.declared.marks.Outcome.TheVariants.{Open, Gone, Final}
 use Rattle.log_node.specs.Outcomes.{outcome_of, is_missing, is_stamp_end_fence, is_memory_fence, number_of, greatest}
 use Rattle.skeen_core.specs.declared.outcomes.Tally.{Tally}
+use Rattle.log_node.proofs.CallerLemmas.{or_false as or_none}
 
 -- the tally with the marks of the colours that are left is that of the marks of all
 pub record IsTallied (mark_of : ℕ → Mark) (all left : List ℕ) (t : Tally) : Type 0 where
@@ -16,10 +17,6 @@ pub record IsTallied (mark_of : ℕ → Mark) (all left : List ℕ) (t : Tally) 
   pub memory : (list_any is_memory_fence (map mark_of left) || t.memory) ≡ list_any is_memory_fence (map mark_of all)
   pub greatest_is : max (greatest (map number_of (map mark_of left))) t.greatest
       ≡ greatest (map number_of (map mark_of all))
-
-or_none : (b : Bool) → (b || false) ≡ b
-or_none true = refl
-or_none false = refl
 
 -- the first of some to the front of the others
 or_moved : (a b c : Bool) → (b || (a || c)) ≡ ((a || b) || c)

@@ -30,6 +30,7 @@ use Rattle.stamp_board.specs.Inside.{IsIn, Gathered}
 use Rattle.stamp_board.proofs.Places.{owner_of_mark, owner_of_row}
 use Rattle.stamp_board.proofs.Keeps.{fits}
 use Rattle.stamp_board.proofs.Possible.{may_be}
+pub use Rattle.log_node.proofs.CallerLemmas.{ok_then as ok_also}
 
 pub found_at : (l : List ℕ) (i x : ℕ) → get_elem? l i ≡ some x → get_or l i 0 ≡ x
 found_at [] i x e = absurd (some-ne-none x (sym e))
@@ -67,10 +68,6 @@ pub all_of_seats : (P : Row → Type 0) (ss : List Seat)
 all_of_seats P [] each = λ k d lt. absurd (omega arith)
 all_of_seats P (s ∷ ss) each = All-append P (rows_begun s) (all_begun ss) (all_of_seat P s (each 0 s refl))
     (all_of_seats P ss (λ n t here. each (suc n) t here))
-
-pub ok_also : {T E : Type 0} (r : Result T E) (P Q : T → Type 0) → ((x : T) → P x → Q x) → IfOk r P → IfOk r Q
-ok_also (Ok x) P Q f h = f x h
-ok_also (Err e) P Q f h = tt
 
 -- what the rule says of the last words
 pub last_words : (key k : Size) → key ≡ k → (id : ℕ) (v : View) (ws : List ℕ) (xs : List Node)

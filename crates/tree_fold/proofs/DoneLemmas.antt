@@ -16,6 +16,7 @@ use Rattle.tree_fold.proofs.OrderLemmas.{same_is, same_turned, above_is, below_n
 use Rattle.tree_fold.proofs.EntryLemmas.{all_map, all_two, all_join, all_left, all_right, item_drop, Over, Below, whole_rises, rises_without, rises_put, NotBelow, Apart, value_later, value_none, value_behind, value_swap, value_absent, below_apart, later_apart, found_none, found_other, at_place}
 use Rattle.tree_fold.proofs.TreeLemmas.{alike, value_if, may_make, may_remove, value_removed}
 use Rattle.tree_fold.proofs.ClosedLemmas.{closed_same, closed_changed}
+use Rattle.log_node.proofs.CallerLemmas.{or_false}
 
 -- entries that rise and have the values that a change makes are what it does
 pub does : (es new : List Entry) (change : Change) → IsKept es → why es change ≡ None → Rises new → ((q : Path) → value_in new q ≡ value_in (changed es change) q) → Does es new change
@@ -118,10 +119,6 @@ any_none f (x ∷ es) all = rw all.0 (any_none f es all.1)
 any_alike : (f g : Entry → Bool) (es : List Entry) → AllByRecursion (λ e. f e ≡ g e) es → list_any f es ≡ list_any g es
 any_alike f g [] all = refl
 any_alike f g (x ∷ es) all = rw (all.0, any_alike f g es all.1) refl
-
-or_false : (b : Bool) → (b || false) ≡ b
-or_false true = refl
-or_false false = refl
 
 -- a test that fails where an entry does not begin with the path
 pub branch_any : (es : List Entry) (p : Path) (ends : ℕ × ℕ) (f g : Entry → Bool) → IsBranch es p ends

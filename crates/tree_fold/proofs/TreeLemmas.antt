@@ -13,13 +13,9 @@ use Rattle.tree_fold.specs.Trees.{Tree, value_in, is_there, has_more, moved_path
 use Rattle.tree_fold.specs.TreeStates.{SameTree}
 use Rattle.tree_fold.proofs.OrderLemmas.{begins_is, begins_front, same_is, same_self, same_turned}
 use Rattle.tree_fold.proofs.EntryLemmas.{value_here, value_later}
+pub use Rattle.log_node.proofs.CallerLemmas.{same_tests as alike}
 
 -- ---- tests
-
-pub alike : (b c : Bool) → (b ≡ true → c ≡ true) → (c ≡ true → b ≡ true) → b ≡ c
-alike true c f g = sym (f refl)
-alike false true f g = g refl
-alike false false f g = refl
 
 -- each beginning of a path that is there is there
 abbrev pub IsClosed : Tree → Type 0
@@ -169,9 +165,6 @@ pub begins_apart : (front a b : Path) → begins_with front a ≡ true → begin
 begins_apart front a b h k = false_from_ne_true (is_same a b) (λ same. both_ways (begins_with front a) (ap (begins_with front) (same_is a b same) ∙ k) h)
 
 module _ (source target : Path) where
-  move_entry : Entry → Entry
-  move_entry e = record { path = moved_path source target e.path; value = e.value }
-
   pub value_of_moved : (t : Tree) (q : Path) → NoneBegins target t → value_in (changed t (Move source target)) q ≡ value_moved source target t q
   value_of_moved [] q none = elim (cases_Bool (begins_with target q)) [
     | inl h ↦ rw h refl

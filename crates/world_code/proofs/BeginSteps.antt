@@ -32,6 +32,7 @@ use Rattle.world_code.proofs.ChangedParts.{clients_changed, nodes_changed, rows_
 use Rattle.world_code.proofs.ChangedParts.{reached_step}
 use Rattle.world_code.proofs.RaiseSteps.{default_free}
 use Rattle.world_code.proofs.Sets.{all_pass}
+pub use Rattle.log_node.proofs.CallerLemmas.{get_push as pushed}
 
 -- A list with one more item: what stands at its end, and elsewhere
 
@@ -52,17 +53,6 @@ slice_other [] x zero ne = absurd (ne refl)
 slice_other [] x (suc n) ne = refl
 slice_other (y ∷ ys) x zero ne = refl
 slice_other (y ∷ ys) x (suc n) ne = slice_other ys x n (λ e. ne (ap (λ (k : ℕ). suc k) e))
-
-pub pushed : {A : Type 0} (xs : List A) (x : A) (n : ℕ) (e : A) → slice_get (xs ++ x ∷ []) n ≡ Some e
-    → (slice_get xs n ≡ Some e) ⊎ ((n ≡ length xs) × (x ≡ e))
-pushed [] x zero e h = inr (refl, let z : x ≡ e = cc in z)
-pushed [] x (suc n) e h = absurd (let z : ⊥ = cc in z)
-pushed (y ∷ ys) x zero e h = inl h
-pushed {A} (y ∷ ys) x (suc n) e h = turn (pushed ys x n e h) where
-  turn : (slice_get ys n ≡ Some e) ⊎ ((n ≡ length ys) × (x ≡ e))
-      → (slice_get ys n ≡ Some e) ⊎ ((suc n ≡ suc (length ys)) × (x ≡ e))
-  turn (inl p) = inl p
-  turn (inr p) = inr (ap (λ (k : ℕ). suc k) p.0, p.1)
 
 -- the row that is begun for a node
 abbrev pub new_row : Node → RowState

@@ -26,11 +26,7 @@ use Rattle.world_laws.proofs.CallerLemmas.{at_updated, at_updated_at, not_place}
 use Rattle.world_code.specs.WorldView.{WorldView, client_at, row_in, world_of, AreRows, IsWhole}
 use Rattle.world_code.proofs.EqualWorlds.{worlds}
 use Rattle.world_code.proofs.ChangedParts.{rows_by, AreClients, differs}
-
-item_there : {A : Type 0} (xs : List A) (n : ℕ) → n < length xs → (x : A) × (slice_get xs n ≡ Some x)
-item_there [] n lt = absurd (let f : ⊥ = omega (arith, lt) in f)
-item_there {A} (x ∷ xs) zero lt = (x, refl)
-item_there (x ∷ xs) (suc n) lt = item_there xs n (omega (arith, lt))
+use Rattle.log_node.proofs.CallerLemmas.{get_within as item_there}
 
 -- a list of lists that has an item in one has that one
 list_there : {A : Type 0} (xs : List (List A)) (i n : ℕ) → n < length (get_or xs i []) → i < length xs

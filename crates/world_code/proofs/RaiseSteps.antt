@@ -12,12 +12,8 @@ use Rattle.world_laws.specs.declared.steps.Step.TheVariants as steps
 use Rattle.world_laws.specs.Worlds.{may_raise, after_raise, is_column}
 use Rattle.world_code.specs.WorldView.{WorldView, column_at, world_of, IsWhole}
 use Rattle.world_code.proofs.ChangedParts.{with_column, column_world, whole_column}
-
--- within a list it does not matter what stands outside
-pub default_free : {A : Type 0} (xs : List A) (i : ℕ) (d e : A) → i < length xs → get_or xs i d ≡ get_or xs i e
-default_free [] i d e lt = absurd (let f : ⊥ = omega (arith, lt) in f)
-default_free (x ∷ xs) zero d e lt = refl
-default_free (x ∷ xs) (suc i) d e lt = default_free xs i d e (omega (arith, lt))
+pub use Rattle.log_node.proofs.CallerLemmas.{on_err}
+pub use Rattle.log_node.proofs.CallerLemmas.{any_default as default_free}
 
 -- a place within a list is one within an equal list
 pub list_there : {A : Type 0} (xs ys : List A) (i : ℕ) → xs ≡ ys → i < length ys → i < length xs
@@ -36,11 +32,6 @@ pub put_back : {A : Type 0} {items now : List A} (i : ℕ) {old new : A} → ite
     → new ≡ old → set items i new ≡ now
 put_back {A} {items} {now} i {old} same old_is new_is =
     ap (set items i) (new_is ∙ old_is) ∙ (set-get_or items i old ∙ same)
-
--- where a call failed, nothing changed
-pub on_err : {R E : Type 0} (r : Result R E) (P : Type 0) → P → OnErr r P
-on_err (Ok x) P p = tt
-on_err (Err e) P p = p
 
 -- what a raise asks for
 pub record MayRaise (code : WorldView) (region colour to : ℕ) : Type 0 where

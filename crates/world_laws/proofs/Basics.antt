@@ -9,6 +9,7 @@ use Rattle.col_core.specs.Keeping.{updated, updated_at}
 use Rattle.col_core.proofs.CallerLemmas.{choice, if_true, apart, same_id-true, same_id-is, In}
 pub use Rattle.col_core.proofs.CallerLemmas.{contains_in, in_append, in_contains, in_left, in_reverse, in_right, in_slice}
 pub use Rattle.col_core.proofs.CallerLemmas.{slice_in}
+pub use Rattle.log_node.proofs.CallerLemmas.{get_last as slice_last}
 
 -- a fact of a changed function at any place
 pub at_updated : {A : Type 0} (P : A → Type 0) (f : ℕ → A) (n : ℕ) (x : A) (m : ℕ) → (m ≡ n → P x)
@@ -57,7 +58,3 @@ in_last {A} x xs y i = turn (in_append x xs (y ∷ []) i) where
   turn (inl j) = inl j
   turn (inr (inl e)) = inr e
   turn (inr (inr f)) = absurd f
-
-pub slice_last : {A : Type 0} (xs : List A) (x : A) → slice_get (xs ++ x ∷ []) (length xs) ≡ Some x
-slice_last [] e = refl
-slice_last (d ∷ ds) e = slice_last ds e

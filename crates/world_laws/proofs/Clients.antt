@@ -32,6 +32,8 @@ use Rattle.world_laws.proofs.Copies.{plain_copies_last}
 pub use Rattle.col_core.proofs.CallerLemmas.{head_with, in_heads}
 use Rattle.world_laws.proofs.Histories.{entries_dated, lawful_past_in, status-last, clock_within, stamp_within}
 use Rattle.world_laws.proofs.Keeps.{at_last, lawful_last, may_enter, heads_last, status_stays, fits_one, fits_all, kind-other, kind-own, next_unborn, next_absent, sound_kind, fresh_after}
+pub use Rattle.col_core.proofs.CallerLemmas.{in_take}
+pub use Rattle.col_core.proofs.CallerLemmas.{in_flat_map}
 
 -- Begin
 
@@ -281,21 +283,6 @@ pub in_drop : {A : Type 0} (n : ℕ) (xs : List A) (x : A) → In x (drop n xs) 
 in_drop zero xs x i = i
 in_drop (suc n) [] x i = i
 in_drop (suc n) (y ∷ xs) x i = inr (in_drop n xs x i)
-
-pub in_take : {A : Type 0} (n : ℕ) (xs : List A) (x : A) → In x (take n xs) → In x xs
-in_take zero xs x i = absurd i
-in_take (suc n) [] x i = i
-in_take (suc n) (y ∷ xs) x (inl e) = inl e
-in_take (suc n) (y ∷ xs) x (inr i) = inr (in_take n xs x i)
-
-pub in_flat_map : {A B : Type 0} (f : A → List B) (xs : List A) (y : B) → In y (flat_map f xs)
-    → (x : A) × In x xs × In y (f x)
-in_flat_map f [] y i = absurd i
-in_flat_map {A} {B} f (x ∷ xs) y i = turn (in_append y (f x) (flat_map f xs) i) (λ j. in_flat_map f xs y j) where
-  turn : In y (f x) ⊎ In y (flat_map f xs) → (In y (flat_map f xs) → (z : A) × In z xs × In y (f z))
-      → (z : A) × In z (x ∷ xs) × In y (f z)
-  turn (inl j) rest = (x, inl refl, j)
-  turn (inr j) rest = let r = rest j in (r.0, inr r.1, r.2)
 
 -- the heads that a dated history brings are those that its entries bring
 dated_heads : (region : ℕ) (ds : List Dated)

@@ -24,6 +24,7 @@ use Rattle.world_laws.proofs.Clients.{begun_client, used_before, single_client, 
 use Rattle.world_laws.proofs.OfColumns.{give_entry, trim_entry}
 use Rattle.world_laws.proofs.OfRows.{may_fence_marks}
 use Rattle.world_laws.proofs.Growing.{Grows, played_client, grows_begin, grows_mark, grows_propose, grows_decide, grows_last, grows_client, grows_single}
+use Rattle.log_node.proofs.CallerLemmas.{get_push as last_cases}
 
 -- what the lists say of an event
 abbrev pub FitsSingle : World → ℕ → ℕ → ℕ → Event → Type 0
@@ -98,17 +99,6 @@ listed_next w w' l g ids counts rows singles = record {
   single r c e (inr f) = f
 
 -- A node more
-
-last_cases : {A : Type 0} (xs : List A) (d : A) (n : ℕ) (e : A) → slice_get (xs ++ d ∷ []) n ≡ Some e
-    → (slice_get xs n ≡ Some e) ⊎ ((n ≡ length xs) × (d ≡ e))
-last_cases [] d zero e h = inr (refl, let x : d ≡ e = cc in x)
-last_cases [] d (suc n) e h = absurd (let x : ⊥ = cc in x)
-last_cases (x ∷ xs) d zero e h = inl h
-last_cases {A} (x ∷ xs) d (suc n) e h = turn (last_cases xs d n e h) where
-  turn : (slice_get xs n ≡ Some e) ⊎ ((n ≡ length xs) × (d ≡ e))
-      → (slice_get xs n ≡ Some e) ⊎ ((suc n ≡ length (x ∷ xs)) × (d ≡ e))
-  turn (inl p) = inl p
-  turn (inr p) = inr (ap suc p.0, p.1)
 
 more_ids : (w : World) → Listed w → (client : ℕ) (new : Node) → new.id ≡ next_id w client → (a n : ℕ) (node : Node)
     → slice_get ((with_node w client new).nodes a) n ≡ Some node

@@ -16,12 +16,14 @@ use Rattle.world_laws.proofs.Basics.{in_append, in_left, in_right}
 use Rattle.world_laws.proofs.Held.{OfRow, Held}
 use Rattle.world_laws.proofs.Clients.{in_flat_map}
 use Rattle.world_laws.proofs.Told.{Told}
+use Rattle.col_core.proofs.CallerLemmas.{range_has as range_in}
+use Rattle.col_core.proofs.CallerLemmas.{in_range}
+use Rattle.col_core.proofs.CallerLemmas.{in_map-back as map_in}
+use Rattle.col_core.proofs.CallerLemmas.{in_flat_map-back as flat_map_in}
+pub use Rattle.col_core.proofs.CallerLemmas.{in_map}
+pub use Rattle.col_core.proofs.CallerLemmas.{all_in}
 
 -- Lists
-
-pub all_in : {A : Type 0} (P : A → Type 0) (xs : List A) → ((x : A) → In x xs → P x) → All P xs
-all_in P [] h = All-nil P
-all_in P (x ∷ xs) h = All-cons P x xs (h x (inl refl)) (all_in P xs (λ y i. h y (inr i)))
 
 -- the relation holds of each element and each later one
 pub Pairs : {A : Type 0} → (A → A → Type 0) → List A → Type 0
@@ -42,36 +44,6 @@ pub pairs_all : {A : Type 0} (R : A → A → Type 0) (xs : List A) → Pairs R 
 unfolding Pairs
 pairs_all R [] h = λ i j d lt within. absurd (let f : ⊥ = omega (arith, within) in f)
 pairs_all R (x ∷ xs) h = AllPairs-cons R x xs (all_in (R x) xs h.0) (pairs_all R xs h.1)
-
-pub in_map : {A B : Type 0} (f : A → B) (xs : List A) (y : B) → In y (map f xs) → (x : A) × In x xs × (f x ≡ y)
-in_map f [] y i = absurd i
-in_map f (x ∷ xs) y (inl e) = (x, inl refl, e)
-in_map f (x ∷ xs) y (inr i) = let r = in_map f xs y i in (r.0, inr r.1, r.2)
-
-map_in : {A B : Type 0} (f : A → B) (xs : List A) (x : A) → In x xs → In (f x) (map f xs)
-map_in f [] x i = absurd i
-map_in f (y ∷ xs) x (inl e) = inl (ap f e)
-map_in f (y ∷ xs) x (inr i) = inr (map_in f xs x i)
-
-flat_map_in : {A B : Type 0} (f : A → List B) (xs : List A) (x : A) (y : B) → In x xs → In y (f x)
-    → In y (flat_map f xs)
-flat_map_in f [] x y i j = absurd i
-flat_map_in {A} {B} f (z ∷ xs) x y (inl e) j = in_left y (f z) (flat_map f xs) (subst (λ (k : A). In y (f k)) (sym e) j)
-flat_map_in f (z ∷ xs) x y (inr i) j = in_right y (f z) (flat_map f xs) (flat_map_in f xs x y i j)
-
-in_range : (a k n : ℕ) → In n (range_with_len a k) → (a ≤ n) × (n < a + k)
-in_range a zero n i = absurd i
-in_range a (suc k) n (inl e) = (omega (arith, e), omega (arith, e))
-in_range a (suc k) n (inr i) =
-    let r = in_range (a + 1) k n i in let x = r.0 in let y = r.1 in (omega (arith, x), omega (arith, y))
-
-range_in : (a k n : ℕ) → a ≤ n → n < a + k → In n (range_with_len a k)
-range_in a zero n le lt = absurd (let f : ⊥ = omega (arith, le, lt) in f)
-range_in a (suc k) n le lt =
-    turn (cases_lt a n) (λ less. range_in (a + 1) k n (omega (arith, less)) (omega (arith, lt))) where
-      turn : (a < n) ⊎ (n ≤ a) → (a < n → In n (range_with_len (a + 1) k)) → (a ≡ n) ⊎ In n (range_with_len (a + 1) k)
-      turn (inl less) rest = inr (rest less)
-      turn (inr more) rest = inl (omega (arith, le, more))
 
 cond_same : {A : Type 0} (b : Bool) (x : A) → cond b x x ≡ x
 cond_same true x = refl

@@ -1,13 +1,23 @@
 -- What is read off a lawful run of a few commands.
 use Rattle.std.proofs.Common.{◌≡◌, ◌⊎◌, inl, inr, ℕ, zero, suc, ◌<◌, List, [], ◌∷◌, ◌++◌, length, Some, None, refl}
 use Rattle.std.proofs.Common.{sym, subst, slice_get, arith}
+use Rattle.std.specs.Prelude.{map, Option}
 use Rattle.std.specs.List.{All}
+use Rattle.log_node.specs.declared.ids.Colours.{Colours}
+use Rattle.log_node.specs.declared.forms.Pair.{Pair}
+use Rattle.log_node.specs.declared.forms.Version.{Version}
+use Rattle.log_node.specs.declared.forms.Form.TheVariants as forms
+use Rattle.log_node.specs.Sets.{members}
+use Rattle.object_form.specs.Forms.{form_text}
+use Rattle.script_text.specs.declared.script.What.TheVariants as whats
 use Rattle.script_text.specs.declared.script.Command.{Command}
 use Rattle.report_text.specs.declared.report.ReplyLine.{ReplyLine}
 use Rattle.report_text.specs.declared.report.ColumnReport.{ColumnReport}
 use Rattle.col_core.specs.Log.{Log}
 use Rattle.col_core.specs.Keeping.{Kept, nothing_kept}
 use Rattle.lawful_run.specs.Callers.{Caller}
+use Rattle.lawful_run.specs.Asks.{kind_of, colours_of, shards, keys_of}
+use Rattle.lawful_run.specs.Deeds.{saying_of, Says, AsksToAppend}
 use Rattle.lawful_run.specs.Columns.{IsColumnReport}
 use Rattle.lawful_run.specs.Explains.{Explained, Answers, start, next}
 use Rattle.lawful_run.specs.Lawful.{LawfulRun}
@@ -100,3 +110,20 @@ all_at P (z ∷ zs) (suc k) x e a =
 pub column_at : (case : Case) (run : LawfulRun case.script case.report) (k : ℕ) (c : ColumnReport)
     → slice_get case.report.columns k ≡ Some c → IsColumnReport run.log case.script c
 column_at case run k c e = all_at (IsColumnReport run.log case.script) case.report.columns k c e run.columns.each
+
+-- the versions that a commit names
+abbrev NamesVersions : Caller → Kept → ℕ → List Pair → Colours → List ℕ → Type 0
+NamesVersions caller kept object pairs colours text =
+    (versions : List Version) × (kept.reads object ≡ Some versions)
+    × (members colours ≡ shards (colours_of caller object) (map (λ (v : Version). v.key) versions ++ keys_of pairs))
+    × (text ≡ form_text (forms.Transaction versions pairs))
+
+pub versions_named : (caller : Caller) (kept : Kept) (object : ℕ) (pairs : List Pair) (colours : Colours) (text : List ℕ)
+    → AsksToAppend caller kept (whats.Commit object pairs) colours text
+    → NamesVersions caller kept object pairs colours text
+versions_named caller kept object pairs colours text = by (kept.reads object) refl where
+  by : (found : Option (List Version)) → kept.reads object ≡ found
+      → Says (colours_of caller object) (saying_of (kind_of caller object) found (whats.Commit object pairs)) colours text
+      → NamesVersions caller kept object pairs colours text
+  by None is asks = absurd asks
+  by (Some versions) is asks = (versions, is, asks.0, asks.1)

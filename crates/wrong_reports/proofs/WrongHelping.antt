@@ -22,7 +22,8 @@ use Rattle.report_text.specs.declared.report.ReplyLine.{ReplyLine}
 use Rattle.report_text.specs.declared.report.SyncPiece.{SyncPiece}
 use Rattle.report_text.specs.declared.report.ClientReport.{ClientReport}
 use Rattle.lawful_run.specs.Callers.{Caller}
-use Rattle.lawful_run.specs.Asks.{manner_of, may_help}
+use Rattle.lawful_run.specs.Asks.{may_help}
+use Rattle.lawful_run.specs.Deeds.{manner_of}
 use Rattle.lawful_run.specs.Stops.{StopsAfter, Stops, stopped_at_once, stopped_after, IsStepWithin}
 use Rattle.lawful_run.specs.Columns.{IsClientIn}
 use Rattle.lawful_run.specs.Lawful.{LawfulRun, HasStopped, HasHelping}

@@ -45,7 +45,8 @@ use Rattle.wrong_reports.specs.Looks.{a_trim_told_as_a_give, a_carry_beyond_the_
 use Rattle.wrong_reports.specs.Looks.{a_carry_that_was_seen, a_get_of_another_colour, a_causal_get_of_another_colour}
 use Rattle.wrong_reports.specs.Looks.{a_dequeue_of_another_colour, a_refused_read_that_keeps_an_earlier_one}
 use Rattle.wrong_reports.specs.Looks.{a_raise_before_its_clients_node_is_settled, a_value_of_another_text}
-use Rattle.wrong_reports.proofs.Tools.{only, ends_with, column_at, some_same}
+use Rattle.wrong_reports.specs.Objects.{one_pair}
+use Rattle.wrong_reports.proofs.Tools.{only, ends_with, column_at, some_same, versions_named}
 use Rattle.wrong_reports.proofs.Told.{two, trim_says, stood_says, several_says}
 use Rattle.wrong_reports.proofs.WrongReads.{scan_says}
 use Rattle.wrong_reports.proofs.WrongMoves.{pull_says}
@@ -387,7 +388,9 @@ pub keeps_earlier : IsUnlawful a_refused_read_that_keeps_an_earlier_one
 keeps_earlier run =
     let last = ends_with run.log _ (_ ∷ _ ∷ []) (_ ∷ _ ∷ []) _ _ _ (run.clients 0 _ refl).explained in
     let t = two run.log _ _ _ _ _ _ last.before in
-    let reads = last.last.explained.2.2.1 in
+    let said = last.last.explained.2 in
+    let reads = (versions_named (caller_of a_refused_read_that_keeps_an_earlier_one.script 0) last.kept 0 one_pair said.0
+    said.1 said.2).1 in
     let none = ap (λ (k : Kept). k.reads 0) t.second.after_is
     ∙ reads_none run.log _ (with_read t.kept 0 None) _ _ refl t.second.explained.1 in
     let g : None ≡ Some _ = sym none ∙ reads in

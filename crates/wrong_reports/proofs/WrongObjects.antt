@@ -16,11 +16,12 @@ use Rattle.col_core.specs.Cuts.{chain}
 use Rattle.col_core.specs.Log.{first}
 use Rattle.lawful_run.specs.Objects.{IsChainNode, AreObjectNodes}
 use Rattle.wrong_reports.specs.Cases.{IsUnlawful}
-use Rattle.wrong_reports.specs.Objects.{refused_at_home, answered_away_from_home, another_home, a_value_of_nothing}
+use Rattle.wrong_reports.specs.Objects.{one_pair, refused_at_home, answered_away_from_home, another_home, a_value_of_nothing}
 use Rattle.wrong_reports.specs.Objects.{a_value_of_another_key, a_causal_value_of_nothing}
 use Rattle.wrong_reports.specs.Objects.{a_dequeue_answered_as_an_append, a_dequeue_of_nothing}
 use Rattle.wrong_reports.specs.Objects.{a_read_that_is_forgotten, a_commit_that_keeps_its_read}
-use Rattle.wrong_reports.proofs.Tools.{only, ends_with}
+use Rattle.lawful_run.specs.Callers.{caller_of}
+use Rattle.wrong_reports.proofs.Tools.{only, ends_with, versions_named}
 use Rattle.wrong_reports.proofs.Told.{two}
 
 pub at_home : IsUnlawful refused_at_home
@@ -63,7 +64,7 @@ pub same_asked : (object other : ℕ) (keys more : List (List ℕ))
 same_asked object other keys more e = cc (e)
 
 pub another_key : IsUnlawful a_value_of_another_key
-another_key run = elim (only run.log _ _ _ _ (run.clients 0 _ refl).explained).explained.7 [
+another_key run = elim (only run.log _ _ _ _ (run.clients 0 _ refl).explained).explained.2.5 [
   | inl f ↦
       let g = f.3.keys_are ∙ sym (same_asked _ _ _ _ f.2) in
       let h : 106 ≡ 107 = ap (λ (keys : List (List ℕ)). slice_index (slice_index_or keys 0 []) 0) g in
@@ -101,12 +102,12 @@ forgotten run =
     let none = t.second.explained.6 in
     let o : t.second.explained.2 ≡ 0 = (let w = t.second.explained.4 in cc (w)) in
     let n : t.kept.reads 0 ≡ None = subst (λ o. t.kept.reads o ≡ None) o none in
-    elim t.first.explained.7 [
+    elim t.first.explained.2.5 [
       | inl f ↦ let w = f.2 in cc (w)
       | inr f ↦
           let p : f.0 ≡ 0 = (let w = f.2 in cc (w)) in
           let k = ap (λ (k : Kept). k.reads 0) (t.first.after_is ∙ f.4
-          ∙ ap (λ o. with_read t.first.explained.1 o (Some (versions_after t.first.explained.5 f.1))) p) in
+          ∙ ap (λ o. with_read t.first.explained.1 o (Some (versions_after t.first.explained.2.3 f.1))) p) in
           let g : None ≡ Some _ = sym n ∙ k in
           cc (g)
     ]
@@ -115,7 +116,9 @@ pub keeps_read : IsUnlawful a_commit_that_keeps_its_read
 keeps_read run =
     let last = ends_with run.log _ (_ ∷ _ ∷ []) (_ ∷ _ ∷ []) _ _ _ (run.clients 0 _ refl).explained in
     let before = ends_with run.log _ (_ ∷ []) (_ ∷ []) _ _ _ last.before in
-    let reads = last.last.explained.2.2.1 in
+    let said = last.last.explained.2 in
+    let reads = (versions_named (caller_of a_commit_that_keeps_its_read.script 0) last.kept 0 one_pair said.0 said.1
+    said.2).1 in
     let none = ap (λ (k : Kept). k.reads 0) before.last.after_is in
     let g : None ≡ Some _ = sym none ∙ reads in
     cc (g)

@@ -79,10 +79,6 @@ too_many run =
     let r = (stopped_says run.log _ _ _ 1 _ (lit< tt) t.second.explained.4).says.begins.room in
     omega (arith, k, r)
 
-proposal_wants : (i j : Id) (floor other : ℕ) (wants more : Counts) → Propose i floor wants ≡ Propose j other more
-    → wants ≡ more
-proposal_wants i j floor other wants more e = cc (e)
-
 pub other_wants : IsUnlawful a_proposal_with_other_wants
 other_wants run =
     let said = (only run.log _ _ _ _ (run.clients 0 _ refl).explained).explained in

@@ -20,11 +20,11 @@ use Rattle.lawful_run.specs.Objects.{AreObjectNodes}
 use Rattle.lawful_run.specs.Appends.{AppendsUnshown, one_unshown, several_unshown, StandsUnder}
 use Rattle.wrong_reports.specs.Cases.{IsUnlawful, a, id, counts, enters}
 use Rattle.wrong_reports.specs.Naming.{one_node}
-use Rattle.wrong_reports.specs.Objects.{many_values_of_nothing, a_read_of_nothing, unread_where_nothing_is_trimmed}
+use Rattle.wrong_reports.specs.Objects.{one_pair, many_values_of_nothing, a_read_of_nothing, unread_where_nothing_is_trimmed}
 use Rattle.wrong_reports.specs.Objects.{unread_for_another_colour, unread_under_another_stamp}
 use Rattle.wrong_reports.specs.Objects.{unread_before_it_is_settled}
 use Rattle.wrong_reports.specs.Rows.{proposed}
-use Rattle.wrong_reports.proofs.Tools.{only, ends_with, column_at, some_same, none_there}
+use Rattle.wrong_reports.proofs.Tools.{only, ends_with, column_at, some_same, none_there, versions_named}
 use Rattle.wrong_reports.proofs.Told.{two}
 use Rattle.wrong_reports.proofs.WrongObjects.{no_nodes, same_asked}
 use Rattle.wrong_reports.proofs.WrongVerdict.{none_read}
@@ -37,10 +37,10 @@ same_read object other keys more e = cc (e)
 pub many_values : IsUnlawful many_values_of_nothing
 many_values run =
     let said = (only run.log _ _ _ _ (run.clients 0 _ refl).explained).explained in
-    let keys = none_read 0 said.3 said.4 in
-    let nodes = no_nodes run.log said.5 (subst (λ ks. AreObjectNodes run.log ks said.5)
-    keys said.6) in
-    elim said.7 [
+    let keys = none_read 0 said.2.1 said.2.2 in
+    let nodes = no_nodes run.log said.2.3 (subst (λ ks. AreObjectNodes run.log ks said.2.3)
+    keys said.2.4) in
+    elim said.2.5 [
       | inl f ↦
           let asked = same_asked _ _ _ _ f.2 in
           let v : Some (codes "v") ∷ [] ≡ None ∷ [] = f.3.values_are
@@ -53,10 +53,10 @@ many_values run =
 pub read_value : IsUnlawful a_read_of_nothing
 read_value run =
     let said = (only run.log _ _ _ _ (run.clients 0 _ refl).explained).explained in
-    let keys = none_read 0 said.3 said.4 in
-    let nodes = no_nodes run.log said.5 (subst (λ ks. AreObjectNodes run.log ks said.5)
-    keys said.6) in
-    elim said.7 [
+    let keys = none_read 0 said.2.1 said.2.2 in
+    let nodes = no_nodes run.log said.2.3 (subst (λ ks. AreObjectNodes run.log ks said.2.3)
+    keys said.2.4) in
+    elim said.2.5 [
       | inl f ↦ let w = f.2 in cc (w)
       | inr f ↦
           let asked = same_read _ _ _ _ f.2 in
@@ -131,17 +131,18 @@ not_settled run =
     let t = two run.log _ _ _ _ _ _ last.before in
     let said = t.second.explained.2 in
     let h = (column_at unread_before_it_is_settled run 0 (proposed 0) refl).history in
-    elim t.first.explained.7 [
+    elim t.first.explained.2.5 [
       | inl f ↦ let w = f.2 in cc (w)
       | inr f ↦
-          let objects = t.first.explained.5 in
+          let objects = t.first.explained.2.3 in
           let reads = ap (λ (k : Kept). k.reads 0) (t.first.after_is ∙ f.4
           ∙ ap (λ o. with_read t.first.explained.1 o (Some (versions_after objects f.1)))
           (sym (same_object _ _ _ _ f.2))) in
-          let versions : versions_after objects f.1 ≡ said.2.0 = some_same _ _ (sym reads ∙ said.2.1) in
+          let named = versions_named (caller_of unread_before_it_is_settled.script 0) t.kept 0 one_pair said.0 said.1 said.2 in
+          let versions : versions_after objects f.1 ≡ named.0 = some_same _ _ (sym reads ∙ named.1) in
           let asked : codes "j" ∷ [] ≡ f.1 = same_read _ _ _ _ f.2 in
           let are = ap (λ ks. versions_after objects ks) asked ∙ versions in
-          let both : members said.0 ≡ 0 ∷ 1 ∷ [] = said.2.2
+          let both : members said.0 ≡ 0 ∷ 1 ∷ [] = named.2
           ∙ ap (λ vs. shards (0 ∷ 1 ∷ []) (map (λ (v : Version). v.key) vs ++ codes "k" ∷ [])) (sym are) in
           stands_nowhere run.log _ _ _ _ _ h both said.3.1
     ]

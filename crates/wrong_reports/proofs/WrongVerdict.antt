@@ -25,7 +25,7 @@ use Rattle.lawful_run.specs.Lawful.{LawfulRun}
 use Rattle.wrong_reports.specs.Cases.{IsUnlawful, a, id, key, asks, enters}
 use Rattle.wrong_reports.specs.Naming.{one_node}
 use Rattle.wrong_reports.specs.Objects.{one_pair, read_at, conflicts, a_conflict_with_nothing}
-use Rattle.wrong_reports.proofs.Tools.{column_at, some_same}
+use Rattle.wrong_reports.proofs.Tools.{column_at, some_same, versions_named}
 use Rattle.wrong_reports.proofs.Told.{Two, two}
 
 abbrev pub the_key : Key
@@ -113,19 +113,19 @@ kept_of_read : (run : LawfulRun a_conflict_with_nothing.script a_conflict_with_n
     → (t.kept.ids ≡ 0) × (t.kept.reads 0 ≡ Some (the_version ∷ []))
 kept_of_read run t =
     let said = t.first.explained in
-    let r = said.2 in
+    let r = said.2.0 in
     let h : one_node.journal ≡ run.log.histories 0 0 =
     (column_at a_conflict_with_nothing run 0 one_node refl).history in
-    let nodes = no_nodes run.log said.3 said.5 (none_read 0 said.3 said.4) said.6 in
+    let nodes = no_nodes run.log said.2.1 said.2.3 (none_read 0 said.2.1 said.2.2) said.2.4 in
     let ids : said.1.ids ≡ 0 = ap (λ (k : Kept). k.ids) r.after_is ∙ ap (λ (k : Kept). k.ids) r.syncing.2
     ∙ ap (λ (k : Kept). k.ids) r.raising.1 in
-    elim said.7 [
+    elim said.2.5 [
       | inl f ↦ absurd (let w = f.2 in let g : ⊥ = cc (w) in g)
       | inr f ↦
           let asked = same_read _ _ _ _ f.2 in
           let after = t.first.after_is ∙ f.4
-          ∙ ap (λ o. with_read said.1 o (Some (versions_after said.5 f.1))) (sym asked.0) in
-          let versions : versions_after said.5 f.1 ≡ the_version ∷ [] =
+          ∙ ap (λ o. with_read said.1 o (Some (versions_after said.2.3 f.1))) (sym asked.0) in
+          let versions : versions_after said.2.3 f.1 ≡ the_version ∷ [] =
           ap (λ ns. versions_after ns f.1) nodes ∙ ap (λ ks. versions_after [] ks) (sym asked.1) in
           (ap (λ (k : Kept). k.ids) after ∙ ids, ap (λ (k : Kept). k.reads 0) after ∙ ap (λ vs. Some vs) versions)
     ]
@@ -133,21 +133,22 @@ kept_of_read run t =
 pub conflict : IsUnlawful a_conflict_with_nothing
 conflict run =
     let t = two run.log _ _ _ _ _ _ (run.clients 0 _ refl).explained in
-    let said = t.second.explained.2 in
+    let said = t.second.explained.1.1 in
     let judged = said.3 in
     let h : one_node.journal ≡ run.log.histories 0 0 =
     (column_at a_conflict_with_nothing run 0 one_node refl).history in
     let kept = kept_of_read run t in
-    let versions : the_version ∷ [] ≡ said.2.0 = some_same _ _ (sym kept.1 ∙ said.2.1) in
-    let text : said.1 ≡ the_text = said.2.3 ∙ ap (λ vs. form_text (forms.Transaction vs one_pair)) (sym versions) in
+    let asked = versions_named (caller_of a_conflict_with_nothing.script 0) t.kept 0 one_pair said.0 said.1 said.2 in
+    let versions : the_version ∷ [] ≡ asked.0 = some_same _ _ (sym kept.1 ∙ asked.1) in
+    let text : said.1 ≡ the_text = asked.3 ∙ ap (λ vs. form_text (forms.Transaction vs one_pair)) (sym versions) in
     let appends = judged.2 in
     let place : appends.1 ≡ 0 = (let at = appends.2 in cc (at)) in
     let entered = first_there _ _ _ place appends.3.entered in
     let same = some_same (enters a (id a 0) 0 1) _ (ap (λ (es : List Entry). slice_get es 0) h ∙ entered) in
     let own : 1 ≡ judged.0 = ap (λ (en : Entry). en.stamp) same in
-    let keys = one_read judged.4 (subst (λ (es : List Entry). IsRegionOrder (line (take 1 es)
-    ∷ []) 1 judged.4) (sym h) judged.5) in
-    let one = one_object run.log judged.4 judged.6 keys judged.7 in
+    let keys = one_read judged.3.1 (subst (λ (es : List Entry). IsRegionOrder (line (take 1 es)
+    ∷ []) 1 judged.3.1) (sym h) judged.3.2) in
+    let one = one_object run.log judged.3.1 judged.3.3 keys judged.3.4 in
     let next = first_there _ _ _ kept.0 appends.3.next in
     let node = some_same _ _ (sym next ∙ one.1.there) in
     let text_is : one.0.text ≡ the_text = one.1.text ∙ ap (λ (n : Node). n.text) (sym node) ∙ text in
@@ -157,5 +158,5 @@ conflict run =
     ∙ ap (λ n. entry_key 1 (record { client = 0; count = n })) kept.0 in
     let f : Some (Committed 1) ≡ Some (Conflict (codes "k") 0) =
     sym (commits one.0.colours) ∙ ap (λ n. verdict_of (n ∷ []) the_key) (sym is)
-    ∙ ap (λ ns. verdict_of ns the_key) (sym one.2) ∙ ap (λ k. verdict_of judged.6 k) (sym its_key) ∙ judged.8 in
+    ∙ ap (λ ns. verdict_of ns the_key) (sym one.2) ∙ ap (λ k. verdict_of judged.3.3 k) (sym its_key) ∙ judged.3.5 in
     cc (f)

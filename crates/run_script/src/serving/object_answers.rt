@@ -14,7 +14,7 @@ use crate::serving::reads::{commit, get_all, read};
 use fuzzy_io::Gate;
 use log_client::{Client, Store};
 use report_text::Answer;
-use script_text::What;
+use script_text::{Use, What};
 use std::alloc::Global;
 use std::sync::Wait;
 
@@ -22,22 +22,9 @@ use std::sync::Wait;
 pub fn object_asked(what: &What) -> Option<u8>
     ensures { result ≡ object_asked what.now }
 {
-    match what {
-        What::Append { .. } => None,
-        What::Stop { .. } => None,
-        What::Sync { .. } => None,
-        What::Scan { .. } => None,
-        What::Pull { .. } => None,
-        What::Trim { .. } => None,
-        What::Put { object, .. } => Some(*object),
-        What::Get { object, .. } => Some(*object),
-        What::Del { object, .. } => Some(*object),
-        What::PutAll { object, .. } => Some(*object),
-        What::GetAll { object, .. } => Some(*object),
-        What::Read { object, .. } => Some(*object),
-        What::Commit { object, .. } => Some(*object),
-        What::Enq { object, .. } => Some(*object),
-        What::Deq { object } => Some(*object),
+    match what.use_of() {
+        Use::OfLog { .. } => None,
+        Use::OfObject { object, .. } => Some(object),
     }
 }
 

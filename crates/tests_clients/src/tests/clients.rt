@@ -1,12 +1,13 @@
-// What clients tell one another, and trims by a snapshot of another column or by an older one.
+// What clients tell one another, trims by a snapshot of another column or by an older one, and raises.
 ghost use Rattle.std.specs.Prelude.{◌≡◌};
 ghost use Rattle.log_client.specs.Clients.{IsClient};
 ghost use Rattle.tests_clients.specs.Stores.{IsSmall};
 
 use crate::tests::made::opened;
+use append_core::MultiFault;
 use fuzzy_io::OpenGate;
 use log_client::{Client, Store, TrimFault};
-use log_node::{At, Colours, Text};
+use log_node::{At, Colours, MAX_STAMP, Text};
 use playback::Snapshot;
 use std::alloc::Global;
 use std::process::Abort;
@@ -109,4 +110,64 @@ fn a_snapshot_of_another_colour_trims_nothing(rt: HostRuntime) -> Result<(), Fai
     };
     assert!(rt; matches!(trimmed, Err(fault) if fault == told));
     Ok(())
+}
+
+// An append to the first colour finds no stamp there.
+fn finds_no_stamp<R: Wait + Abort>(
+    rt: &R,
+    alloc: Global,
+    store: &Store,
+    client: &mut Client,
+) -> Result<(), Fail>
+    requires store { IsSmall store.now }
+    requires client { IsClient store.now client.old }
+    ensures client { IsClient store.now client.new }
+{
+    let text = Text::copied(alloc, b"one")?;
+    let first = Colours::of(&[0]);
+    let appended = client.append(rt, alloc, store, &OpenGate, first, text, None);
+    let told = MultiFault::StampEnd { colour: 0 };
+    assert!(rt; matches!(appended, Err(fault) if fault == told));
+    Ok(())
+}
+
+// One to the second colour stands there, and is played.
+fn finds_a_stamp<R: Wait + Abort>(
+    rt: &R,
+    alloc: Global,
+    store: &Store,
+    client: &mut Client,
+) -> Result<(), Fail>
+    requires store { IsSmall store.now }
+    requires client { IsClient store.now client.old }
+    ensures client { IsClient store.now client.new }
+{
+    let text = Text::copied(alloc, b"two")?;
+    let second = Colours::of(&[1]);
+    client.append(rt, alloc, store, &OpenGate, second, text, None)?;
+    let synced = client.sync(rt, alloc, store, 1)?;
+    assert_eq!(rt; (synced.events, synced.count), (1, 1));
+    Ok(())
+}
+
+// The client raises the first colour's column to the greatest stamp, and then appends to each colour.
+fn raises_to_the_end<R: Wait + Abort>(
+    rt: &R,
+    alloc: Global,
+    store: &Store,
+    client: &mut Client,
+) -> Result<(), Fail>
+    requires store { IsSmall store.now }
+    requires client { IsClient store.now client.old }
+{
+    let at = client.raise(rt, store, 0, MAX_STAMP)?;
+    assert_eq!(rt; at, At::Event(0));
+    finds_no_stamp(rt, alloc, store, client)?;
+    finds_a_stamp(rt, alloc, store, client)
+}
+
+#[test]
+fn a_column_raised_to_the_greatest_stamp_takes_no_append(rt: HostRuntime) -> Result<(), Fail> {
+    let (store, mut one, _two) = opened(rt.alloc())?;
+    raises_to_the_end(&rt, rt.alloc(), &store, &mut one)
 }

@@ -5,7 +5,7 @@ use Rattle.std.proofs.lemmas.Fn.{always_returns_same}
 use Rattle.log_node.specs.declared.ids.Key.{Key}
 use Rattle.log_node.specs.Order.{key_below}
 use Rattle.log_node.specs.Seen.{PlacedNode}
-use Rattle.log_client.specs.StampedReads.{is_behind}
+use Rattle.object_fold.specs.Folds.{is_behind}
 use Rattle.log_client.proofs.LineParts.{all_items, back_is, parted_behind}
 use Rattle.log_client.proofs.merging.count_to.Goals as goal
 

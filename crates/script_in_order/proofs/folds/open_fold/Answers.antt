@@ -22,4 +22,4 @@ returns-in_ok-open_causal-in-Causal c = λ w same. (
 )
 
 pub returns-in-Tx : goal.returns-in-Tx
-returns-in-Tx c = λ w same. (c.in-Tx._home, c.in-Tx._colours, c.in-Tx.is, c.open-in-Tx.ensures.folded w)
+returns-in-Tx c = λ w same. (c.in-Tx._home, c.in-Tx._colours, c.in-Tx.is, c.open.ensures.folded w)

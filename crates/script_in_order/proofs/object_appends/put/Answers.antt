@@ -21,7 +21,7 @@ pub append_form-requires-clause-form : goal.append_form-requires-clause-form
 append_form-requires-clause-form c =
     subst IsForm (sym c.in_ok-form.ensures)
     (put_is_form (get_or c.args.objects.now c.args.object c.index-objects-object.result).kind c.args.key.now
-    c.args.value.now c.requires.uses.1 c.requires.uses.2)
+    c.args.value.now c.requires.uses.1.0 c.requires.uses.1.1)
 
 pub append_form-requires-clause-many : goal.append_form-requires-clause-many
 append_form-requires-clause-many c =

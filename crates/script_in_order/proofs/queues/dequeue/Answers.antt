@@ -42,7 +42,7 @@ its_colour regions count objects all object other shard has is =
 pub append_one-requires-clause-within : goal.append_one-requires-clause-within
 append_one-requires-clause-within c =
     (its_colour c.args.world.now.shape.regions c.args.world.now.shape.colours c.args.objects.now c.requires.kinds
-    c.args.object c.index-objects-object.result c.shard-colour.result c.requires.uses c.shard-colour.ensures).1
+    c.args.object c.index-objects-object.result c.shard-colour.result c.requires.uses.0 c.shard-colour.ensures).1
 
 -- the append did so, of the dequeue's text
 did : (command : Command) (text : List ℕ) (colour : ℕ) (w new : World) (answer : Answer)
@@ -69,7 +69,7 @@ read_behind-requires-clause-colour c =
     (entered_of c.args.command.now c.in_ok-text.text c.shard-colour.result (world_of c.args.world.now)
     (world_of c.append_one.new.world) c.in_ok-appended.appended c.in_ok-appended.ensures.ok)))
     (its_colour c.args.world.now.shape.regions c.args.world.now.shape.colours c.args.objects.now c.requires.kinds
-    c.args.object c.index-objects-object.result c.shard-colour.result c.requires.uses c.shard-colour.ensures).1
+    c.args.object c.index-objects-object.result c.shard-colour.result c.requires.uses.0 c.shard-colour.ensures).1
 
 -- the queue is at home in the client's region, on this colour
 queue_is : (w : World) (client : ℕ) (objects : List Object) (object shard : ℕ) → HasObject objects object is_queue
@@ -86,14 +86,14 @@ read_behind-requires-clause-appended c =
     let w = world_of c.args.world.now in
     let client = c.args.command.now.client in
     let at = its_colour c.args.world.now.shape.regions c.args.world.now.shape.colours c.args.objects.now
-    c.requires.kinds c.args.object c.index-objects-object.result c.shard-colour.result c.requires.uses
+    c.requires.kinds c.args.object c.index-objects-object.result c.shard-colour.result c.requires.uses.0
     c.shard-colour.ensures in (
       w,
       did c.args.command.now c.in_ok-text.text c.shard-colour.result w (world_of c.append_one.new.world)
           c.in_ok-appended.appended c.in_ok-text.ensures c.in_ok-appended.ensures.ok,
       queue_within w c.args.objects.now c.args.folds.now c.requires.folded c.args.object (home_of w client)
           c.shard-colour.result _
-          (queue_is w client c.args.objects.now c.args.object c.shard-colour.result c.requires.uses c.requires.near at.0)
+          (queue_is w client c.args.objects.now c.args.object c.shard-colour.result c.requires.uses.0 c.requires.near at.0)
           (omega arith),
       c.agrees.ensures,
     )
@@ -110,7 +110,7 @@ read_behind-requires-clause-folded c =
     let v = world_of c.append_one.new.world in
     let client = c.args.command.now.client in
     let at = its_colour c.args.world.now.shape.regions c.args.world.now.shape.colours c.args.objects.now
-    c.requires.kinds c.args.object c.index-objects-object.result c.shard-colour.result c.requires.uses
+    c.requires.kinds c.args.object c.index-objects-object.result c.shard-colour.result c.requires.uses.0
     c.shard-colour.ensures in
     let did_so = c.in_ok-appended.ensures.ok in (
       c.args.objects.now,
@@ -119,7 +119,7 @@ read_behind-requires-clause-folded c =
           (sym (entered_shape c.args.command.now c.in_ok-text.text c.shard-colour.result w v
           c.in_ok-appended.appended (entered_of c.args.command.now c.in_ok-text.text c.shard-colour.result w v
           c.in_ok-appended.appended did_so)))
-          (queue_is w client c.args.objects.now c.args.object c.shard-colour.result c.requires.uses c.requires.near at.0),
+          (queue_is w client c.args.objects.now c.args.object c.shard-colour.result c.requires.uses.0 c.requires.near at.0),
       folds_stay w v c.agrees.ensures (to w v c.agrees.ensures c.args.command.now c.in_ok-text.text
           c.shard-colour.result c.in_ok-appended.appended did_so) c.args.objects.now c.args.folds.now c.requires.folded,
     )
@@ -130,7 +130,7 @@ returns-clause-ok c =
     by_colours c.args.command.now (object_colours (kind_in c.args.objects.now c.args.object)) c.shard-colour.result w
     (world_of c.read_behind.new.world) c.read_behind.result
     (its_colour c.args.world.now.shape.regions c.args.world.now.shape.colours c.args.objects.now c.requires.kinds
-    c.args.object c.index-objects-object.result c.shard-colour.result c.requires.uses c.shard-colour.ensures).0
+    c.args.object c.index-objects-object.result c.shard-colour.result c.requires.uses.0 c.shard-colour.ensures).0
     (c.read_behind.ensures.done w
     (did c.args.command.now c.in_ok-text.text c.shard-colour.result w (world_of c.append_one.new.world)
     c.in_ok-appended.appended c.in_ok-text.ensures c.in_ok-appended.ensures.ok))
@@ -141,7 +141,7 @@ returns-clause-folded c =
     let v = world_of c.append_one.new.world in
     let client = c.args.command.now.client in
     let at = its_colour c.args.world.now.shape.regions c.args.world.now.shape.colours c.args.objects.now
-    c.requires.kinds c.args.object c.index-objects-object.result c.shard-colour.result c.requires.uses
+    c.requires.kinds c.args.object c.index-objects-object.result c.shard-colour.result c.requires.uses.0
     c.shard-colour.ensures in
     let did_so = c.in_ok-appended.ensures.ok in
     c.read_behind.ensures.folded c.args.objects.now
@@ -150,7 +150,7 @@ returns-clause-folded c =
     (sym (entered_shape c.args.command.now c.in_ok-text.text c.shard-colour.result w v
     c.in_ok-appended.appended (entered_of c.args.command.now c.in_ok-text.text c.shard-colour.result w v
     c.in_ok-appended.appended did_so)))
-    (queue_is w client c.args.objects.now c.args.object c.shard-colour.result c.requires.uses c.requires.near at.0))
+    (queue_is w client c.args.objects.now c.args.object c.shard-colour.result c.requires.uses.0 c.requires.near at.0))
     (folds_stay w v c.agrees.ensures (to w v c.agrees.ensures c.args.command.now c.in_ok-text.text
     c.shard-colour.result c.in_ok-appended.appended did_so) c.args.objects.now c.args.folds.now c.requires.folded)
 

@@ -1,7 +1,7 @@
 use Rattle.std.proofs.Common.{◌∙◌, ℕ, ◌<◌, ap, sym, subst}
 use Rattle.world_code.specs.WorldView.{world_of}
 use Rattle.script_in_order.specs.Runs.{RepliesView, with_reply, with_read, reply_of}
-use Rattle.script_in_order.proofs.TransactionSteps.{object_there, taken_fits, still_there, transacts, transacts_none}
+use Rattle.script_in_order.proofs.TransactionSteps.{object_there, taken_fits, still_there, did_transact, transacts_none}
 use Rattle.script_in_order.proofs.run.do_transaction.Goals as goal
 
 pub take_read-taken-requires : goal.take_read-taken-requires
@@ -33,7 +33,7 @@ add-requires-in-Err c =
 
 pub returns-in-Ok-clause-done : goal.returns-in-Ok-clause-done
 returns-in-Ok-clause-done c =
-    transacts c.args.objects.now c.args.command.now c.args.object c.args.mine.now c.add.new.self
+    did_transact c.args.objects.now c.args.command.now c.args.object c.args.mine.now c.add.new.self
     (world_of c.args.world.now) (world_of c.transact.new.world) c.in-Ok.answer c.in-Ok.kept c.take_read-taken.result
     c.reply_of.result c.take_read-taken.ensures.value c.in-Ok.ensures.ok
     (c.reply_of.ensures ∙ ap (reply_of c.args.command.now c.in-Ok.answer) c.new.ensures)

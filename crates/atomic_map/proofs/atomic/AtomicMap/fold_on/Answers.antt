@@ -1,6 +1,6 @@
 use Rattle.std.proofs.Common.{◌∙◌, ◌++◌, ◌∷◌, [], ℕ, List, sym, subst}
 use Rattle.log_node.specs.Sets.{members}
-use Rattle.atomic_map.proofs.MapLines.{FoldsLines, folded_next, next_few, next_folds, next_low, next_map, none_folded}
+use Rattle.atomic_map.proofs.MapLines.{FoldsLines, all_folded, folded_next, next_folds, next_low, next_map, none_folded}
 use Rattle.atomic_map.proofs.atomic.AtomicMap.fold_on.Goals as goal
 
 pub loop-colour-init : goal.loop-colour-init
@@ -11,17 +11,6 @@ loop-colour-init c = (
       (none_folded c.args.client.now c.args.self.now c.args.stamp (members c.args.set) c.requires.map c.requires.goes),
 )
 
-pub fold_on-requires-clause-few : goal.fold_on-requires-clause-few
-fold_on-requires-clause-few c =
-    let l = c.loop-colour in
-    let i = l.invariant in
-    let all = members c.args.set in
-    let f = subst (λ (m : List ℕ). FoldsLines c.args.client.now c.args.self.now l.self c.args.stamp i.0 m all)
-    c.in-Some.ensures.steps i.1 in
-    next_few c.args.client.now c.args.self.now l.self c.args.stamp c.in-Some.colour i.0 c.next.new.self all
-    c.index_mut.result.now f c.requires.lines c.index_mut.ensures.value c.line.result.now c.line.ensures
-    c.as_slice.result.now c.as_slice.ensures
-
 pub fold_on-requires-clause-folds : goal.fold_on-requires-clause-folds
 fold_on-requires-clause-folds c =
     let l = c.loop-colour in
@@ -31,7 +20,6 @@ fold_on-requires-clause-folds c =
     c.in-Some.ensures.steps i.1 in
     next_folds c.args.client.now c.args.self.now l.self c.args.stamp c.in-Some.colour i.0 c.next.new.self all
     c.index_mut.result.now f c.requires.lines c.index_mut.ensures.value c.line.result.now c.line.ensures
-    c.as_slice.result.now c.as_slice.ensures
 
 pub fold_on-requires-clause-low : goal.fold_on-requires-clause-low
 fold_on-requires-clause-low c =
@@ -42,7 +30,6 @@ fold_on-requires-clause-low c =
     c.in-Some.ensures.steps i.1 in
     next_low c.args.client.now c.args.self.now l.self c.args.stamp c.in-Some.colour i.0 c.next.new.self all
     c.index_mut.result.now f c.requires.lines c.index_mut.ensures.value c.line.result.now c.line.ensures
-    c.as_slice.result.now c.as_slice.ensures
 
 pub loop-colour-preserved : goal.loop-colour-preserved
 loop-colour-preserved c =
@@ -54,7 +41,7 @@ loop-colour-preserved c =
       i.0 ++ c.in-Some.colour ∷ [],
       folded_next c.args.client.now c.args.self.now l.self c.args.stamp c.in-Some.colour i.0 c.next.new.self all
           c.index_mut.result.now f c.requires.lines c.index_mut.ensures.value c.line.result.now c.line.ensures
-          c.as_slice.result.now c.as_slice.ensures c.fold_on.new.self c.fold_on.ensures.folds c.fold_on.ensures.low
+          c.fold_on.new.kept c.fold_on.ensures.colours c.fold_on.ensures.folds c.fold_on.ensures.low
           c.in_ok-fold_on.ensures.whole,
     )
 
@@ -67,4 +54,13 @@ returns-in_err-fold_on-clause-map c =
     c.in-Some.ensures.steps i.1 in
     next_map c.args.client.now c.args.self.now l.self c.args.stamp c.in-Some.colour i.0 c.next.new.self all
     c.index_mut.result.now f c.requires.lines c.index_mut.ensures.value c.line.result.now c.line.ensures
-    c.as_slice.result.now c.as_slice.ensures c.fold_on.new.self c.fold_on.ensures.folds c.fold_on.ensures.low
+    c.fold_on.new.kept c.fold_on.ensures.colours c.fold_on.ensures.folds c.fold_on.ensures.low
+
+pub returns-clause-whole : goal.returns-clause-whole
+returns-clause-whole c =
+    let l = c.loop-colour in
+    let i = l.invariant in
+    let all = members c.args.set in
+    all_folded c.args.client.now c.args.self.now l.self c.args.stamp i.0 all
+    (subst (λ (m : List ℕ). FoldsLines c.args.client.now c.args.self.now l.self c.args.stamp i.0 m all)
+    c.in-None.ensures.steps.0 i.1)

@@ -2,8 +2,8 @@ use Rattle.std.proofs.Common.{rules, ◌^◌, ◌∙◌, ◌<◌, Option, ap}
 use Rattle.log_node.specs.declared.limits.TheConstants.{MAX_COLOURS}
 use Rattle.log_node.specs.declared.ids.Key.{Key}
 use Rattle.log_node.specs.Sets.{members}
+use Rattle.object_fold.specs.Folds.{last_after}
 use Rattle.lawful_run.specs.Asks.{shards}
-use Rattle.log_client.specs.Objects.{last_after}
 use Rattle.log_client.proofs.CallerLemmas.{rests_synced}
 use Rattle.atomic_map.proofs.MapLines.{can_go_on, few_members, lines_later, of_keys, of_store}
 use Rattle.atomic_map.proofs.MapReads.{gets_all, read_hidden, read_refused}

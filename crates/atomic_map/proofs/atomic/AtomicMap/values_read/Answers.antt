@@ -1,9 +1,16 @@
 use Rattle.std.proofs.Common.{◌≡◌, ◌∙◌, IfOk, List, subst}
 use Rattle.log_node.specs.Sets.{members}
 use Rattle.object_fold.specs.Maps.{Value}
-use Rattle.atomic_map.proofs.MapLines.{opens_goes}
+use Rattle.atomic_map.proofs.MapLines.{few_tested, opens_goes, opens_map}
 use Rattle.atomic_map.proofs.MapReads.{values_are}
 use Rattle.atomic_map.proofs.atomic.AtomicMap.values_read.Goals as goal
+
+pub open_lines-requires : goal.open_lines-requires
+open_lines-requires c = few_tested c.args.self.now.colours c.requires.map.colours.few
+
+pub fold_on-requires-clause-map : goal.fold_on-requires-clause-map
+fold_on-requires-clause-map c =
+    opens_map c.args.client.now c.args.self.now c.open_lines.new.self c.open_lines.ensures.opens c.requires.map
 
 pub fold_on-requires-clause-goes : goal.fold_on-requires-clause-goes
 fold_on-requires-clause-goes c =

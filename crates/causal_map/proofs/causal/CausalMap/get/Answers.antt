@@ -1,7 +1,7 @@
 use Rattle.std.proofs.Common.{ℕ, List, subst, sym}
 use Rattle.object_fold.specs.Causal.{IsCausalAnswer}
 use Rattle.log_node.specs.Seen.{PlacedNode}
-use Rattle.log_client.proofs.CallerLemmas.{played_in, rests_synced, sync_hidden, sync_leaves}
+use Rattle.log_client.proofs.CallerLemmas.{played_in, rests_synced}
 use Rattle.causal_map.specs.Played.{ArePlayed, KeepsFirst, chain_nodes}
 use Rattle.causal_map.proofs.GetAnswers.{causal_later, gets_many}
 use Rattle.causal_map.proofs.PlayedNodes.{are_played}
@@ -36,8 +36,7 @@ returns-in-Ok-values-clause-ok g c =
     c.in-Ok-values.ensures.values))
 
 pub returns-in-Err-values-clause-err : goal.returns-in-Err-values-clause-err
-returns-in-Err-values-clause-err g c =
-    sync_hidden c.args.store.now c.args.client.now c.sync.new.self c.args.self.now.colour c.in-Ok.synced c.in-Ok.ensures.ok
+returns-in-Err-values-clause-err g c = (c.in-Ok.synced, c.in-Ok.ensures.answer, c.in-Ok.ensures.ok)
 
 pub returns-in-Err-clause-map : goal.returns-in-Err-clause-map
 returns-in-Err-clause-map g c =
@@ -46,5 +45,4 @@ returns-in-Err-clause-map g c =
     (rests_synced c.args.store.now c.args.client.now c.sync.new.self e.client e.same e.goes e.grows e.finished) c.requires.map
 
 pub returns-in-Err-clause-err : goal.returns-in-Err-clause-err
-returns-in-Err-clause-err g c =
-    sync_leaves c.args.store.now c.args.client.now c.sync.new.self c.args.self.now.colour c.in-Err.fault c.in-Err.ensures.err
+returns-in-Err-clause-err g c = c.in-Err.ensures.err

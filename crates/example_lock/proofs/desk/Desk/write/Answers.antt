@@ -27,5 +27,5 @@ returns-in_err-told-clause-err g c =
 pub returns-clause-ok : goal.returns-clause-ok
 returns-clause-ok g c =
     writes c.args.store.now c.args.self.now.client c.append_and_read.new.client c.args.text.now c.in-Ok.text c.in_ok-told.told
-    c.in_ok-told.own c.in_ok-told._read c.args.self.now.kept.last c.of-set.result c.of-set.ensures (c.in-Ok.ensures ∙ c.as_bytes.ensures.value)
+    c.in_ok-told.own c.in_ok-told._read c.args.self.now.fold.kept.last c.of-set.result c.of-set.ensures (c.in-Ok.ensures ∙ c.as_bytes.ensures.value)
     c.in_ok-told.ensures.ok

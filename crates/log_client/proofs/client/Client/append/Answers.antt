@@ -64,6 +64,7 @@ returns g c =
       same = e.same;
       goes = e.goes;
       grows = e.grows;
+      plays = e.plays;
       finished = e.finished;
       idle = e.idle;
       ok = said_ok (c.args.stop ≡ None)

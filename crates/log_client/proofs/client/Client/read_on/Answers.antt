@@ -2,15 +2,17 @@ use Rattle.std.proofs.Common.{◌∙◌, ◌<◌, List, length, ap, refl, sym, s
 use Rattle.std.specs.List.{All}
 use Rattle.std.proofs.lemmas.Result.{err_from_is_err_and}
 use Rattle.log_node.specs.Sets.{members}
+use Rattle.object_fold.specs.Folds.{is_behind}
 use Rattle.playback.specs.Merging.{AreRising}
 use Rattle.log_client.specs.declared.track.Track.{Track}
 use Rattle.log_client.specs.Items.{are_parts, AreItems}
+use Rattle.log_client.specs.Calls.{AnswersEach}
 use Rattle.log_client.specs.Reading.{keys_of, raised_colours, synced_colours}
-use Rattle.log_client.specs.StampedReads.{is_behind}
 use Rattle.log_client.proofs.Colours.{all_within}
 use Rattle.log_client.proofs.Explaining.{rests_then}
 use Rattle.log_client.proofs.NamedKeys.{items_named}
 use Rattle.log_client.proofs.ReadCalls.{lines_held, reached_all, read_answered, read_rests, tracks_rising, unanswered, unraised, unsynced}
+use Rattle.log_client.proofs.SyncAnswers.{answers_between}
 use Rattle.log_client.proofs.client.Client.read_on.Goals as goal
 
 pub clear_up_to-requires-clause-reached : goal.clear_up_to-requires-clause-reached
@@ -34,6 +36,7 @@ returns-in_default g c =
       finished = on.finished;
       raises = tt;
       syncs = tt;
+      played = tt;
       above = tt;
       ok = tt;
       held = tt;
@@ -66,6 +69,7 @@ returns-in_err-syncs g c =
       finished = on.finished;
       raises = tt;
       syncs = tt;
+      played = tt;
       above = tt;
       ok = tt;
       held = tt;
@@ -110,6 +114,7 @@ returns-in_default-items_read g c =
       finished = on.finished;
       raises = tt;
       syncs = tt;
+      played = tt;
       above = tt;
       ok = tt;
       held = tt;
@@ -153,6 +158,10 @@ returns g c =
       finished = on.finished;
       raises = ap raised_colours c.into.ensures ∙ up.colours;
       syncs = ap synced_colours c.into-2.ensures ∙ c.in_ok-syncs.ensures.ok.2;
+      played = subst (AnswersEach x (record c.sync_all.new.self { floor = c.max-self.result })) (sym c.into-2.ensures)
+          (answers_between q c.sync_all.new.self x (record c.sync_all.new.self { floor = c.max-self.result })
+          c.in_ok-syncs.syncs.items (sym (k.rests.same.1 ∙ (c.raise_all.ensures.rests.same.1 ∙ e.rests.same.1)))
+          (sym (k.tracks ∙ (c.raise_all.ensures.tracks ∙ e.tracks))) refl c.in_ok-syncs.ensures.played);
       above = e.above;
       ok = ok;
       held = lines_held s x b (members c.args.colours) stamp e.rests e.keeps e.chosen e.floor e.above

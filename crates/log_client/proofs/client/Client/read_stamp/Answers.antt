@@ -1,4 +1,4 @@
-use Rattle.std.proofs.Common.{◌∙◌, ℕ, List, sym, subst, arith}
+use Rattle.std.proofs.Common.{◌∙◌, ℕ, List, refl, sym, subst, arith}
 use Rattle.log_node.specs.Sets.{members}
 use Rattle.log_client.proofs.Colours.{next_within}
 use Rattle.log_client.proofs.Explaining.{keeps_all_then, keeps_same, rests_same, rests_then}
@@ -10,6 +10,7 @@ loop-colour-init g c =
     let s = c.args.store.now in
     let x = c.args.self.now in record {
       rests = rests_same s x c.requires.client;
+      tracks = refl;
       keeps = keeps_same s x;
       floor = omega arith;
       in_range = c.requires.client.floored;
@@ -42,6 +43,7 @@ loop-colour-preserved g c =
     let is = c.max-stamp.ensures in
     let value = stamp_within s x y c.in-Some.colour c.clock.result far e.clock in record {
       rests = far;
+      tracks = e.tracks ∙ i.tracks;
       keeps = keeps_all_then s x l.self y i.rests e.rests i.keeps e.keeps;
       floor = omega (arith, low, is);
       in_range = omega (arith, top, is, value);

@@ -1,6 +1,7 @@
-use Rattle.std.proofs.Common.{◌≤◌}
+use Rattle.std.proofs.Common.{◌≡◌, ◌≤◌}
 use Rattle.log_node.specs.declared.limits.TheConstants.{MAX_STAMP}
 use Rattle.log_node.specs.Sets.{members}
+use Rattle.log_client.specs.Clients.{tracks_of}
 use Rattle.log_client.specs.Reading.{RestsOn, KeepsAll}
 use Rattle.log_client.proofs.ReadStamps.{LookedFirst}
 use Rattle.log_client.proofs.client.Client.read_stamp.Given as goal
@@ -9,6 +10,7 @@ use Rattle.log_client.proofs.client.Client.read_stamp.Given as goal
 abbrev pub invariant-loop-colour : goal.invariant-loop-colour
 invariant-loop-colour g l = record {
   rests : RestsOn l.store l.fn.self l.self;
+  tracks : tracks_of l.self ≡ tracks_of l.fn.self;
   keeps : KeepsAll l.store l.fn.self l.self;
   floor : l.fn.self.floor ≤ l.stamp;
   in_range : l.stamp ≤ MAX_STAMP;

@@ -3,6 +3,7 @@ use Rattle.log_node.specs.Sets.{members}
 use Rattle.log_client.proofs.Colours.{next_within}
 use Rattle.log_client.specs.Reading.{synced_colours}
 use Rattle.log_client.proofs.Explaining.{rests_same, rests_then}
+use Rattle.log_client.proofs.SyncAnswers.{AnsweredFirst, answered_next, none_answered}
 use Rattle.log_client.proofs.SyncingAll.{SyncedFirst, each_synced, first_answered, first_synced, none_synced, synced_next}
 use Rattle.log_client.proofs.client.Client.sync_all.Goals as goal
 
@@ -11,6 +12,7 @@ loop-colour-init g c =
     let s = c.args.store.now in
     let x = c.args.self.now in record {
       rests = rests_same s x c.requires.client;
+      answered = subst (AnsweredFirst x x) (sym c.new-syncs.ensures.items) (none_answered x);
       first = subst (SyncedFirst s x x c.into_iter-colour-iterator.result (members c.args.colours))
           (sym c.new-syncs.ensures.items)
           (subst (λ (l : List ℕ). SyncedFirst s x x l (members c.args.colours) [])
@@ -66,6 +68,11 @@ loop-colour-preserved-in-Ok-push g c =
     let x = c.args.self.now in
     let l = c.loop-colour in record {
       rests = rests_then s x l.self c.play_colour.new.self l.invariant.rests c.play_colour.ensures.rests;
+      answered = subst (AnsweredFirst x c.play_colour.new.self) (sym c.in-Ok-push.ensures.items)
+          (answered_next s x l.self c.play_colour.new.self c.in-Some.colour c.in-Ok.synced l.invariant.rests.same.1
+          c.in-Ok.ensures.ok c.in-Ok.ensures.answer c.next.new.self c.args.colours l.syncs.items
+          (ap (λ (m : List ℕ). synced_colours l.syncs.items ++ m) (sym c.in-Some.ensures.steps) ∙ l.invariant.first.apart)
+          l.invariant.answered);
       first = subst (SyncedFirst s x c.play_colour.new.self c.next.new.self (members c.args.colours))
           (sym c.in-Ok-push.ensures.items)
           (synced_next s x l.self c.play_colour.new.self c.in-Some.colour c.in-Ok.synced l.invariant.rests
@@ -83,3 +90,6 @@ returns-clause-ok g c =
     each_synced c.args.store.now c.args.self.now l.self (members c.args.colours) l.syncs.items
     (subst (λ (m : List ℕ). SyncedFirst c.args.store.now c.args.self.now l.self m (members c.args.colours) l.syncs.items)
     c.in-None.ensures.steps.0 l.invariant.first)
+
+pub returns-clause-played : goal.returns-clause-played
+returns-clause-played g c = c.loop-colour.invariant.answered.each

@@ -1,10 +1,10 @@
 use Rattle.std.proofs.Common.{ap, subst, sym, ◌∙◌, ◌<◌, List, ℕ, length}
-use Rattle.object_fold.specs.Nodes.{shard_of}
+use Rattle.object_fold.specs.Nodes.{object_nodes, shard_of}
 use Rattle.object_fold.specs.Maps.{shard_value}
 use Rattle.log_client.specs.Clients.{line_of, tracks_of}
-use Rattle.log_client.specs.Calls.{AnswersSync, IsExplained}
-use Rattle.log_client.specs.Objects.{HidesOne, SyncLeaves, object_nodes}
-use Rattle.log_client.proofs.CallerLemmas.{rests_synced, shard_in, sync_hidden, sync_leaves}
+use Rattle.log_client.specs.Calls.{AnswersSync, SyncRefused}
+use Rattle.log_client.specs.Objects.{SyncsUntold}
+use Rattle.log_client.proofs.CallerLemmas.{rests_synced, shard_in}
 use Rattle.log_map.specs.Maps.{Gets}
 use Rattle.log_map.proofs.MapAnswers.{gets, map_later, within}
 use Rattle.log_map.proofs.map.LogMap.get.Goals as goal
@@ -45,8 +45,8 @@ pub returns-in-Err-value-clause-err : goal.returns-in-Err-value-clause-err
 returns-in-Err-value-clause-err g c =
     let is = c.shard_of-colour.ensures ∙ (ap (λ (l : List ℕ). shard_of l c.as_bytes.result.now) c.as_slice.ensures
     ∙ ap (shard_of c.args.self.now.colours) c.as_bytes.ensures) in
-    subst (λ (k : ℕ). IsExplained c.args.store.now c.args.client.now c.sync.new.self (HidesOne k)) is
-    (sync_hidden c.args.store.now c.args.client.now c.sync.new.self c.shard_of-colour.result c.in-Ok.synced c.in-Ok.ensures.ok)
+    subst (λ (k : ℕ). SyncsUntold c.args.store.now c.args.client.now c.sync.new.self k) is
+    (c.in-Ok.synced, c.in-Ok.ensures.answer, c.in-Ok.ensures.ok)
 
 pub returns-in-Err-clause-map : goal.returns-in-Err-clause-map
 returns-in-Err-clause-map g c =
@@ -58,5 +58,5 @@ pub returns-in-Err-clause-err : goal.returns-in-Err-clause-err
 returns-in-Err-clause-err g c =
     let is = c.shard_of-colour.ensures ∙ (ap (λ (l : List ℕ). shard_of l c.as_bytes.result.now) c.as_slice.ensures
     ∙ ap (shard_of c.args.self.now.colours) c.as_bytes.ensures) in
-    subst (λ (k : ℕ). SyncLeaves c.args.store.now c.args.client.now c.sync.new.self k c.in-Err.fault) is
-    (sync_leaves c.args.store.now c.args.client.now c.sync.new.self c.shard_of-colour.result c.in-Err.fault c.in-Err.ensures.err)
+    subst (λ (k : ℕ). SyncRefused c.args.store.now c.args.client.now c.sync.new.self k c.in-Err.fault) is
+    c.in-Err.ensures.err

@@ -1,4 +1,6 @@
-use Rattle.std.proofs.Common.{ℕ, ◌+◌, List, length, get_or, ap, subst, sym, ◌∙◌, refl, arith}
+use Rattle.std.proofs.Common.{ℕ, ◌+◌, List, [], length, get_or, ap, subst, sym, ◌∙◌, refl, arith}
+use Rattle.object_fold.specs.declared.shard_map.ShardMap.{ShardMap}
+use Rattle.object_fold.specs.States.{IsShardMap}
 use Rattle.log_map.specs.Maps.{AreFresh}
 use Rattle.log_map.proofs.MapAnswers.{fresh_more}
 use Rattle.log_map.proofs.map.LogMap.open.Goals as goal
@@ -10,8 +12,9 @@ loop-colour-preserved c =
     let long = ap length items in
     let less = c.loop-colour-test.true in
     subst (AreFresh c.args.colours (n + 1)) (sym c.in_ok-push.ensures.items)
-    (fresh_more c.args.colours n (get_or c.args.colours n 0) 0 c.loop-colour.shards.items c.open.result
+    (fresh_more c.args.colours n (get_or c.args.colours n 0) 0 c.loop-colour.shards.items c.new.result
     (omega (arith, less, long)) refl
-    (c.open.ensures.shard.0 ∙ (c.from.ensures ∙ (c.in_ok-copy.ensures.items ∙ c.as_slice.ensures)))
-    (c.open.ensures.shard.1 ∙ ap (λ (l : List ℕ). get_or l n 0) items) c.open.ensures.count c.open.ensures.empty
+    (ap (λ (m : ShardMap). m.colours) c.new.ensures.state ∙ (c.open-shard.ensures.colours ∙ (c.from.ensures ∙ (c.in_ok-copy.ensures.items ∙ c.as_slice.ensures))))
+    (ap (λ (m : ShardMap). m.shard) c.new.ensures.state ∙ (c.open-shard.ensures.shard ∙ ap (λ (l : List ℕ). get_or l n 0) items))
+    c.new.ensures.count (subst (λ (m : ShardMap). IsShardMap m []) (sym c.new.ensures.state) c.open-shard.ensures.empty)
     c.loop-colour.invariant)

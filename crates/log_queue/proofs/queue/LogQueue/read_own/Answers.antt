@@ -2,15 +2,15 @@ use Rattle.std.proofs.Common.{sym, subst, refl, List}
 use Rattle.log_node.specs.declared.node.At.TheVariants.{Event}
 use Rattle.log_node.specs.Seen.{PlacedNode}
 use Rattle.object_fold.specs.States.{IsQueue}
+use Rattle.object_fold.specs.Folds.{FoldsFirst}
 use Rattle.log_client.specs.Clients.{line_of}
-use Rattle.log_client.specs.Objects.{FoldsFirst}
 use Rattle.log_client.proofs.CallerLemmas.{rests_synced}
 use Rattle.log_queue.proofs.QueueAnswers.{deq_answered, deq_unfolded, deq_unread, front_so, one_point, queue_later}
 use Rattle.log_queue.proofs.queue.LogQueue.read_own.Goals as goal
 
 pub front-requires : goal.front-requires
 front-requires g c =
-    subst (λ (l : List PlacedNode). FoldsFirst l c.args.self.now.kept.count (IsQueue c.args.self.now.kept.queue))
+    subst (λ (l : List PlacedNode). FoldsFirst l c.args.self.now.kept.count (IsQueue c.args.self.now.kept.state))
     (sym c.line.ensures)
     (queue_later c.args.store.now c.args.client.now c.sync.new.self c.args.self.now c.requires.client
     (let e = c.sync.ensures in rests_synced c.args.store.now c.args.client.now c.sync.new.self e.client e.same e.goes e.grows

@@ -14,7 +14,7 @@ use Rattle.log_tree.proofs.tree.LogTree.change.Goals as goal
 
 pub append_and_read-requires-clause-kept : goal.append_and_read-requires-clause-kept
 append_and_read-requires-clause-kept g c κs within =
-    subst (λ (l : List ℕ). KeepsFold HasTree c.args.client.now (rising l) c.args.self.now.kept) (sym c.as_slice-colours.ensures)
+    subst (λ (l : List ℕ). KeepsFold HasTree c.args.client.now (rising l) c.args.self.now.fold.kept) (sym c.as_slice-colours.ensures)
     c.requires.tree.folds
 
 pub append_and_read-requires-clause-set : goal.append_and_read-requires-clause-set
@@ -39,7 +39,7 @@ returns-in-Ok-append_and_read-clause-tree g c =
     let e = c.append_and_read.ensures in record {
       colours = colours_later c.args.store.now c.args.client.now c.append_and_read.new.client e.client c.args.self.now.colours c.requires.client
           c.requires.tree.colours;
-      folds = subst (λ (l : List ℕ). KeepsFold HasTree c.append_and_read.new.client (rising l) c.append_and_read.new.self) c.as_slice-colours.ensures
+      folds = subst (λ (l : List ℕ). KeepsFold HasTree c.append_and_read.new.client (rising l) c.append_and_read.new.self.kept) c.as_slice-colours.ensures
           e.kept;
     }
 
@@ -48,27 +48,27 @@ returns-clause-tree g c =
     let e = c.append_and_read.ensures in record {
       colours = colours_later c.args.store.now c.args.client.now c.append_and_read.new.client e.client c.args.self.now.colours c.requires.client
           c.requires.tree.colours;
-      folds = subst (λ (l : List ℕ). KeepsFold HasTree c.append_and_read.new.client (rising l) c.append_and_read.new.self) c.as_slice-colours.ensures
+      folds = subst (λ (l : List ℕ). KeepsFold HasTree c.append_and_read.new.client (rising l) c.append_and_read.new.self.kept) c.as_slice-colours.ensures
           e.kept;
     }
 
 pub returns-in-Ok-append_and_read-clause-ok : goal.returns-in-Ok-append_and_read-clause-ok
 returns-in-Ok-append_and_read-clause-ok g c =
     subst (λ (t : Told). Changes c.args.store.now c.args.client.now c.append_and_read.new.client c.args.self.now.colours
-    c.args.self.now.kept.last c.args.change.now t c.in-Ok-append_and_read.own c.in-Ok-append_and_read.read)
+    c.args.self.now.fold.kept.last c.args.change.now t c.in-Ok-append_and_read.own c.in-Ok-append_and_read.read)
     (sym c.unwrap_or.ensures)
     (changes c.reads_back.ensures c.args.change.now c.requires.change
-    c.args.store.now c.args.client.now c.append_and_read.new.client c.args.self.now.colours c.args.self.now.kept.last c.key_shards-set.result
+    c.args.store.now c.args.client.now c.append_and_read.new.client c.args.self.now.colours c.args.self.now.fold.kept.last c.key_shards-set.result
     c.in-Ok-append_and_read.told (Done c.in-Ok-append_and_read.own.stood.key.stamp) c.in-Ok-append_and_read.own
     c.in-Ok-append_and_read.read
     (change_set c.key_shards-set.result c.as_slice-colours.result.now c.args.self.now.colours c.in-Ok.keys
     c.as_slice.result.now c.args.change.now c.key_shards-set.ensures c.as_slice-colours.ensures c.as_slice.ensures
     c.in-Ok.ensures)
     (subst (λ (t : List ℕ). IsExplained c.args.store.now c.args.client.now c.append_and_read.new.client
-    (TellsOwn telling c.key_shards-set.result t (rising c.args.self.now.colours) c.args.self.now.kept.last c.in-Ok-append_and_read.told
+    (TellsOwn telling c.key_shards-set.result t (rising c.args.self.now.colours) c.args.self.now.fold.kept.last c.in-Ok-append_and_read.told
     c.in-Ok-append_and_read.own c.in-Ok-append_and_read.read)) c.in-Ok-write_change.ensures
     (subst (λ (l : List ℕ). IsExplained c.args.store.now c.args.client.now c.append_and_read.new.client
-    (TellsOwn telling c.key_shards-set.result c.in-Ok-write_change.text (rising l) c.args.self.now.kept.last c.in-Ok-append_and_read.told
+    (TellsOwn telling c.key_shards-set.result c.in-Ok-write_change.text (rising l) c.args.self.now.fold.kept.last c.in-Ok-append_and_read.told
     c.in-Ok-append_and_read.own c.in-Ok-append_and_read.read)) c.as_slice-colours.ensures c.in-Ok-append_and_read.ensures.ok)))
 
 pub returns-in-Ok-append_and_read-clause-points : goal.returns-in-Ok-append_and_read-clause-points

@@ -6,6 +6,6 @@ use Rattle.log_tree.proofs.tree.LogTree.list.Goals as goal
 
 pub returns-in-Ok-names-clause-ok : goal.returns-in-Ok-names-clause-ok
 returns-in-Ok-names-clause-ok g c =
-    reads_so c.args.store.now c.args.client.now c.look.new.client c.args.self.now.colours c.args.self.now.kept.last c.in-Ok.read
-    (HasTree c.look.new.self.kept.state) (NamesAfter c.args.path.now c.in-Ok-names.names)
+    reads_so c.args.store.now c.args.client.now c.look.new.client c.args.self.now.colours c.args.self.now.fold.kept.last c.in-Ok.read
+    (HasTree c.look.new.self.fold.kept.state) (NamesAfter c.args.path.now c.in-Ok-names.names)
     (λ nodes is. c.in-Ok-names.ensures nodes (subst (λ (f : Folded). HasTree f nodes) (sym c.state.ensures) is)) c.in-Ok.ensures.ok

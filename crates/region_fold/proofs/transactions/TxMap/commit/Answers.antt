@@ -5,6 +5,8 @@ use Rattle.log_node.specs.declared.forms.Version.{Version}
 use Rattle.object_form.specs.Forms.{AreVersions}
 use Rattle.object_fold.specs.declared.verdict.Verdict.{Verdict}
 use Rattle.object_fold.specs.declared.verdict.Verdict.TheVariants.{Committed}
+use Rattle.object_fold.specs.States.{IsTxState}
+use Rattle.object_fold.specs.Transactions.{ruling}
 use Rattle.lawful_run.specs.Asks.{keys_of, rising}
 use Rattle.log_client.specs.Calls.{IsExplained}
 use Rattle.log_client.specs.Objects.{version_keys}
@@ -12,14 +14,13 @@ use Rattle.log_client.proofs.CallerLemmas.{shards_of_store}
 use Rattle.region_fold.specs.Reads.{AreOwn, KeepsFold, TellRefused, TellsOwn}
 use Rattle.region_fold.proofs.ReadAnswers.{colours_later, shards_own}
 use Rattle.region_fold.specs.declared.transactions.Tx.{Tx}
-use Rattle.region_fold.specs.Ruling.{HasRuled, ruling}
 use Rattle.region_fold.specs.Transactions.{CommitRefused, Commits}
 use Rattle.region_fold.proofs.TxAnswers.{commit_refused, commits, some_keys, tx_set}
 use Rattle.region_fold.proofs.transactions.TxMap.commit.Goals as goal
 
 pub append_and_read-requires-clause-kept : goal.append_and_read-requires-clause-kept
 append_and_read-requires-clause-kept g c κs within =
-    subst (λ (l : List ℕ). KeepsFold HasRuled c.args.client.now (rising l) c.args.self.now.kept) (sym c.as_slice-colours.ensures)
+    subst (λ (l : List ℕ). KeepsFold IsTxState c.args.client.now (rising l) c.args.self.now.fold.kept) (sym c.as_slice-colours.ensures)
     c.requires.map.folds
 
 pub returns-in-Ok-append_and_read-clause-map : goal.returns-in-Ok-append_and_read-clause-map
@@ -27,7 +28,7 @@ returns-in-Ok-append_and_read-clause-map g c =
     let e = c.append_and_read.ensures in record {
       colours = colours_later c.args.store.now c.args.client.now c.append_and_read.new.client e.client c.args.self.now.colours c.requires.client
           c.requires.map.colours;
-      folds = subst (λ (l : List ℕ). KeepsFold HasRuled c.append_and_read.new.client (rising l) c.append_and_read.new.self) c.as_slice-colours.ensures
+      folds = subst (λ (l : List ℕ). KeepsFold IsTxState c.append_and_read.new.client (rising l) c.append_and_read.new.self.kept) c.as_slice-colours.ensures
           e.kept;
     }
 
@@ -36,7 +37,7 @@ returns-in-Err-clause-map g c =
     let e = c.append_and_read.ensures in record {
       colours = colours_later c.args.store.now c.args.client.now c.append_and_read.new.client e.client c.args.self.now.colours c.requires.client
           c.requires.map.colours;
-      folds = subst (λ (l : List ℕ). KeepsFold HasRuled c.append_and_read.new.client (rising l) c.append_and_read.new.self) c.as_slice-colours.ensures
+      folds = subst (λ (l : List ℕ). KeepsFold IsTxState c.append_and_read.new.client (rising l) c.append_and_read.new.self.kept) c.as_slice-colours.ensures
           e.kept;
     }
 
@@ -65,20 +66,20 @@ returns-in-Ok-append_and_read-clause-ok g c =
       c.in-Some.tx,
       c.in-Some.is,
       subst (λ (v : Verdict). Commits c.args.store.now c.args.client.now c.append_and_read.new.client c.args.self.now.colours
-          c.args.self.now.kept.last
+          c.args.self.now.fold.kept.last
           c.in-Some.tx.versions c.args.writes.now v c.in-Ok-append_and_read.own c.in-Ok-append_and_read.read)
           (sym c.unwrap_or.ensures)
           (commits c.reads_back.ensures c.in-Some.tx.versions c.args.writes.now may c.requires.writes
-          c.args.store.now c.args.client.now c.append_and_read.new.client c.args.self.now.colours c.args.self.now.kept.last c.transaction_shards-set.result
+          c.args.store.now c.args.client.now c.append_and_read.new.client c.args.self.now.colours c.args.self.now.fold.kept.last c.transaction_shards-set.result
           c.in-Ok-append_and_read.told (Committed c.in-Ok-append_and_read.own.stood.key.stamp) c.in-Ok-append_and_read.own
           c.in-Ok-append_and_read.read (tx_set c.transaction_shards-set.result c.as_slice-colours.result.now c.args.self.now.colours c.as_slice.result.now
           c.in-Some.tx.versions c.as_slice-2.result.now c.args.writes.now c.transaction_shards-set.ensures c.as_slice-colours.ensures
           c.as_slice.ensures c.as_slice-2.ensures)
           (subst (λ (t : List ℕ). IsExplained c.args.store.now c.args.client.now c.append_and_read.new.client
-          (TellsOwn ruling c.transaction_shards-set.result t (rising c.args.self.now.colours) c.args.self.now.kept.last c.in-Ok-append_and_read.told
+          (TellsOwn ruling c.transaction_shards-set.result t (rising c.args.self.now.colours) c.args.self.now.fold.kept.last c.in-Ok-append_and_read.told
           c.in-Ok-append_and_read.own c.in-Ok-append_and_read.read)) c.in-Ok.ensures
           (subst (λ (l : List ℕ). IsExplained c.args.store.now c.args.client.now c.append_and_read.new.client
-          (TellsOwn ruling c.transaction_shards-set.result c.in-Ok.text (rising l) c.args.self.now.kept.last c.in-Ok-append_and_read.told
+          (TellsOwn ruling c.transaction_shards-set.result c.in-Ok.text (rising l) c.args.self.now.fold.kept.last c.in-Ok-append_and_read.told
           c.in-Ok-append_and_read.own c.in-Ok-append_and_read.read)) c.as_slice-colours.ensures c.in-Ok-append_and_read.ensures.ok))),
     )
 

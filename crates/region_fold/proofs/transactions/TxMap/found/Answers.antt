@@ -1,6 +1,6 @@
 use Rattle.std.proofs.Common.{refl, subst, sym}
-use Rattle.region_fold.specs.declared.ruling.Ruled.{Ruled}
-use Rattle.region_fold.specs.Ruling.{HasRuled}
+use Rattle.object_fold.specs.declared.tx_state.TxState.{TxState}
+use Rattle.object_fold.specs.States.{IsTxState}
 use Rattle.region_fold.proofs.transactions.TxMap.found.Goals as goal
 
 pub returns : goal.returns
@@ -8,7 +8,7 @@ returns c = record {
   found = (
     refl,
     λ nodes has.
-        let is = subst (λ (r : Ruled). HasRuled r nodes) (sym c.state.ensures) has in
+        let is = subst (λ (state : TxState). IsTxState state nodes) (sym c.state-writes.ensures) has in
         (c.in_ok-values.ensures nodes is, c.in_ok-versions.ensures nodes is),
   );
 }

@@ -2,14 +2,14 @@ use Rattle.std.proofs.Common.{◌∙◌, List, set, sym, subst, arith}
 use Rattle.std.proofs.lemmas.Option.{slice_get_within}
 use Rattle.log_node.specs.Seen.{PlacedNode}
 use Rattle.run_script.specs.Serving.{GivesAll}
-use Rattle.run_script.proofs.ObjectFrames.{asked_there, kept_on, kept_with, kind_there, kinds_with, of_none}
+use Rattle.run_script.proofs.ObjectFrames.{asked_there, kept_on, kept_with, kind_there, kinds_with}
 use Rattle.run_script.proofs.ReadsFound.{given_by_log, given_of_one}
 use Rattle.run_script.proofs.serving.answers.answer.Goals as goal
 
 pub returns-in-None-clause-gives : goal.returns-in-None-clause-gives
 returns-in-None-clause-gives g c = λ objects of.
     given_by_log c.args.store.now objects c.args.client.now c.log_answer.new.client c.args.opened.now.items c.args.what
-    c.log_answer.result.0 c.log_answer.result.1 (of_none c.args.what (sym c.object_asked.ensures ∙ c.in-None.is))
+    c.log_answer.result.0 c.log_answer.result.1 (sym c.object_asked.ensures ∙ c.in-None.is)
     c.log_answer.ensures
 
 pub returns-in-None-clause-kept : goal.returns-in-None-clause-kept

@@ -11,11 +11,11 @@ put-requires-clause-kind g c κs within = (subst (HasCommand (kind_opened c.args
 
 pub put-requires-clause-key : goal.put-requires-clause-key
 put-requires-clause-key g c κs within =
-    key_is_word c.in-Put.key (subst (HasCommand (kind_opened c.args.opened.now)) c.in-Put.is c.requires.has).1
+    key_is_word c.in-Put.key (subst (HasCommand (kind_opened c.args.opened.now)) c.in-Put.is c.requires.has).1.0
 
 pub put-requires-clause-value : goal.put-requires-clause-value
 put-requires-clause-value g c κs within =
-    key_is_word c.in-Put.value (subst (HasCommand (kind_opened c.args.opened.now)) c.in-Put.is c.requires.has).2
+    key_is_word c.in-Put.value (subst (HasCommand (kind_opened c.args.opened.now)) c.in-Put.is c.requires.has).1.1
 
 pub returns-in-Put-clause-gives : goal.returns-in-Put-clause-gives
 returns-in-Put-clause-gives g c =
@@ -119,12 +119,12 @@ returns-in-Commit-clause-gives g c =
     (λ (k : ℕ). whats.Commit k c.in-Commit.pairs) c.in-Commit._object c.commit.result c.in-Commit.is (λ k. refl) c.commit.ensures.gives
 
 pub deq-requires-clause-kind : goal.deq-requires-clause-kind
-deq-requires-clause-kind g c κs within = (subst (HasCommand (kind_opened c.args.opened.now)) c.in-Deq.is c.requires.has)
+deq-requires-clause-kind g c κs within = (subst (HasCommand (kind_opened c.args.opened.now)) c.in-Deq.is c.requires.has).0
 
 pub returns-in-Deq-clause-gives : goal.returns-in-Deq-clause-gives
 returns-in-Deq-clause-gives g c =
     let has = subst (HasCommand (kind_opened c.args.opened.now)) c.in-Deq.is c.requires.has in
     gives_unread c.args.store.now c.args.client.now c.deq.new.client c.args.opened.now c.deq.new.opened c.args.what
     (λ (k : ℕ). whats.Deq k) c.in-Deq._object c.deq.result c.in-Deq.is (λ k. refl) (λ k kept. (refl, refl))
-    (λ k object asked e. let f : ⊥ = cc (e) in f) (queue_not_tx (kind_opened c.args.opened.now) has) c.deq.ensures.stays
+    (λ k object asked e. let f : ⊥ = cc (e) in f) (queue_not_tx (kind_opened c.args.opened.now) has.0) c.deq.ensures.stays
     c.deq.ensures.gives

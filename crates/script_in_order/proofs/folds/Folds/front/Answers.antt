@@ -4,7 +4,8 @@ use Rattle.world_code.specs.WorldView.{world_of}
 use Rattle.script_text.specs.declared.script.Object.{Object}
 use Rattle.script_text.specs.declared.script.Kind.TheVariants as kinds
 use Rattle.script_meaning.specs.States.{kind_in}
-use Rattle.script_in_order.specs.declared.folds.QueueFold.{QueueFold}
+use Rattle.object_fold.specs.declared.kept_line.KeptLine.{KeptLine}
+use Rattle.object_fold.specs.declared.queue.ValueQueue.{ValueQueue}
 use Rattle.script_in_order.specs.declared.folds.Fold.{Fold}
 use Rattle.script_in_order.specs.declared.folds.Fold.TheVariants as folds
 use Rattle.script_in_order.specs.Folds.{IsQueueFold, IsFoldOf, AreFolded}
@@ -13,36 +14,36 @@ use Rattle.script_in_order.proofs.folds.Folds.front.Goals as goal
 
 -- the fold of the object's queue
 queue_of : (w : World) (objects : List Object) (all : List Fold) (object home colour : ℕ) (fold : Fold)
-    (queue : QueueFold) → AreFolded w objects all → kind_in objects object ≡ Some (kinds.Queue home colour)
+    (queue : KeptLine ValueQueue) → AreFolded w objects all → kind_in objects object ≡ Some (kinds.Queue home colour)
     → fold ≡ get_or all object fold → fold ≡ folds.Queue queue → IsQueueFold w home colour queue
 queue_of w objects all object home colour fold queue f is there same =
     queue_fold w home colour queue
     (subst (IsFoldOf w (kinds.Queue home colour)) same
     (fold_there w objects all object (kinds.Queue home colour) f is fold there))
 
-pub front-requires-clause-there : goal.front-requires-clause-there
-front-requires-clause-there c = c.requires.may.1.there
+pub queue_front-requires-clause-there : goal.queue_front-requires-clause-there
+queue_front-requires-clause-there c = c.requires.may.1.there
 
-pub front-requires-clause-behind : goal.front-requires-clause-behind
-front-requires-clause-behind c =
+pub queue_front-requires-clause-behind : goal.queue_front-requires-clause-behind
+queue_front-requires-clause-behind c =
     let w = world_of c.args.world.now in
     let m = c.requires.may in
     let there = subst (λ (l : List Fold). c.index_mut.result.now ≡ get_or l c.args.object c.index_mut.result.now)
     c.self.view_is c.index_mut.ensures.value in
-    c.requires.behind c.in-Queue.fold
+    c.requires.behind c.in-Queue.kept
     (there_at c.args.self.now c.args.object c.index_mut.result.now
     (object_low w m.0 c.args.self.now c.args.object (kinds.Queue c.args.first.region c.args.first.colour) m.1.folded
     m.1.is_kind) there
     ∙ ap (λ (x : Fold). Some x) c.in-Queue.is)
 
-pub front-requires-clause-folded : goal.front-requires-clause-folded
-front-requires-clause-folded c =
+pub queue_front-requires-clause-folded : goal.queue_front-requires-clause-folded
+queue_front-requires-clause-folded c =
     let w = world_of c.args.world.now in
     let m = c.requires.may in
     let there = subst (λ (l : List Fold). c.index_mut.result.now ≡ get_or l c.args.object c.index_mut.result.now)
     c.self.view_is c.index_mut.ensures.value in
     queue_of w m.0 c.args.self.now c.args.object c.args.first.region c.args.first.colour c.index_mut.result.now
-    c.in-Queue.fold m.1.folded m.1.is_kind there c.in-Queue.is
+    c.in-Queue.kept m.1.folded m.1.is_kind there c.in-Queue.is
 
 pub unreachable-requires : goal.unreachable-requires
 unreachable-requires c =
@@ -57,7 +58,7 @@ unreachable-requires c =
 pub returns-clause-folded : goal.returns-clause-folded
 returns-clause-folded c = λ objects is folded.
     let w = world_of c.args.world.now in
-    let new : Fold = folds.Queue c.front.new.self in
+    let new : Fold = folds.Queue c.queue_front.new.kept in
     subst (λ (l : List Fold). AreFolded w objects (set l c.args.object new)) (sym c.self.view_is)
     (fold_put w objects c.args.self.now c.args.object (kinds.Queue c.args.first.region c.args.first.colour) folded is new
-    (c.args.first.region, c.args.first.colour, refl, c.front.ensures.folded))
+    (c.args.first.region, c.args.first.colour, refl, c.queue_front.ensures.folded))

@@ -6,7 +6,8 @@ use Rattle.world_code.specs.WorldView.{world_of}
 use Rattle.script_text.specs.declared.script.Object.{Object}
 use Rattle.script_text.specs.declared.script.Kind.TheVariants as kinds
 use Rattle.script_meaning.specs.States.{kind_in}
-use Rattle.script_in_order.specs.declared.folds.ShardFold.{ShardFold}
+use Rattle.object_fold.specs.declared.kept_line.KeptLine.{KeptLine}
+use Rattle.object_fold.specs.declared.shard_map.ShardMap.{ShardMap}
 use Rattle.script_in_order.specs.declared.folds.Fold.{Fold}
 use Rattle.script_in_order.specs.declared.folds.Fold.TheVariants as folds
 use Rattle.script_in_order.specs.Folds.{AreShardFolds, IsFoldOf, AreFolded, ShardsWithin}
@@ -15,20 +16,22 @@ use Rattle.script_in_order.proofs.folds.Folds.value.Goals as goal
 
 -- the shards of the object's map
 shards_of : (w : World) (objects : List Object) (all : List Fold) (object home : ℕ) (colours : List ℕ) (fold : Fold)
-    (shards : Vec ShardFold Global) → AreFolded w objects all → kind_in objects object ≡ Some (kinds.Map home colours)
+    (shards : Vec (KeptLine ShardMap) Global) → AreFolded w objects all
+    → kind_in objects object ≡ Some (kinds.Map home colours)
     → fold ≡ get_or all object fold → fold ≡ folds.Map shards → AreShardFolds w home colours shards.items
 shards_of w objects all object home colours fold shards f is there same =
     map_shards w home colours shards
     (subst (IsFoldOf w (kinds.Map home colours)) same
     (fold_there w objects all object (kinds.Map home colours) f is fold there))
 
-shard_low : (w : World) (home : ℕ) (colours : List ℕ) (shards : List ShardFold) (colour : ℕ)
+shard_low : (w : World) (home : ℕ) (colours : List ℕ) (shards : List (KeptLine ShardMap)) (colour : ℕ)
     → AreShardFolds w home colours shards → colour < w.shape.colours → colour < length shards
 shard_low w home colours shards colour f lt = let e = f.all in omega (arith, e, lt)
 
 -- what stands at the object's place
 stands : (w : World) (objects : List Object) (all : List Fold) (object home : ℕ) (colours : List ℕ) (fold : Fold)
-    (shards : Vec ShardFold Global) → AreFolded w objects all → kind_in objects object ≡ Some (kinds.Map home colours)
+    (shards : Vec (KeptLine ShardMap) Global) → AreFolded w objects all
+    → kind_in objects object ≡ Some (kinds.Map home colours)
     → fold ≡ get_or all object fold → fold ≡ folds.Map shards → slice_get all object ≡ Some (folds.Map shards)
 stands w objects all object home colours fold shards f is there same =
     there_at all object fold (object_low w objects all object (kinds.Map home colours) f is) there
@@ -45,11 +48,11 @@ index_mut-requires-in-Map c =
     m.2.folded m.2.is_kind there c.in-Map.is) m.2.there.colour in
     omega (arith, low)
 
-pub value-requires-clause-there : goal.value-requires-clause-there
-value-requires-clause-there c = c.requires.may.2.there
+pub shard_value-requires-clause-there : goal.shard_value-requires-clause-there
+shard_value-requires-clause-there c = c.requires.may.2.there
 
-pub value-requires-clause-behind : goal.value-requires-clause-behind
-value-requires-clause-behind c =
+pub shard_value-requires-clause-behind : goal.shard_value-requires-clause-behind
+shard_value-requires-clause-behind c =
     let w = world_of c.args.world.now in
     let m = c.requires.may in
     let there = subst (λ (l : List Fold). c.index_mut.result.now ≡ get_or l c.args.object c.index_mut.result.now)
@@ -63,8 +66,8 @@ value-requires-clause-behind c =
     (shard_low w c.args.first.region m.1 c.in-Map.shards.items c.args.first.colour f m.2.there.colour)
     c.index_mut-in-Map.ensures.value)
 
-pub value-requires-clause-folded : goal.value-requires-clause-folded
-value-requires-clause-folded c =
+pub shard_value-requires-clause-folded : goal.shard_value-requires-clause-folded
+shard_value-requires-clause-folded c =
     let w = world_of c.args.world.now in
     let m = c.requires.may in
     let there = subst (λ (l : List Fold). c.index_mut.result.now ≡ get_or l c.args.object c.index_mut.result.now)
@@ -95,7 +98,7 @@ returns-clause-value c = λ objects colours is folded.
     c.self.view_is c.index_mut.ensures.value in
     let f = shards_of w objects c.args.self.now c.args.object c.args.first.region colours c.index_mut.result.now
     c.in-Map.shards folded is there c.in-Map.is in
-    c.value.ensures.value colours (f.each c.args.first.colour c.index_mut-in-Map.result.now
+    c.shard_value.ensures.value colours (f.each c.args.first.colour c.index_mut-in-Map.result.now
     (there_at c.in-Map.shards.items c.args.first.colour c.index_mut-in-Map.result.now
     (shard_low w c.args.first.region colours c.in-Map.shards.items c.args.first.colour f c.requires.may.2.there.colour)
     c.index_mut-in-Map.ensures.value))
@@ -107,17 +110,17 @@ returns-clause-folded c = λ objects colours is folded.
     c.self.view_is c.index_mut.ensures.value in
     let f = shards_of w objects c.args.self.now c.args.object c.args.first.region colours c.index_mut.result.now
     c.in-Map.shards folded is there c.in-Map.is in
-    let right = c.value.ensures.folded colours (f.each c.args.first.colour c.index_mut-in-Map.result.now
+    let right = c.shard_value.ensures.folded colours (f.each c.args.first.colour c.index_mut-in-Map.result.now
     (there_at c.in-Map.shards.items c.args.first.colour c.index_mut-in-Map.result.now
     (shard_low w c.args.first.region colours c.in-Map.shards.items c.args.first.colour f c.requires.may.2.there.colour)
     c.index_mut-in-Map.ensures.value)) in
-    let new : Fold = folds.Map (with_item c.in-Map.shards c.args.first.colour c.value.new.self) in
+    let new : Fold = folds.Map (with_item c.in-Map.shards c.args.first.colour c.shard_value.new.kept) in
     subst (λ (l : List Fold). AreFolded w objects (set l c.args.object new)) (sym c.self.view_is)
     (fold_put w objects c.args.self.now c.args.object (kinds.Map c.args.first.region colours) folded is new (
       c.args.first.region,
       colours,
       refl,
-      shards_with w c.args.first.region colours c.in-Map.shards.items c.args.first.colour c.value.new.self f right,
+      shards_with w c.args.first.region colours c.in-Map.shards.items c.args.first.colour c.shard_value.new.kept f right,
     ))
 
 pub returns-clause-within : goal.returns-clause-within
@@ -126,9 +129,9 @@ returns-clause-within c = λ cs bound old low.
     let m = c.requires.may in
     let there = subst (λ (l : List Fold). c.index_mut.result.now ≡ get_or l c.args.object c.index_mut.result.now)
     c.self.view_is c.index_mut.ensures.value in
-    let new : Fold = folds.Map (with_item c.in-Map.shards c.args.first.colour c.value.new.self) in
+    let new : Fold = folds.Map (with_item c.in-Map.shards c.args.first.colour c.shard_value.new.kept) in
     subst (λ (l : List Fold). ShardsWithin (set l c.args.object new) c.args.object cs bound) (sym c.self.view_is)
-    (within_with c.args.self.now c.args.object c.in-Map.shards c.args.first.colour c.value.new.self cs bound
+    (within_with c.args.self.now c.args.object c.in-Map.shards c.args.first.colour c.shard_value.new.kept cs bound
     (stands w m.0 c.args.self.now c.args.object c.args.first.region m.1 c.index_mut.result.now c.in-Map.shards
     m.2.folded m.2.is_kind there c.in-Map.is) old
-    (let a = c.value.ensures.within in omega (arith, a, low)))
+    (let a = c.shard_value.ensures.within in omega (arith, a, low)))

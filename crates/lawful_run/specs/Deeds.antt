@@ -1,0 +1,119 @@
+-- What commands do to the log: in which manner, which colours they sync, and which node they append.
+use Rattle.std.specs.Prelude.{◌≡◌, ℕ, List, [], ◌∷◌, ◌++◌, map, Option, Some, None}
+use Rattle.std.specs.Option.{option_map}
+use Rattle.log_node.specs.declared.ids.Colours.{Colours}
+use Rattle.log_node.specs.declared.forms.Version.{Version}
+use Rattle.log_node.specs.declared.forms.Form.TheVariants as forms
+use Rattle.log_node.specs.Sets.{members}
+use Rattle.object_form.specs.Forms.{form_text}
+use Rattle.col_core.specs.Keeping.{Kept}
+use Rattle.script_text.specs.declared.script.Kind.{Kind}
+use Rattle.script_text.specs.declared.script.What.{What}
+use Rattle.script_text.specs.declared.script.What.TheVariants as whats
+use Rattle.script_text.specs.declared.uses.ReadUse.TheVariants.{UsesUp}
+use Rattle.script_text.specs.declared.uses.Use.{Use}
+use Rattle.script_text.specs.declared.uses.Use.TheVariants.{OfObject}
+use Rattle.script_text.specs.Uses.{use_of}
+use Rattle.lawful_run.specs.Callers.{Caller}
+use Rattle.lawful_run.specs.Asks.{Manner, Appending, Stopping, Syncing, Moving, Getting, Reading, Committing, Dequeuing, object_colours, kind_asked, shards, rising, keys_of, put_form}
+
+-- which colours a command is of
+pub data Reach : Type 0 where
+  NoColours : Reach
+  -- a set that it names
+  Named : (colours : Colours) → Reach
+  -- a colour that it names
+  One : (colour : ℕ) → Reach
+  -- the shards of keys of its object
+  ShardsOf : (keys : List (List ℕ)) → Reach
+  -- all colours of its object, in rising number
+  Whole : Reach
+  -- all colours of its object, as they are listed
+  Listed : Reach
+
+-- these colours, of an object with its own ones
+abbrev pub colours_reached : List ℕ → Reach → List ℕ
+colours_reached own NoColours = []
+colours_reached own (Named colours) = members colours
+colours_reached own (One colour) = colour ∷ []
+colours_reached own (ShardsOf keys) = shards own keys
+colours_reached own Whole = rising own
+colours_reached own Listed = own
+
+-- what a command does: its manner, and what it syncs
+pub record Deed : Type 0 where
+  pub manner : Manner
+  pub syncs : Reach
+
+-- one row for each command
+abbrev pub deed_of : What → Deed
+deed_of (whats.Append colours text) = record { manner = Appending; syncs = NoColours }
+deed_of (whats.Stop steps colours text) = record { manner = Stopping; syncs = NoColours }
+deed_of (whats.Sync colour) = record { manner = Syncing; syncs = One colour }
+deed_of (whats.Scan colours) = record { manner = Reading; syncs = Named colours }
+deed_of (whats.Pull region colour) = record { manner = Moving; syncs = NoColours }
+deed_of (whats.Trim colour) = record { manner = Moving; syncs = NoColours }
+deed_of (whats.Put object key value) = record { manner = Appending; syncs = NoColours }
+deed_of (whats.Get object key) = record { manner = Getting; syncs = ShardsOf (key ∷ []) }
+deed_of (whats.Del object key) = record { manner = Appending; syncs = NoColours }
+deed_of (whats.PutAll object pairs) = record { manner = Appending; syncs = NoColours }
+deed_of (whats.GetAll object keys) = record { manner = Reading; syncs = ShardsOf keys }
+deed_of (whats.Read object keys) = record { manner = Reading; syncs = Whole }
+deed_of (whats.Commit object pairs) = record { manner = Committing; syncs = Whole }
+deed_of (whats.Enq object value) = record { manner = Appending; syncs = NoColours }
+deed_of (whats.Deq object) = record { manner = Dequeuing; syncs = Listed }
+
+-- the manner of a command
+abbrev pub manner_of : What → Manner
+manner_of what = (deed_of what).manner
+
+-- the colours that a command syncs, in rising number
+abbrev pub colours_synced : Caller → What → List ℕ
+colours_synced caller what = colours_reached (object_colours (kind_asked caller what)) (deed_of what).syncs
+
+-- a node that a command appends: its colours and its text
+pub record Saying : Type 0 where
+  pub reach : Reach
+  pub text : List ℕ
+
+-- a node of this reach, with this text
+abbrev pub says : Reach → List ℕ → Option Saying
+says reach text = Some (record { reach = reach; text = text })
+
+-- What a command on an object of a kind appends, by what the read found that it uses up; nothing where it appends
+-- nothing. A transaction names the versions that were found.
+abbrev pub saying_of : Option Kind → Option (List Version) → What → Option Saying
+saying_of kind found (whats.Append colours text) = says (Named colours) text
+saying_of kind found (whats.Stop steps colours text) = says (Named colours) text
+saying_of kind found (whats.Put object key value) = says (ShardsOf (key ∷ [])) (form_text (put_form kind key value))
+saying_of kind found (whats.Del object key) = says (ShardsOf (key ∷ [])) (form_text (forms.Delete key))
+saying_of kind found (whats.PutAll object pairs) = says (ShardsOf (keys_of pairs)) (form_text (forms.PutAll pairs))
+saying_of kind found (whats.Commit object pairs) =
+    option_map (λ (versions : List Version). record {
+      reach = ShardsOf (map (λ (v : Version). v.key) versions ++ keys_of pairs);
+      text = form_text (forms.Transaction versions pairs);
+    }) found
+saying_of kind found (whats.Enq object value) = says Listed (form_text (forms.Enqueue value))
+saying_of kind found (whats.Deq object) = says Listed (form_text forms.Dequeue)
+saying_of kind found _ = None
+
+-- what was found by the read that a command uses up
+abbrev pub found_by : Use → Kept → Option (List Version)
+found_by (OfObject object UsesUp) kept = kept.reads object
+found_by _ kept = None
+
+-- such a set of colours is of this reach
+abbrev pub Reaches : List ℕ → Reach → Colours → Type 0
+Reaches own (Named asked) colours = colours ≡ asked
+Reaches own reach colours = members colours ≡ colours_reached own reach
+
+-- the node is one that is said, of an object with its own colours
+abbrev pub Says : List ℕ → Option Saying → Colours → List ℕ → Type 0
+Says own None colours text = ⊥
+Says own (Some saying) colours text = Reaches own saying.reach colours × (text ≡ saying.text)
+
+-- The command, of a client that keeps this, appends a node with these colours and this text.
+abbrev pub AsksToAppend : Caller → Kept → What → Colours → List ℕ → Type 0
+AsksToAppend caller kept what colours text =
+    Says (object_colours (kind_asked caller what))
+    (saying_of (kind_asked caller what) (found_by (use_of what) kept) what) colours text
