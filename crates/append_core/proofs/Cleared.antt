@@ -31,7 +31,7 @@ use Rattle.chain_store.specs.Holds.{IsHold, SameBut, SeesMoreIn, seen_in, entrie
 use Rattle.chain_store.specs.Proposals.{IsMarkedOpen}
 use Rattle.chain_store.specs.Going.{GoesOn}
 use Rattle.append_core.specs.Helping.{HelpsOpen, IsStepIn, IsUnderClock, MayBeOpenIn, WasOpen}
-use Rattle.append_core.specs.Settled.{IsComplete}
+use Rattle.append_core.specs.Settled.{HoldKnowsComplete}
 use Rattle.chain_store.proofs.CallerLemmas.{goes_then, goes_weaken, looks_on}
 use Rattle.append_core.proofs.Lasting.{found, finds, longer, lawful_longer}
 
@@ -183,7 +183,7 @@ pub helped_open : (r : Region) (g m h : Hold) (b : BegunAppend) (k : ℕ) (key :
     → SeesMoreIn k g m
     → Some b.id ≡ option_map (λ (e : Standing). e.key.id) (find (is_open_below key) (entries (entries_seen m k)))
     → has b.colours k ≡ true → IsMarkedOpen r.board.size k (view_of g) (view_of m) (seen_in m k) b
-    → GoesOn (IsStepIn b) m h → IsComplete h b.id → GoesOn (λ c e. HelpsOpen g h e) g h
+    → GoesOn (IsStepIn b) m h → HoldKnowsComplete h b.id → GoesOn (λ c e. HelpsOpen g h e) g h
 helped_open r g m h b k key is but sees first coloured marked goes complete =
     let f = first_open key (entries (entries_seen m k)) b.id
     (find (is_open_below key) (entries (entries_seen m k))) refl first in

@@ -16,11 +16,11 @@ use Rattle.chain_store.specs.Columns.{told_propose}
 use Rattle.chain_store.specs.Holds.{IsHold, seen_in, entries_seen}
 use Rattle.chain_store.proofs.CallerLemmas.{lawful_seen}
 use Rattle.append_core.specs.declared.stood.Point.{Point}
-use Rattle.append_core.specs.Several.{EntersThere, StandsThere}
+use Rattle.append_core.specs.Several.{HoldEnters, HoldSeesPoint}
 use Rattle.append_core.proofs.Lasting.{not_open}
 use Rattle.append_core.proofs.Taking.{entered_in}
 
-has_come : (g h : Hold) (x : Node) (c : ℕ) (at : At) → EntersThere g h x c at
+has_come : (g h : Hold) (x : Node) (c : ℕ) (at : At) → HoldEnters g h x c at
     → has_entered x.id (entries_seen h c) ≡ true
 has_come g h x c (Event place) e =
     let t = told_propose c g.passes.number x e.1 in
@@ -41,7 +41,7 @@ final_in_line history x stamp position at =
 
 -- a node of several colours that stands in one of them has entered there, and is open there no more
 pub stands_closed : (r : Region) (g h : Hold) (x : Node) (stamp : ℕ) (p : Point) → IsHold r h
-    → p.colour < r.board.size.colours → StandsThere g h x stamp p
+    → p.colour < r.board.size.colours → HoldSeesPoint g h x stamp p
     → (has_entered x.id (entries_seen h p.colour) ≡ true)
     × (open_entry x.id (entries (entries_seen h p.colour)) ≡ None)
 stands_closed r g h x stamp p is lt stands =

@@ -14,7 +14,7 @@ use Rattle.col_core.specs.Ids.{IsFinal}
 use Rattle.stamp_board.specs.declared.view.Size.{Size}
 use Rattle.stamp_board.specs.Rows.{IsRow}
 use Rattle.stamp_board.specs.Views.{Grows, Learns, KnowsMark, KnowsOutcome}
-use Rattle.stamp_board.proofs.CallerLemmas.{Learns-from, begun_learnt, mark_learnt, outcome_learnt}
+use Rattle.stamp_board.proofs.CallerLemmas.{Learns-from, begun_learnt, outcome_learnt}
 use Rattle.chain_store.specs.declared.told.Told.{Told}
 use Rattle.chain_store.specs.declared.hold.Hold.{Hold}
 use Rattle.chain_store.specs.declared.region.Region.{Region}
@@ -22,11 +22,12 @@ use Rattle.chain_store.specs.Beginning.{begun_for}
 use Rattle.chain_store.specs.Histories.{entries_in}
 use Rattle.chain_store.specs.Holds.{IsHold, KnowsAppend, seen_in, view_of}
 use Rattle.chain_store.proofs.CallerLemmas.{prefix_same, prefix_then}
-use Rattle.append_core.specs.Settled.{IsSettledOver, IsSettledNow, IsSettledThere, IsComplete}
+use Rattle.append_core.specs.Settled.{HoldKnowsSettledOver, HoldKnowsSettled, HoldKnewSettled, HoldKnowsComplete}
+use Rattle.append_core.proofs.Marked.{over_learnt}
 
 -- what is settled is so by its id and its row alone
 over_named : (h : Hold) (a b : BegunAppend) (o : Outcome) (c : ℕ) (log : List Told) → a.id ≡ b.id → a.row ≡ b.row
-    → IsSettledOver h a o c log → IsSettledOver h b o c log
+    → HoldKnowsSettledOver h a o c log → HoldKnowsSettledOver h b o c log
 over_named h a b o c log id row s = record {
   mark = s.mark;
   set = s.set;
@@ -42,7 +43,7 @@ over_named h a b o c log id row s = record {
 -- an append that is decided, and settled in each of its colours, is complete
 pub complete_by : (r : Region) (g h : Hold) (b : BegunAppend) (o : Outcome) → KnowsAppend r g b → IsHold r h
     → Grows (view_of g) (view_of h) → o ≢ Open → KnowsOutcome (view_of h) b.row o
-    → ((c : ℕ) → has b.colours c ≡ true → IsSettledNow h b o c) → IsComplete h b.id
+    → ((c : ℕ) → has b.colours c ≡ true → HoldKnowsSettled h b o c) → HoldKnowsComplete h b.id
 complete_by r g h b o knows is grows shut known settled =
     let x = knows.knows.0 in
     let of = knows.knows.1 in record {
@@ -65,21 +66,14 @@ complete_by r g h b o knows is grows shut known settled =
 -- for one who has seen more, and knows all that was known
 module _ (g h : Hold) (more : (c : ℕ) → IsPrefix (seen_in g c) (seen_in h c))
     (size : (view_of h).size ≡ (view_of g).size) (learns : Learns (view_of g) (view_of h)) where
-  there_learnt : (b : BegunAppend) (o : Outcome) (c : ℕ) → IsSettledThere g b o c → IsSettledThere h b o c
+  there_learnt : (b : BegunAppend) (o : Outcome) (c : ℕ) → HoldKnewSettled g b o c → HoldKnewSettled h b o c
   there_learnt b o c s = record {
     log = s.log;
     within = prefix_then s.log (seen_in g c) (seen_in h c) s.within (more c);
-    over = record {
-      mark = s.over.mark;
-      set = s.over.set;
-      known = mark_learnt (view_of g) (view_of h) b.row size learns c s.over.mark s.over.known;
-      closed = s.over.closed;
-      done = s.over.done;
-      final = s.over.final;
-    };
+    over = over_learnt g h size learns b o c s.log s.over;
   }
 
-  pub complete_later : (id : Id) → IsComplete g id → IsComplete h id
+  pub complete_later : (id : Id) → HoldKnowsComplete g id → HoldKnowsComplete h id
   complete_later id is = record {
     row = is.row;
     node = is.node;

@@ -19,8 +19,8 @@ use Rattle.chain_store.specs.Beginning.{KnowsMarks}
 use Rattle.chain_store.specs.Holds.{view_of}
 use Rattle.chain_store.proofs.CallerLemmas.{final_number, no_end, goes_same, goes_then, goes_weaken, got, member_at, member_has}
 use Rattle.append_core.specs.declared.stood.Point.{Point}
-use Rattle.append_core.specs.Several.{EntersThere, IsStepBefore, StopsAfter, own_append, own_row}
-use Rattle.append_core.specs.Inside.{ArePointsOf, AreProposed, EndsAmong, IsDecidedSo, IsFirstEnd}
+use Rattle.append_core.specs.Several.{HoldEnters, IsFirstEnd, IsStepBefore, HoldStopsAfter, own_append, own_row}
+use Rattle.append_core.specs.Inside.{ArePointsOf, AreProposed, EndsAmong, IsDecidedSo}
 use Rattle.append_core.proofs.Keeping.{step_more, begun_on, end_later, enters_later}
 use Rattle.append_core.proofs.Marked.{marked_later}
 use Rattle.append_core.proofs.Members.{members_once, mark_for, mark_fits}
@@ -30,8 +30,8 @@ module _ (r : Region) (g h k : Hold) (x : Node) (points : List Point) (ended : O
     (of : ArePointsOf points x.colours) (passes : k.passes ≡ h.passes) (later : IsLater h.seat k.seat)
     (next : k.next ≡ h.next) (shut : o ≢ Open) (known : KnowsOutcome (view_of k) (own_row g) o) where
   -- so many steps are taken then
-  pub steps_decided : StopsAfter r g h x (length (members x.colours) + 1)
-      → StopsAfter r g k x (length (members x.colours) + 2)
+  pub steps_decided : HoldStopsAfter r g h x (length (members x.colours) + 1)
+      → HoldStopsAfter r g k x (length (members x.colours) + 2)
   steps_decided was =
       let n = length (members x.colours) in
       let goes = goes_same (IsStepBefore x (n + 2)) h k passes in record {
@@ -57,7 +57,7 @@ module _ (r : Region) (g h k : Hold) (x : Node) (points : List Point) (ended : O
     abbrev Fact : ℕ → Mark → Type 0
     Fact c m =
         (n : ℕ) × (p : Point) × (slice_get points n ≡ Some p) × (p.colour ≡ c) × KnowsMark (view_of h) (own_row g) c m
-        × ((s : ℕ) → m ≡ marks.Number s → EntersThere g h x p.colour p.at)
+        × ((s : ℕ) → m ≡ marks.Number s → HoldEnters g h x p.colour p.at)
 
     fact : (c : ℕ) → has x.colours c ≡ true → (m : Mark) × Fact c m
     fact c it =
@@ -80,7 +80,7 @@ module _ (r : Region) (g h k : Hold) (x : Node) (points : List Point) (ended : O
           ),
         )
 
-    entered : (f n : ℕ) (p : Point) → o ≡ Final f → slice_get points n ≡ Some p → EntersThere g h x p.colour p.at
+    entered : (f n : ℕ) (p : Point) → o ≡ Final f → slice_get points n ≡ Some p → HoldEnters g h x p.colour p.at
     entered f n p is at =
         let mark = mark_for x.colours Fact fact in
         let fits = mark_fits x.colours Fact fact in
@@ -93,7 +93,7 @@ module _ (r : Region) (g h k : Hold) (x : Node) (points : List Point) (ended : O
         let one : q.1 ≡ p =
         (let f : Some q.1 ≡ Some p = sym q.2 ∙ subst (λ (j : ℕ). slice_get points j ≡ Some p) (sym once) at in
         let g : q.1 ≡ p = cc f in g) in
-        subst (λ (z : Point). EntersThere g h x z.colour z.at) one (q.5 m.0 m.1)
+        subst (λ (z : Point). HoldEnters g h x z.colour z.at) one (q.5 m.0 m.1)
 
     abbrev IsElse : ℕ → Mark → Type 0
     IsElse c m = (m ≢ marks.Fenced StampEnd) × KnowsMark (view_of h) (own_row g) c m

@@ -29,25 +29,25 @@ use Rattle.append_core.specs.declared.stood.Stood.{Stood}
 use Rattle.append_core.specs.declared.several.MultiFault.{MultiFault}
 use Rattle.append_core.specs.declared.several.MultiFault.TheVariants as faults
 use Rattle.append_core.specs.Helping.{HelpsOpen, IsStepIn}
-use Rattle.append_core.specs.Several.{EntersThere, IsStepBefore, IsStopOf, Leaves, StandsInAll, StopsAfter, own_append, own_row}
-use Rattle.append_core.specs.Inside.{ArePointsOf, IsAhead, IsDone, IsPlaced, IsStopAt, colours_of}
+use Rattle.append_core.specs.Several.{HoldEnters, IsStepBefore, IsStopOf, HoldLeaves, HoldAppendsSeveral, HoldStopsAfter, own_append, own_row}
+use Rattle.append_core.specs.Inside.{ArePointsOf, IsAhead, HasTakenAll, HasPosition, IsStopAt, point_colours}
 use Rattle.append_core.proofs.Helped.{helped_longer}
 use Rattle.append_core.proofs.Keeping.{begun_on, enters_later}
 use Rattle.append_core.proofs.Pointing.{point_has}
 
 -- a final append is final in the colour of each point
 pub stamped_there : (r : Region) (g h : Hold) (x : Node) (points : List Point) (places : List (Option ℕ)) (ended : Option ℕ)
-    (f n : ℕ) (p : Point) → IsDone r g h x points places ended (Final f) → ArePointsOf points x.colours
+    (f n : ℕ) (p : Point) → HasTakenAll r g h x points places ended (Final f) → ArePointsOf points x.colours
     → slice_get points n ≡ Some p → IsFinal (entries_seen h p.colour) x.id f
 stamped_there r g h x points places ended f n p d of at =
     (d.all.settled p.colour (point_has points x.colours of n p at)).final f refl
 
 pub stands_all : (r : Region) (g h k : Hold) (x : Node) (points : List Point) (places : List (Option ℕ))
-    (ended : Option ℕ) (stamp : ℕ) (s : Stood) → IsDone r g h x points places ended (Final stamp)
+    (ended : Option ℕ) (stamp : ℕ) (s : Stood) → HasTakenAll r g h x points places ended (Final stamp)
     → ArePointsOf points x.colours → IsLater h.seat k.seat → k.next ≡ h.next
-    → GoesOn (λ c e. HelpsOpen h k e) h k → s.key ≡ entry_key stamp x.id → colours_of s.points ≡ colours_of points
-    → ((n : ℕ) (p : Point) → slice_get s.points n ≡ Some p → IsPlaced k (entry_key stamp x.id) points n p)
-    → StandsInAll r g k x s
+    → GoesOn (λ c e. HelpsOpen h k e) h k → s.key ≡ entry_key stamp x.id → point_colours s.points ≡ point_colours points
+    → ((n : ℕ) (p : Point) → slice_get s.points n ≡ Some p → HasPosition k (entry_key stamp x.id) points n p)
+    → HoldAppendsSeveral r g k x s
 stands_all r g h k x points places ended stamp s d of later next goes key colours placed =
     let b = own_append g x in
     let both : ℕ → _ → Type 0 = λ c e. IsStepIn b c e ⊎ HelpsOpen g k e in record {
@@ -58,8 +58,8 @@ stands_all r g h k x points places ended stamp s d of later next goes key colour
           (Learns-from (view_of h) (view_of k) later.grows) (Final stamp) d.all.outcome;
       colours = colours ∙ of.same;
       each = λ n p at. let w = placed n p at in record {
-        entered = subst (λ (c : ℕ). EntersThere g k x c p.at) (sym w.2)
-            (subst (λ (a : At). EntersThere g k x w.0.colour a) (sym w.3)
+        entered = subst (λ (c : ℕ). HoldEnters g k x c p.at) (sym w.2)
+            (subst (λ (a : At). HoldEnters g k x w.0.colour a) (sym w.3)
             (enters_later g h k x goes.more later.grows w.0.colour w.0.at (d.decided.entered stamp n w.0 refl w.1)));
         stands = w.4;
       };
@@ -72,21 +72,19 @@ stands_all r g h k x points places ended stamp s d of later next goes key colour
 
 -- what is left of one that is gone
 pub leaves_gone : (r : Region) (g h : Hold) (x : Node) (points : List Point) (places : List (Option ℕ))
-    (ended : Option ℕ) (why : Why) (fault : MultiFault) → IsDone r g h x points places ended (Gone why)
+    (ended : Option ℕ) (why : Why) (fault : MultiFault) → HasTakenAll r g h x points places ended (Gone why)
     → (why ≡ Memory → fault ≡ faults.NoMemory)
     → ((c : ℕ) → why ≡ StampEnd → ended ≡ Some c → fault ≡ faults.StampEnd c)
-    → Leaves r g h x None fault
+    → HoldLeaves r g h x None fault
 leaves_gone r g h x points places ended Memory fault d memory end =
-    subst (λ (f : MultiFault). Leaves r g h x None f) (sym (memory refl)) (inr (refl, d.all))
+    subst (λ (f : MultiFault). HoldLeaves r g h x None f) (sym (memory refl)) (inr (refl, d.all))
 leaves_gone r g h x points places ended StampEnd fault d memory end =
     let e = d.decided.ends refl in
-    subst (λ (f : MultiFault). Leaves r g h x None f) (sym (end e.0 refl e.1)) (
-      refl,
-      record { all = d.all; coloured = e.2.coloured; fence = e.2.fence; least = e.2.least },
-    )
+    subst (λ (f : MultiFault). HoldLeaves r g h x None f) (sym (end e.0 refl e.1))
+    (refl, record { all = d.all; first = e.2 })
 
 pub ended_some : (r : Region) (g h : Hold) (x : Node) (points : List Point) (places : List (Option ℕ))
-    (ended : Option ℕ) (why : Why) → IsDone r g h x points places ended (Gone why) → why ≡ StampEnd
+    (ended : Option ℕ) (why : Why) → HasTakenAll r g h x points places ended (Gone why) → why ≡ StampEnd
     → (c : ℕ) × (ended ≡ Some c)
 ended_some r g h x points places ended why d is = let e = d.decided.ends (ap Gone is) in (e.0, e.1)
 
@@ -115,7 +113,7 @@ pub next_is : (r : Region) (g : Hold) (row : Row) → IsHold r g → IsNext r.bo
 next_is r g row is next = next.1 ∙ ap (λ (n : ℕ). row_of n g.seat.used) is.number
 
 pub begins_one : (r : Region) (g h : Hold) (x : Node) (row : Row) → IsHold r g → IsNext r.board g.seat row
-    → BeginsRow r g h row x → h.passes ≡ g.passes → HasNextRow r.board g.seat x → StopsAfter r g h x 1
+    → BeginsRow r g h row x → h.passes ≡ g.passes → HasNextRow r.board g.seat x → HoldStopsAfter r g h x 1
 begins_one r g h x row is next b passes named =
     let same = next_is r g row is next in record {
       begun = record {
@@ -166,7 +164,7 @@ module _ {T E : Type 0} where
   on_ok (Err e) A a = tt
 
 -- the hold knows all that it knew, whatever comes
-leaves_grow : (r : Region) (g k : Hold) (x : Node) (stop : Option ℕ) (fault : MultiFault) → Leaves r g k x stop fault
+leaves_grow : (r : Region) (g k : Hold) (x : Node) (stop : Option ℕ) (fault : MultiFault) → HoldLeaves r g k x stop fault
     → Grows (view_of g) (view_of k)
 leaves_grow r g k x stop (faults.Full used) l = absurd l
 leaves_grow r g k x stop (faults.StampEnd colour) l = l.1.all.begun.grows
@@ -180,6 +178,6 @@ leaves_grow r g k x stop faults.NoMemory l = elim l [
 ]
 
 pub knows_on : (r : Region) (g k : Hold) (x : Node) (stop : Option ℕ) (answer : Result Stood MultiFault)
-    → IfOk answer (StandsInAll r g k x) → IfErr answer (Leaves r g k x stop) → Grows (view_of g) (view_of k)
+    → IfOk answer (HoldAppendsSeveral r g k x) → IfErr answer (HoldLeaves r g k x stop) → Grows (view_of g) (view_of k)
 knows_on r g k x stop (Ok s) ok err = ok.begun.grows
 knows_on r g k x stop (Err fault) ok err = leaves_grow r g k x stop fault err

@@ -28,7 +28,7 @@ use Rattle.chain_store.specs.Holds.{IsHold, seen_in, view_of}
 use Rattle.chain_store.specs.Going.{GoesOn}
 use Rattle.chain_store.proofs.CallerLemmas.{prefix_then, goes_same, goes_then, goes_weaken, lawful_seen}
 use Rattle.append_core.specs.Helping.{MayBeOpenIn, WasOpen, HelpsOpen}
-use Rattle.append_core.specs.Settled.{IsComplete}
+use Rattle.append_core.specs.Settled.{HoldKnowsComplete}
 use Rattle.append_core.proofs.Complete.{complete_later}
 use Rattle.append_core.proofs.Taking.{entries_split}
 use Rattle.append_core.proofs.Lasting.{closed_longer}
@@ -90,8 +90,8 @@ step_once a b (Carry region start heads) p q = absurd p
 step_once a b (Trim counts) p q = absurd p
 
 -- the append that an event helps is complete
-pub helped_complete : (g h : Hold) (e : ColumnEvent) → HelpsOpen g h e → (id : Id) → IsStepOf id e → IsComplete h id
-helped_complete g h e helps id step = subst (IsComplete h) (step_once helps.0 id e helps.1 step) helps.3
+pub helped_complete : (g h : Hold) (e : ColumnEvent) → HelpsOpen g h e → (id : Id) → IsStepOf id e → HoldKnowsComplete h id
+helped_complete g h e helps id step = subst (HoldKnowsComplete h) (step_once helps.0 id e helps.1 step) helps.3
 
 -- what had entered and was open no more was so at each time since
 closed_between : (r : Region) (h : Hold) (k : ℕ) → IsHold r h → k < r.board.size.colours → (old log : List Told)

@@ -8,6 +8,7 @@ use Rattle.log_node.specs.declared.marks.Mark.{Mark}
 use Rattle.log_node.specs.declared.marks.Outcome.{Outcome}
 use Rattle.log_node.specs.Sets.{members}
 use Rattle.col_core.specs.declared.Event as events
+use Rattle.col_core.specs.Appending.{IsStepWithin}
 use Rattle.stamp_board.specs.Seats.{IsLater}
 use Rattle.stamp_board.specs.Views.{Grows, KnowsMark}
 use Rattle.stamp_board.proofs.CallerLemmas.{Grows-trans, Learns-from, begun_learnt, mark_learnt, outcome_learnt}
@@ -16,8 +17,8 @@ use Rattle.chain_store.specs.declared.region.Region.{Region}
 use Rattle.chain_store.specs.Columns.{told_propose}
 use Rattle.chain_store.specs.Holds.{seen_in, view_of}
 use Rattle.append_core.specs.declared.stood.Point.{Point}
-use Rattle.append_core.specs.Several.{HasBegun, EntersThere, IsMarkedElse, IsStepBefore, IsStepWithin, own_row}
-use Rattle.append_core.specs.Inside.{IsDecidedSo, IsFirstEnd, IsProposedThere}
+use Rattle.append_core.specs.Several.{HoldBegins, HoldEnters, IsFirstEnd, IsMarkedElse, IsStepBefore, own_row}
+use Rattle.append_core.specs.Inside.{IsDecidedSo, IsProposedThere}
 use Rattle.append_core.proofs.Places.{prefix_length, prefix_get}
 use mathlib.Core.List.{IsPrefix}
 
@@ -38,7 +39,7 @@ step_more x few more c e le s = (s.0, s.1, s.2, within_more s.0 (length (members
 -- the hold has gone on
 module _ (g h k : Hold) (x : Node) (more : (c : ℕ) → IsPrefix (seen_in h c) (seen_in k c))
     (grows : Grows (view_of h) (view_of k)) where
-  pub enters_later : (c : ℕ) (at : At) → EntersThere g h x c at → EntersThere g k x c at
+  pub enters_later : (c : ℕ) (at : At) → HoldEnters g h x c at → HoldEnters g k x c at
   enters_later c (Event place) e = (
     e.0,
     e.1,
@@ -89,8 +90,8 @@ module _ (g h k : Hold) (x : Node) (more : (c : ℕ) → IsPrefix (seen_in h c) 
   }
 
 -- its row stays begun
-pub begun_on : (r : Region) (g h k : Hold) (x : Node) → IsLater h.seat k.seat → k.next ≡ h.next → HasBegun r g h x
-    → HasBegun r g k x
+pub begun_on : (r : Region) (g h k : Hold) (x : Node) → IsLater h.seat k.seat → k.next ≡ h.next → HoldBegins r g h x
+    → HoldBegins r g k x
 begun_on r g h k x later next b = record {
   row = b.row;
   room = b.room;

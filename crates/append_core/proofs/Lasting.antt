@@ -138,8 +138,3 @@ module _ (r : Region) (g h : Hold) (k : ℕ) (is : IsHold r h) (lt : k < r.board
   pub final_later : (id : Id) (f : ℕ) → IsFinal (entries_seen g k) id f → IsFinal (entries_seen h k) id f
   final_later id f final = subst (λ (l : List Entry). IsFinal l id f) longer
       (final_longer r.number r.regions (entries_seen g k) (entries_in more.0) id lawful_longer f final)
-
-  pub closed_later : (id : Id) → has_entered id (entries_seen g k) ≡ true
-      → open_entry id (entries (entries_seen g k)) ≡ None → open_entry id (entries (entries_seen h k)) ≡ None
-  closed_later id entered none = subst (λ (l : List Entry). open_entry id (entries l) ≡ None) longer
-      (closed_longer r.number r.regions (entries_seen g k) (entries_in more.0) id lawful_longer entered none)

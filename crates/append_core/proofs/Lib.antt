@@ -1,8 +1,8 @@
 mod Taking
 mod Lasting
+mod Marked
 mod Complete
 mod Helped
-mod Marked
 mod Cleared
 mod Places
 mod Placed

@@ -1,6 +1,5 @@
 -- What a hold knows of a begun append in the columns of its colours, and that it knows it later.
 use Rattle.std.proofs.Common.{◌≡◌, ◌≢◌, ℕ, ◌<◌, List, true, None, refl, sym, subst, arith, inl, inr}
-use mathlib.Core.List.{IsPrefix}
 use Rattle.log_node.specs.declared.limits.TheConstants.{MAX_COLOURS}
 use Rattle.log_node.specs.declared.ids.Colours.{Colours}
 use Rattle.log_node.specs.declared.marks.Mark.{Mark}
@@ -11,20 +10,18 @@ use Rattle.log_node.specs.Seen.{BegunAppend}
 use Rattle.log_node.specs.Sets.{has}
 use Rattle.log_node.specs.Standings.{open_entry}
 use Rattle.col_core.specs.declared.Event.{Event}
-use Rattle.col_core.specs.History.{entries, has_entered}
+use Rattle.col_core.specs.History.{entries}
 use Rattle.col_core.specs.Ids.{IsFinal}
-use Rattle.stamp_board.specs.Views.{Grows, KnowsAll, KnowsMark}
+use Rattle.stamp_board.specs.Views.{Grows, KnowsAll, KnowsMark, Learns}
 use Rattle.stamp_board.proofs.CallerLemmas.{Learns-from, mark_learnt}
 use Rattle.chain_store.specs.declared.told.Told.{Told}
 use Rattle.chain_store.specs.declared.hold.Hold.{Hold}
 use Rattle.chain_store.specs.declared.region.Region.{Region}
 use Rattle.chain_store.specs.Proposals.{HasProposal}
-use Rattle.chain_store.specs.Holds.{IsHold, KnowsAppend, SameBut, seen_in, entries_seen, view_of}
+use Rattle.chain_store.specs.Holds.{KnowsAppend, SameBut, seen_in, entries_seen, view_of}
 use Rattle.chain_store.specs.Going.{GoesOn}
-use Rattle.chain_store.proofs.CallerLemmas.{prefix_same, prefix_then}
-use Rattle.append_core.specs.Settled.{IsMarkedThere, IsSettledOver, IsSettledNow, IsSettledThere}
+use Rattle.append_core.specs.Settled.{HoldKnowsMarked, HoldKnowsSettledOver, HoldKnowsSettled}
 use Rattle.append_core.proofs.Taking.{entered_proposed, entered_more}
-use Rattle.append_core.proofs.Lasting.{final_later, closed_later}
 
 module _ (r : Region) (h : Hold) (b : BegunAppend) (knows : KnowsAppend r h b) where
   -- its colours are those of the region
@@ -39,7 +36,7 @@ module _ (r : Region) (h : Hold) (b : BegunAppend) (knows : KnowsAppend r h b) w
       omega (arith, lt, few)
 
   -- all its marks are known where it is marked in each colour
-  pub all_known : ((c : ℕ) → has b.colours c ≡ true → IsMarkedThere h b c) → KnowsAll (view_of h) b.row
+  pub all_known : ((c : ℕ) → has b.colours c ≡ true → HoldKnowsMarked h b c) → KnowsAll (view_of h) b.row
   all_known marked = (
     knows.knows.0,
     knows.knows.1.knows,
@@ -53,7 +50,7 @@ module _ (r : Region) (h : Hold) (b : BegunAppend) (knows : KnowsAppend r h b) w
 pub marked_at : (r : Region) (h : Hold) (b : BegunAppend) (k : ℕ) (mark : Mark) → mark ≢ marks.None
     → KnowsMark (view_of h) b.row k mark
     → ((n : ℕ) → mark ≡ marks.Number n → HasProposal r.board.size r.number k (view_of h) b (seen_in h k) n)
-    → IsMarkedThere h b k
+    → HoldKnowsMarked h b k
 marked_at r h b k marks.None set known entered = absurd (set refl)
 marked_at r h b k (marks.Fenced why) set known entered = record {
   mark = marks.Fenced why;
@@ -75,7 +72,7 @@ module _ (Made : ℕ → Event → Type 0) (g h : Hold) (b : BegunAppend) (goes 
   known_later c m = mark_learnt (view_of g) (view_of h) b.row grows.size
       (Learns-from (view_of g) (view_of h) grows) c m
 
-  pub marked_later : (c : ℕ) → IsMarkedThere g b c → IsMarkedThere h b c
+  pub marked_later : (c : ℕ) → HoldKnowsMarked g b c → HoldKnowsMarked h b c
   marked_later c m = record {
     mark = m.mark;
     set = m.set;
@@ -87,9 +84,9 @@ module _ (Made : ℕ → Event → Type 0) (g h : Hold) (b : BegunAppend) (goes 
   }
 
 -- by a settling it is settled in the colour where it was marked
-pub settled_at : (h : Hold) (b : BegunAppend) (o : Outcome) (c : ℕ) → IsMarkedThere h b c
+pub settled_at : (h : Hold) (b : BegunAppend) (o : Outcome) (c : ℕ) → HoldKnowsMarked h b c
     → open_entry b.id (entries (entries_seen h c)) ≡ None
-    → ((f : ℕ) → o ≡ Final f → IsFinal (entries_seen h c) b.id f) → IsSettledNow h b o c
+    → ((f : ℕ) → o ≡ Final f → IsFinal (entries_seen h c) b.id f) → HoldKnowsSettled h b o c
 settled_at h b o c m closed final = record {
   mark = m.mark;
   set = m.set;
@@ -99,17 +96,14 @@ settled_at h b o c m closed final = record {
   final = final;
 }
 
--- where it is settled it is marked
-pub settled_marked : (h : Hold) (b : BegunAppend) (o : Outcome) (c : ℕ) → IsSettledNow h b o c → IsMarkedThere h b c
-settled_marked h b o c s = record { mark = s.mark; set = s.set; known = s.known; done = s.done }
-
 -- what is settled over a history is so for one who knows more
-over_longer : (g h : Hold) (b : BegunAppend) (o : Outcome) (c : ℕ) (log : List Told) → Grows (view_of g) (view_of h)
-    → IsSettledOver g b o c log → IsSettledOver h b o c log
-over_longer g h b o c log grows s = record {
+pub over_learnt : (g h : Hold) → (view_of h).size ≡ (view_of g).size → Learns (view_of g) (view_of h)
+    → (b : BegunAppend) (o : Outcome) (c : ℕ) (log : List Told)
+    → HoldKnowsSettledOver g b o c log → HoldKnowsSettledOver h b o c log
+over_learnt g h size learns b o c log s = record {
   mark = s.mark;
   set = s.set;
-  known = mark_learnt (view_of g) (view_of h) b.row grows.size (Learns-from (view_of g) (view_of h) grows) c s.mark s.known;
+  known = mark_learnt (view_of g) (view_of h) b.row size learns c s.mark s.known;
   closed = s.closed;
   done = s.done;
   final = s.final;
@@ -117,32 +111,7 @@ over_longer g h b o c log grows s = record {
 
 -- it stays settled in other columns than that of a call
 pub settled_elsewhere : (g h : Hold) (b : BegunAppend) (o : Outcome) (k c : ℕ) → SameBut k g h
-    → Grows (view_of g) (view_of h) → c ≢ k → IsSettledNow g b o c → IsSettledNow h b o c
+    → Grows (view_of g) (view_of h) → c ≢ k → HoldKnowsSettled g b o c → HoldKnowsSettled h b o c
 settled_elsewhere g h b o k c but grows ne s =
-    subst (λ (l : List Told). IsSettledOver h b o c l) (sym (but.others c ne))
-    (over_longer g h b o c (seen_in g c) grows s)
-
--- what is settled now was settled at some time, and what was so at some time was so later
-pub settled_there : (h : Hold) (b : BegunAppend) (o : Outcome) (c : ℕ) → IsSettledNow h b o c → IsSettledThere h b o c
-settled_there h b o c s = record { log = seen_in h c; within = prefix_same (seen_in h c) (seen_in h c) refl; over = s }
-
-pub settled_stays : (g h : Hold) (b : BegunAppend) (o : Outcome) (c : ℕ) → IsPrefix (seen_in g c) (seen_in h c)
-    → Grows (view_of g) (view_of h) → IsSettledThere g b o c → IsSettledThere h b o c
-settled_stays g h b o c more grows s = record {
-  log = s.log;
-  within = prefix_then s.log (seen_in g c) (seen_in h c) s.within more;
-  over = over_longer g h b o c s.log grows s.over;
-}
-
--- it stays settled, over all that is seen, in each column where it has entered
-pub settled_later : (r : Region) (g h : Hold) (b : BegunAppend) (o : Outcome) (c : ℕ) → IsHold r h
-    → c < r.board.size.colours → IsPrefix (seen_in g c) (seen_in h c) → Grows (view_of g) (view_of h)
-    → has_entered b.id (entries_seen g c) ≡ true → IsSettledNow g b o c → IsSettledNow h b o c
-settled_later r g h b o c is lt more grows entered s = record {
-  mark = s.mark;
-  set = s.set;
-  known = mark_learnt (view_of g) (view_of h) b.row grows.size (Learns-from (view_of g) (view_of h) grows) c s.mark s.known;
-  closed = closed_later r g h c is lt more b.id entered s.closed;
-  done = inr (entered_more (seen_in g c) (seen_in h c) b.id more entered);
-  final = λ f final. final_later r g h c is lt more b.id f (s.final f final);
-}
+    subst (λ (l : List Told). HoldKnowsSettledOver h b o c l) (sym (but.others c ne))
+    (over_learnt g h grows.size (Learns-from (view_of g) (view_of h) grows) b o c (seen_in g c) s)

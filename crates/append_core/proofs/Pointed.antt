@@ -9,7 +9,7 @@ use Rattle.chain_store.specs.declared.hold.Hold.{Hold}
 use Rattle.chain_store.specs.declared.region.Region.{Region}
 use Rattle.chain_store.specs.Holds.{IsHold, seen_in, entries_seen}
 use Rattle.append_core.specs.declared.stood.Point.{Point}
-use Rattle.append_core.specs.Inside.{IsPlaced}
+use Rattle.append_core.specs.Inside.{HasPosition}
 use Rattle.append_core.proofs.Placed.{stands_later}
 use Rattle.append_core.proofs.Pointing.{set_here, set_other}
 
@@ -27,10 +27,10 @@ module _ (r : Region) (h k : Hold) (key : Key) (first points : List Point) (n : 
   abbrev new : Point
   new = record { colour = q.colour; at = q.at; position = position }
 
-  pub placed_next : ((i : ℕ) (z : Point) → i < n → slice_get points i ≡ Some z → IsPlaced h key first i z)
+  pub placed_next : ((i : ℕ) (z : Point) → i < n → slice_get points i ≡ Some z → HasPosition h key first i z)
       → (i : ℕ) (z : Point) → i < n + 1
       → slice_get (with_at points n (record { colour = q.colour; at = q.at; position = position })) i ≡ Some z
-      → IsPlaced k key first i z
+      → HasPosition k key first i z
   placed_next before i z lt e = elim (cases_eq i n) [
     | inl same ↦
         let z_is = set_here points n new z

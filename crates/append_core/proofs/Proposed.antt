@@ -15,6 +15,7 @@ use Rattle.log_node.specs.declared.marks.Mark.{Mark}
 use Rattle.log_node.specs.declared.marks.Mark.TheVariants as marks
 use Rattle.log_node.specs.Sets.{has, members}
 use Rattle.col_core.specs.declared.Event as events
+use Rattle.col_core.specs.Appending.{IsStepWithin}
 use Rattle.col_core.proofs.CallerLemmas.{in_contains, in_slice}
 use Rattle.stamp_board.specs.Seats.{IsLater}
 use Rattle.stamp_board.specs.Views.{Grows, KnowsMark}
@@ -29,8 +30,8 @@ use Rattle.chain_store.specs.Steps.{MatchAt}
 use Rattle.chain_store.specs.Holds.{SameBut, MakesOneIn, LooksIn, seen_in, made_in, view_of}
 use Rattle.chain_store.proofs.CallerLemmas.{goes_then, goes_weaken, looks_on, makes_on, made_place, member_at, member_has}
 use Rattle.append_core.specs.declared.stood.Point.{Point}
-use Rattle.append_core.specs.Settled.{IsMarkedThere}
-use Rattle.append_core.specs.Several.{EntersThere, IsStepBefore, IsStepWithin, StopsAfter, own_append, own_row}
+use Rattle.append_core.specs.Settled.{HoldKnowsMarked}
+use Rattle.append_core.specs.Several.{HoldEnters, IsStepBefore, HoldStopsAfter, own_append, own_row}
 use Rattle.append_core.specs.Inside.{AreProposed, EndsAmong, IsNextOf, IsProposedThere, end_after}
 use Rattle.append_core.proofs.Keeping.{step_more, else_later, end_later, proposed_later, begun_on}
 use Rattle.append_core.proofs.Marked.{marked_at, marked_later}
@@ -92,7 +93,7 @@ module _ (r : Region) (g h k : Hold) (x : Node) (c n : ℕ) (mark : Mark) (fresh
       (λ _. LooksIn c h k at)
       → ((s : ℕ) → mark ≡ marks.Number s
       → HasProposal r.board.size r.number c (view_of k) (own_append g x) (seen_in k c) s)
-      → (s : ℕ) → mark ≡ marks.Number s → EntersThere g k x c at
+      → (s : ℕ) → mark ≡ marks.Number s → HoldEnters g k x c at
   enters_now (Event place) m entered s is =
       let one = m.4 in
       let at_place : place ≡ length one.before = (let f = one.place in let g : place ≡ length one.before = cc f in g) in
@@ -189,13 +190,13 @@ module _ (r : Region) (g h k : Hold) (x : Node) (c n : ℕ) (mark : Mark) (at : 
     (λ _. (y : Node) × (s : ℕ) × IsBegunRow r.board.size r.number (view_of k) (own_append g x) y
     × (mark ≡ marks.Number s) × MakesOneIn c h k (told_propose c h.passes.number y s) at)
     (λ _. LooksIn c h k at)) where
-  steps_next : StopsAfter r g h x (n + 1) → StopsAfter r g k x (n + 1 + 1)
+  steps_next : HoldStopsAfter r g h x (n + 1) → HoldStopsAfter r g k x (n + 1 + 1)
   steps_next was =
       let goes = goes_now r g h k x c n mark fresh here was.goes but at answers in
       let inside = slice_get_within (members x.colours) n c here in record {
         begun = begun_on r g h k x later next was.begun;
         marked = λ i d e lt. elim (cases_eq i n) [
-          | inl is ↦ subst (λ (j : ℕ). IsMarkedThere k (own_append g x) j)
+          | inl is ↦ subst (λ (j : ℕ). HoldKnowsMarked k (own_append g x) j)
               (let f : Some c ≡ Some d = sym here ∙ subst (λ (j : ℕ). slice_get (members x.colours) j ≡ Some d) is e in
               let g : c ≡ d = cc f in g)
               (marked_at r k (own_append g x) c mark set known entered)

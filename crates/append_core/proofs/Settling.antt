@@ -23,7 +23,7 @@ use Rattle.chain_store.specs.Rows.{place_after}
 use Rattle.chain_store.specs.Steps.{MatchAt}
 use Rattle.chain_store.specs.Holds.{SameBut, MakesOneIn, LooksIn, entries_seen, view_of}
 use Rattle.chain_store.proofs.CallerLemmas.{goes_then, goes_weaken, looks_on, makes_on}
-use Rattle.append_core.specs.Settled.{IsSettledNow}
+use Rattle.append_core.specs.Settled.{HoldKnowsSettled}
 use Rattle.append_core.specs.Several.{IsStepBefore, own_append, own_row}
 use Rattle.append_core.specs.Inside.{AreSettled}
 use Rattle.append_core.proofs.Keeping.{step_more, begun_on}
@@ -76,7 +76,7 @@ module _ (r : Region) (g h k : Hold) (x : Node) (o : Outcome) (c n : ℕ) (at : 
       let marked : (i d : ℕ) → slice_get (members x.colours) i ≡ Some d → _ =
       λ i d e. marked_later (IsStepBefore x more) h k b goes later.grows d
       (was.steps.marked i d e (let lt = slice_get_within (members x.colours) i d e in omega (arith, lt))) in
-      let now : IsSettledNow k b o c = settled_at k b o c (marked n c here) closed stands in record {
+      let now : HoldKnowsSettled k b o c = settled_at k b o c (marked n c here) closed stands in record {
         steps = record {
           begun = begun_on r g h k x later next was.steps.begun;
           marked = λ i d e lt. marked i d e;
@@ -88,7 +88,7 @@ module _ (r : Region) (g h k : Hold) (x : Node) (o : Outcome) (c n : ℕ) (at : 
                     (Learns-from (view_of h) (view_of k) later.grows) d.0 d.2,
               );
           settled = λ i d e lt. elim (cases_eq i n) [
-            | inl is ↦ (o, subst (λ (j : ℕ). IsSettledNow k b o j) (same_colour i d is e) now)
+            | inl is ↦ (o, subst (λ (j : ℕ). HoldKnowsSettled k b o j) (same_colour i d is e) now)
             | inr ne ↦
                 let s = was.steps.settled i d e (omega (arith, lt, ne)) in
                 (s.0, settled_elsewhere h k b s.0 c d but later.grows (other_colour i d ne e) s.1)
@@ -98,7 +98,7 @@ module _ (r : Region) (g h k : Hold) (x : Node) (o : Outcome) (c n : ℕ) (at : 
               (λ d e s. step_more x few more d e (omega arith) s) was.steps.goes) goes;
         };
         settled = λ i d lt e. elim (cases_eq i n) [
-          | inl is ↦ subst (λ (j : ℕ). IsSettledNow k b o j) (same_colour i d is e) now
+          | inl is ↦ subst (λ (j : ℕ). HoldKnowsSettled k b o j) (same_colour i d is e) now
           | inr ne ↦ settled_elsewhere h k b o c d but later.grows (other_colour i d ne e)
               (was.settled i d (omega (arith, lt, ne)) e)
         ];

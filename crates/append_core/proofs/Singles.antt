@@ -25,7 +25,7 @@ use Rattle.chain_store.specs.Holds.{IsHold, SameBut, MakesOneIn, seen_in, entrie
 use Rattle.append_core.specs.declared.stood.Stood.{Stood}
 use Rattle.chain_store.specs.Going.{GoesOn}
 use Rattle.append_core.specs.Helping.{HelpsOpen}
-use Rattle.append_core.specs.Standing.{IsSingleOf, StandsAlone}
+use Rattle.append_core.specs.Standing.{IsSingleOf, HoldAppendsOne}
 use Rattle.chain_store.proofs.CallerLemmas.{lawful_seen, goes_same, goes_then, goes_weaken, makes_on}
 use Rattle.append_core.proofs.Helped.{helped_longer}
 use Rattle.append_core.proofs.Places.{prefix_length, prefix_get, at_end, at_image}
@@ -60,7 +60,7 @@ module _ (r : Region) (g m : Hold) (x : Node) (colour stamp : ℕ) (at : At)
       → GoesOn (λ c e. HelpsOpen m h e) m h
       → slice_get (line (entries_seen h colour)) position ≡ Some (entry_key stamp x.id)
       → s.key ≡ entry_key stamp x.id → s.points ≡ record { colour = colour; at = at; position = position } ∷ []
-      → StandsAlone g h x colour s
+      → HoldAppendsOne g h x colour s
   stands_alone h position s but seat on stands key points = record {
     stamp = stamp;
     place = length one.before;

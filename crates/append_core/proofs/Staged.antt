@@ -19,8 +19,8 @@ use Rattle.chain_store.specs.Holds.{KnowsAppend, view_of}
 use Rattle.chain_store.proofs.CallerLemmas.{goes_weaken, member_at, member_has}
 use Rattle.append_core.specs.declared.stood.Point.{Point}
 use Rattle.append_core.specs.Helping.{IsStepIn}
-use Rattle.append_core.specs.Settled.{IsMarkedThere}
-use Rattle.append_core.specs.Several.{IsStepBefore, StopsAfter, own_append, own_row}
+use Rattle.append_core.specs.Settled.{HoldKnowsMarked}
+use Rattle.append_core.specs.Several.{IsStepBefore, HoldStopsAfter, own_append, own_row}
 use Rattle.append_core.specs.Inside.{ArePointsOf, AreProposed, HasDecided, HasProposed, HasSettled, IsAhead, IsDecidedSo, TakesAll}
 use Rattle.append_core.proofs.Decided.{decided_so, steps_decided}
 use Rattle.append_core.proofs.Keeping.{decided_later}
@@ -29,7 +29,7 @@ use Rattle.append_core.proofs.Pointing.{point_member}
 use Rattle.append_core.proofs.Staging.{steps_at}
 
 -- no colour is proposed yet
-pub proposes_none : (r : Region) (g h : Hold) (x : Node) (points : List Point) → StopsAfter r g h x 1
+pub proposes_none : (r : Region) (g h : Hold) (x : Node) (points : List Point) → HoldStopsAfter r g h x 1
     → AreProposed r g h x points 0 None
 proposes_none r g h x points s = record {
   steps = s;
@@ -46,9 +46,9 @@ low_colours r h b g x knows is c it =
 module _ (r : Region) (g h : Hold) (x : Node) (points : List Point) (ended stop : Option ℕ)
     (was : HasProposed r g h x points ended stop) (low : (c : ℕ) → has x.colours c ≡ true → c < MAX_COLOURS) where
   -- it is marked in all colours
-  pub all_marked : (b : BegunAppend) → b ≡ own_append g x → (c : ℕ) → has b.colours c ≡ true → IsMarkedThere h b c
+  pub all_marked : (b : BegunAppend) → b ≡ own_append g x → (c : ℕ) → has b.colours c ≡ true → HoldKnowsMarked h b c
   all_marked b is =
-      subst (λ (a : BegunAppend). (c : ℕ) → has a.colours c ≡ true → IsMarkedThere h a c) (sym is)
+      subst (λ (a : BegunAppend). (c : ℕ) → has a.colours c ≡ true → HoldKnowsMarked h a c) (sym is)
       (λ c it.
       let i = member_at x.colours c (low c it) it in
       let lt = slice_get_within (members x.colours) i.0 c i.1 in
@@ -65,7 +65,7 @@ module _ (r : Region) (g h : Hold) (x : Node) (points : List Point) (ended stop 
     known_so : KnowsOutcome (view_of k) (own_row g) o
     known_so = subst (λ (a : BegunAppend). KnowsOutcome (view_of k) a.row o) is known
 
-    pub decided_steps : StopsAfter r g k x (length (members x.colours) + 2)
+    pub decided_steps : HoldStopsAfter r g k x (length (members x.colours) + 2)
     decided_steps =
         steps_decided r g h k x points ended o points_of_node passes later next shut known_so was.all.steps
 

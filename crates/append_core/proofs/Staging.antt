@@ -22,7 +22,7 @@ use Rattle.chain_store.specs.Rows.{IsBegunRow, place_after}
 use Rattle.chain_store.specs.Steps.{MatchAt}
 use Rattle.chain_store.specs.Holds.{KnowsAppend, SameBut, MakesOneIn, LooksIn, seen_in, entries_seen, view_of}
 use Rattle.append_core.specs.declared.stood.Point.{Point}
-use Rattle.append_core.specs.Several.{StopsAfter, own_append}
+use Rattle.append_core.specs.Several.{HoldStopsAfter, own_append}
 use Rattle.append_core.specs.Inside.{ArePointsOf, AreProposed, AreSettled, IsAhead, IsNextOf, end_after}
 use Rattle.append_core.proofs.Marked.{below_all}
 use Rattle.append_core.proofs.Pointing.{point_member, set_here, set_other}
@@ -46,8 +46,8 @@ ahead_more (Some s) steps more is ne ahead =
 pub ahead_at : (stop : Option ℕ) (a b : ℕ) → a ≡ b → IsAhead stop a → IsAhead stop b
 ahead_at stop a b is ahead = subst (IsAhead stop) is ahead
 
-pub steps_at : (r : Region) (g h : Hold) (x : Node) (a b : ℕ) → a ≡ b → StopsAfter r g h x a → StopsAfter r g h x b
-steps_at r g h x a b is s = subst (λ (n : ℕ). StopsAfter r g h x n) is s
+pub steps_at : (r : Region) (g h : Hold) (x : Node) (a b : ℕ) → a ≡ b → HoldStopsAfter r g h x a → HoldStopsAfter r g h x b
+steps_at r g h x a b is s = subst (λ (n : ℕ). HoldStopsAfter r g h x n) is s
 
 module _ (r : Region) (h k : Hold) (b : BegunAppend) (points : List Point) (n : ℕ) (p : Point)
     (knows : KnowsAppend r h b) (of : ArePointsOf points b.colours) (here : slice_get points n ≡ Some p)

@@ -21,7 +21,7 @@ use Rattle.chain_store.specs.declared.told.Told.{Told}
 use Rattle.chain_store.specs.declared.hold.Hold.{Hold}
 use Rattle.chain_store.specs.Histories.{entries_in}
 use Rattle.chain_store.specs.Holds.{seen_in, view_of}
-use Rattle.append_core.specs.Settled.{IsComplete}
+use Rattle.append_core.specs.Settled.{HoldKnowsComplete}
 
 -- an event of a begun append in the column of a colour: a step of its id in one of its colours
 abbrev pub IsStepIn : BegunAppend → ℕ → Event → Type 0
@@ -45,7 +45,7 @@ pub record WasOpen (g h : Hold) (id : Id) : Type 0 where
 
 -- an event that helps: a step of an id that was open, of which the append is then complete
 abbrev pub HelpsOpen : Hold → Hold → Event → Type 0
-HelpsOpen g h event = (id : Id) × IsStepOf id event × WasOpen g h id × IsComplete h id
+HelpsOpen g h event = (id : Id) × IsStepOf id event × WasOpen g h id × HoldKnowsComplete h id
 
 -- no entry that opens after the history has a key below this one, as each has a stamp above the clock
 abbrev pub IsUnderClock : Key → List Entry → Type 0

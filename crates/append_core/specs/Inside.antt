@@ -1,5 +1,5 @@
 -- Appends to several colours on their way.
-use Rattle.std.specs.Prelude.{◌≡◌, ◌≢◌, ℕ, ◌+◌, ◌<◌, ◌≤◌, true, List, ◌++◌, map, length, Option, Some, None, slice_get}
+use Rattle.std.specs.Prelude.{◌≡◌, ◌≢◌, ℕ, ◌+◌, ◌<◌, ◌≤◌, List, ◌++◌, map, length, Option, Some, None, slice_get}
 use Rattle.log_node.specs.declared.ids.Key.{Key}
 use Rattle.log_node.specs.declared.ids.Colours.{Colours}
 use Rattle.log_node.specs.declared.ids.Row.{Row}
@@ -10,27 +10,28 @@ use Rattle.log_node.specs.declared.marks.Mark.{Mark}
 use Rattle.log_node.specs.declared.marks.Mark.TheVariants as marks
 use Rattle.log_node.specs.declared.marks.Outcome.{Outcome}
 use Rattle.log_node.specs.declared.marks.Outcome.TheVariants.{Open, Gone, Final}
-use Rattle.log_node.specs.Sets.{has, members}
-use Rattle.col_core.specs.History.{line, entry_key}
+use Rattle.log_node.specs.Sets.{members}
+use Rattle.col_core.specs.History.{line}
+use Rattle.col_core.specs.Appending.{StandsUnder}
 use Rattle.stamp_board.specs.Views.{KnowsMark, KnowsOutcome}
 use Rattle.chain_store.specs.declared.hold.Hold.{Hold}
 use Rattle.chain_store.specs.declared.region.Region.{Region}
 use Rattle.chain_store.specs.Holds.{IsHold, entries_seen, view_of}
 use Rattle.append_core.specs.declared.stood.Point.{Point}
-use Rattle.append_core.specs.Settled.{IsSettledNow}
-use Rattle.append_core.specs.Several.{EntersThere, IsMarkedElse, IsSettledInAll, StopsAfter, own_append, own_row}
+use Rattle.append_core.specs.Settled.{HoldKnowsSettled}
+use Rattle.append_core.specs.Several.{HoldEnters, IsMarkedElse, IsFirstEnd, HoldSettlesAll, HoldStopsAfter, own_append, own_row}
 
 -- the colours of points
-abbrev pub colours_of : List Point → List ℕ
-colours_of points = map (λ (p : Point). p.colour) points
+abbrev pub point_colours : List Point → List ℕ
+point_colours points = map (λ (p : Point). p.colour) points
 
 -- points of a set of colours, the least first
 pub record ArePointsOf (points : List Point) (colours : Colours) : Type 0 where
-  pub same : colours_of points ≡ members colours
+  pub same : point_colours points ≡ members colours
 
 -- points of the first of a set of colours, and the colours that are left
 pub record AreFirstOf (points : List Point) (left : List ℕ) (colours : Colours) : Type 0 where
-  pub all : colours_of points ++ left ≡ members colours
+  pub all : point_colours points ++ left ≡ members colours
 
 -- a stop, where there is one, is after more steps than these
 abbrev pub IsAhead : Option ℕ → ℕ → Type 0
@@ -39,7 +40,7 @@ IsAhead (Some stop) steps = steps < stop
 
 -- the append stopped after these steps, one or more, as was asked
 abbrev pub IsStopAt : Region → Hold → Hold → Node → Option ℕ → ℕ → Type 0
-IsStopAt r g h x stop steps = (stop ≡ Some steps) × (0 < steps) × StopsAfter r g h x steps
+IsStopAt r g h x stop steps = (stop ≡ Some steps) × (0 < steps) × HoldStopsAfter r g h x steps
 
 -- the first colour whose mark is a fence for the stamps' end, with the mark of one colour more
 abbrev pub end_after : Option ℕ → ℕ → Mark → Option ℕ
@@ -55,12 +56,6 @@ pub record IsNextOf (r : Region) (g : Hold) (x : Node) : Type 0 where
   pub client : x.id.client ≡ g.passes.number
   pub fresh : g.next ≤ x.id.count
 
--- the colour is the node's least whose mark is a fence for the stamps' end
-pub record IsFirstEnd (h : Hold) (x : Node) (row : Row) (c : ℕ) : Type 0 where
-  pub coloured : has x.colours c ≡ true
-  pub fence : KnowsMark (view_of h) row c (marks.Fenced StampEnd)
-  pub least : (d : ℕ) → has x.colours d ≡ true → d < c → IsMarkedElse h row d
-
 -- the first such colour among the node's first n colours, or none
 abbrev pub EndsAmong : Hold → Node → Row → ℕ → Option ℕ → Type 0
 EndsAmong h x row n None = (i c : ℕ) → i < n → slice_get (members x.colours) i ≡ Some c → IsMarkedElse h row c
@@ -71,11 +66,11 @@ pub record IsProposedThere (g h : Hold) (x : Node) (c : ℕ) (at : At) : Type 0 
   pub mark : Mark
   pub set : mark ≢ marks.None
   pub known : KnowsMark (view_of h) (own_row g) c mark
-  pub entered : (n : ℕ) → mark ≡ marks.Number n → EntersThere g h x c at
+  pub entered : (n : ℕ) → mark ≡ marks.Number n → HoldEnters g h x c at
 
 -- the node's first n colours are proposed
 pub record AreProposed (r : Region) (g h : Hold) (x : Node) (points : List Point) (n : ℕ) (ended : Option ℕ) : Type 0 where
-  pub steps : StopsAfter r g h x (n + 1)
+  pub steps : HoldStopsAfter r g h x (n + 1)
   pub each : (i : ℕ) (p : Point) → i < n → slice_get points i ≡ Some p → IsProposedThere g h x p.colour p.at
   pub ends : EndsAmong h x (own_row g) n ended
 
@@ -88,15 +83,15 @@ pub record HasProposed (r : Region) (g h : Hold) (x : Node) (points : List Point
 pub record IsDecidedSo (g h : Hold) (x : Node) (points : List Point) (ended : Option ℕ) (o : Outcome) : Type 0 where
   pub shut : o ≢ Open
   pub outcome : KnowsOutcome (view_of h) (own_row g) o
-  pub entered : (f n : ℕ) (p : Point) → o ≡ Final f → slice_get points n ≡ Some p → EntersThere g h x p.colour p.at
+  pub entered : (f n : ℕ) (p : Point) → o ≡ Final f → slice_get points n ≡ Some p → HoldEnters g h x p.colour p.at
   pub ends : o ≡ Gone StampEnd → (c : ℕ) × (ended ≡ Some c) × IsFirstEnd h x (own_row g) c
 
 -- the node's first n colours are settled with the outcome, and stand where the places say, where it is final
 pub record AreSettled (r : Region) (g h : Hold) (x : Node) (o : Outcome) (places : List (Option ℕ)) (n : ℕ) : Type 0 where
-  pub steps : StopsAfter r g h x (n + length (members x.colours) + 2)
-  pub settled : (i c : ℕ) → i < n → slice_get (members x.colours) i ≡ Some c → IsSettledNow h (own_append g x) o c
+  pub steps : HoldStopsAfter r g h x (n + length (members x.colours) + 2)
+  pub settled : (i c : ℕ) → i < n → slice_get (members x.colours) i ≡ Some c → HoldKnowsSettled h (own_append g x) o c
   pub placed : (i c q f : ℕ) → i < n → slice_get (members x.colours) i ≡ Some c → slice_get places i ≡ Some (Some q)
-      → o ≡ Final f → slice_get (line (entries_seen h c)) q ≡ Some (entry_key f x.id)
+      → o ≡ Final f → StandsUnder (entries_seen h c) x f q
 
 -- none of its colours is settled yet, and no stop has come
 pub record HasDecided (r : Region) (g h : Hold) (x : Node) (o : Outcome) (places : List (Option ℕ)) (stop : Option ℕ) : Type 0 where
@@ -109,21 +104,21 @@ pub record HasSettled (r : Region) (g h : Hold) (x : Node) (o : Outcome) (places
   pub ahead : IsAhead stop (length (members x.colours) + length (members x.colours) + 2)
 
 -- all its steps are taken
-pub record IsDone (r : Region) (g h : Hold) (x : Node) (points : List Point) (places : List (Option ℕ))
+pub record HasTakenAll (r : Region) (g h : Hold) (x : Node) (points : List Point) (places : List (Option ℕ))
     (ended : Option ℕ) (o : Outcome) : Type 0 where
   pub decided : IsDecidedSo g h x points ended o
-  pub all : IsSettledInAll r g h x o
+  pub all : HoldSettlesAll r g h x o
   pub placed : (n q f : ℕ) (p : Point) → slice_get points n ≡ Some p → slice_get places n ≡ Some (Some q) → o ≡ Final f
-      → slice_get (line (entries_seen h p.colour)) q ≡ Some (entry_key f x.id)
+      → StandsUnder (entries_seen h p.colour) x f q
 
 -- all its steps are taken, and no stop has come
 pub record TakesAll (r : Region) (g h : Hold) (x : Node) (points : List Point) (places : List (Option ℕ))
     (ended : Option ℕ) (o : Outcome) (stop : Option ℕ) : Type 0 where
-  pub done : IsDone r g h x points places ended o
+  pub done : HasTakenAll r g h x points places ended o
   pub ahead : IsAhead stop (length (members x.colours) + length (members x.colours) + 2)
 
 -- the point is the one that was there, with the position of the key in the line that the hold has seen
-abbrev pub IsPlaced : Hold → Key → List Point → ℕ → Point → Type 0
-IsPlaced h key points n p =
+abbrev pub HasPosition : Hold → Key → List Point → ℕ → Point → Type 0
+HasPosition h key points n p =
     (q : Point) × (slice_get points n ≡ Some q) × (p.colour ≡ q.colour) × (p.at ≡ q.at)
     × (slice_get (line (entries_seen h p.colour)) p.position ≡ Some key)

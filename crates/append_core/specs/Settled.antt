@@ -1,4 +1,4 @@
--- What a hold knows of a begun append in the column of one of its colours.
+-- What a hold knows of a begun append in the columns of its colours. Of the log the same is said by col_core's words.
 use Rattle.std.specs.Prelude.{◌≡◌, ◌≢◌, ◌⊎◌, ℕ, true, List, None}
 use mathlib.Core.List.{IsPrefix}
 use Rattle.log_node.specs.declared.ids.Id.{Id}
@@ -23,7 +23,7 @@ use Rattle.chain_store.specs.Histories.{entries_in}
 use Rattle.chain_store.specs.Holds.{seen_in, view_of}
 
 -- Its mark there is known: it is fenced, or its id has entered, as far as the hold has seen. It stays so.
-pub record IsMarkedThere (h : Hold) (b : BegunAppend) (c : ℕ) : Type 0 where
+pub record HoldKnowsMarked (h : Hold) (b : BegunAppend) (c : ℕ) : Type 0 where
   pub mark : Mark
   pub set : mark ≢ marks.None
   pub known : KnowsMark (view_of h) b.row c mark
@@ -31,7 +31,7 @@ pub record IsMarkedThere (h : Hold) (b : BegunAppend) (c : ℕ) : Type 0 where
 
 -- over this history of the column of a colour: it is marked, is open no more, and is final under the number where the
 -- outcome is final
-pub record IsSettledOver (h : Hold) (b : BegunAppend) (o : Outcome) (c : ℕ) (log : List Told) : Type 0 where
+pub record HoldKnowsSettledOver (h : Hold) (b : BegunAppend) (o : Outcome) (c : ℕ) (log : List Told) : Type 0 where
   pub mark : Mark
   pub set : mark ≢ marks.None
   pub known : KnowsMark (view_of h) b.row c mark
@@ -40,18 +40,18 @@ pub record IsSettledOver (h : Hold) (b : BegunAppend) (o : Outcome) (c : ℕ) (l
   pub final : (f : ℕ) → o ≡ Final f → IsFinal (entries_in log) b.id f
 
 -- It is settled there, over all that the hold has seen.
-abbrev pub IsSettledNow : Hold → BegunAppend → Outcome → ℕ → Type 0
-IsSettledNow h b o c = IsSettledOver h b o c (seen_in h c)
+abbrev pub HoldKnowsSettled : Hold → BegunAppend → Outcome → ℕ → Type 0
+HoldKnowsSettled h b o c = HoldKnowsSettledOver h b o c (seen_in h c)
 
 -- It was settled there, over what the hold had seen at some time. It stays so.
-pub record IsSettledThere (h : Hold) (b : BegunAppend) (o : Outcome) (c : ℕ) : Type 0 where
+pub record HoldKnewSettled (h : Hold) (b : BegunAppend) (o : Outcome) (c : ℕ) : Type 0 where
   pub log : List Told
   pub within : IsPrefix log (seen_in h c)
-  pub over : IsSettledOver h b o c log
+  pub over : HoldKnowsSettledOver h b o c log
 
 -- As the hold knows, the append of this id is complete: its row has an outcome, and it was settled in each of its node's
 -- colours. It stays so.
-pub record IsComplete (h : Hold) (id : Id) : Type 0 where
+pub record HoldKnowsComplete (h : Hold) (id : Id) : Type 0 where
   pub row : Row
   pub node : Node
   pub of_id : node.id ≡ id
@@ -60,4 +60,4 @@ pub record IsComplete (h : Hold) (id : Id) : Type 0 where
   pub outcome : Outcome
   pub shut : outcome ≢ Open
   pub known : KnowsOutcome (view_of h) row outcome
-  pub settled : (c : ℕ) → has node.colours c ≡ true → IsSettledThere h (begun_for node row) outcome c
+  pub settled : (c : ℕ) → has node.colours c ≡ true → HoldKnewSettled h (begun_for node row) outcome c

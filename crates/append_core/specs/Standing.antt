@@ -1,11 +1,13 @@
--- Where the nodes of appends stand, and what answers say of it.
+-- An append to one colour, over the holds before and after. Over what a client has seen: client_law; over the log:
+-- lawful_run.
 use Rattle.std.specs.Prelude.{◌≡◌, ◌⊎◌, ℕ, ◌≤◌, [], ◌∷◌, length, Some, slice_get}
 use Rattle.log_node.specs.declared.ids.Id.{Id}
 use Rattle.log_node.specs.declared.node.At.TheVariants.{Event}
 use Rattle.log_node.specs.declared.node.Node.{Node}
 use Rattle.col_core.specs.declared.Event as events
 use Rattle.col_core.specs.declared.Event.TheVariants.{Single, Propose, Settle, Raise, Give, Carry, Trim}
-use Rattle.col_core.specs.History.{line, entry_key}
+use Rattle.col_core.specs.History.{entry_key}
+use Rattle.col_core.specs.Appending.{StandsUnder}
 use Rattle.chain_store.specs.declared.hold.Hold.{Hold}
 use Rattle.chain_store.specs.Columns.{told_single}
 use Rattle.chain_store.specs.Holds.{seen_in, entries_seen}
@@ -25,7 +27,7 @@ IsSingleOf id (Trim counts) = ⊥
 
 -- An append to one colour, as far as h has seen: its node entered by an event of the hold that g had not seen, and stands
 -- under its stamp in the line; else the hold only helped.
-pub record StandsAlone (g h : Hold) (x : Node) (colour : ℕ) (s : Stood) : Type 0 where
+pub record HoldAppendsOne (g h : Hold) (x : Node) (colour : ℕ) (s : Stood) : Type 0 where
   pub stamp : ℕ
   pub place : ℕ
   pub position : ℕ
@@ -33,5 +35,5 @@ pub record StandsAlone (g h : Hold) (x : Node) (colour : ℕ) (s : Stood) : Type
   pub point : s.points ≡ record { colour = colour; at = Event place; position = position } ∷ []
   pub unseen : length (seen_in g colour) ≤ place
   pub entered : slice_get (seen_in h colour) place ≡ Some (told_single colour g.passes.number x stamp)
-  pub stands : slice_get (line (entries_seen h colour)) position ≡ Some (entry_key stamp x.id)
+  pub stands : StandsUnder (entries_seen h colour) x stamp position
   pub goes : GoesOn (λ c e. ((c ≡ colour) × IsSingleOf x.id e) ⊎ HelpsOpen g h e) g h

@@ -4,7 +4,7 @@ ghost use Rattle.stamp_board.specs.Seats.{IsLater};
 ghost use Rattle.chain_store.specs.Histories.{FitsColumn};
 ghost use Rattle.chain_store.specs.Steps.{HasSingleCause};
 ghost use Rattle.chain_store.specs.Holds.{IsHold, SameBut, SeesMoreIn, entries_seen};
-ghost use Rattle.append_core.specs.Standing.{StandsAlone};
+ghost use Rattle.append_core.specs.Standing.{HoldAppendsOne};
 
 use crate::stands::line_position;
 use crate::stood::{Point, Stood};
@@ -32,7 +32,7 @@ pub fn single<R: Wait>(
     ensures hold { IsHold region.now hold.new }
     ensures seat { IsLater hold.old.seat hold.new.seat }
     ensures next { OnOk result (hold.new.next ≡ node.now.value.id.count + 1) }
-    ensures ok { IfOk result (StandsAlone hold.old hold.new node.now.value colour) }
+    ensures ok { IfOk result (HoldAppendsOne hold.old hold.new node.now.value colour) }
     ensures cause { IfErr result (HasSingleCause (entries_seen hold.new colour) node.now.value.floor) }
     ensures err { OnErr result (SeesMoreIn colour hold.old hold.new × (hold.new.next ≡ hold.old.next)) }
     ensures others { OnErr result (SameBut colour hold.old hold.new × (hold.new.seat ≡ hold.old.seat)) }

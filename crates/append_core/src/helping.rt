@@ -8,7 +8,7 @@ ghost use Rattle.stamp_board.specs.Views.{KnowsOutcome};
 ghost use Rattle.chain_store.specs.Holds.{IsHold, KnowsAppend, SameBut, view_of};
 ghost use Rattle.chain_store.specs.Going.{GoesOn};
 ghost use Rattle.append_core.specs.Helping.{IsStepIn};
-ghost use Rattle.append_core.specs.Settled.{IsMarkedThere, IsSettledNow};
+ghost use Rattle.append_core.specs.Settled.{HoldKnowsMarked, HoldKnowsSettled};
 
 use chain_store::{Hold, Region};
 use log_node::{Begun, Outcome};
@@ -23,7 +23,7 @@ fn mark_colour<R: Wait>(rt: &R, region: &Region, hold: &mut Hold, begun: &Begun,
     ensures seat { IsLater hold.old.seat hold.new.seat }
     ensures next { hold.new.next ≡ hold.old.next }
     ensures goes { GoesOn (IsStepIn begun.now) hold.old hold.new }
-    ensures marked { IsMarkedThere hold.new begun.now colour }
+    ensures marked { HoldKnowsMarked hold.new begun.now colour }
 {
     region.propose(rt, hold, colour, begun);
 }
@@ -36,7 +36,7 @@ fn mark<R: Wait>(rt: &R, region: &Region, hold: &mut Hold, begun: &Begun)
     ensures seat { IsLater hold.old.seat hold.new.seat }
     ensures next { hold.new.next ≡ hold.old.next }
     ensures goes { GoesOn (IsStepIn begun.now) hold.old hold.new }
-    ensures marked { (c : ℕ) → has begun.now.colours c ≡ true → IsMarkedThere hold.new begun.now c }
+    ensures marked { (c : ℕ) → has begun.now.colours c ≡ true → HoldKnowsMarked hold.new begun.now c }
 {
     for colour in begun.colours.members() {
         mark_colour(rt, region, hold, begun, colour);
@@ -56,13 +56,13 @@ fn settle_colour<R: Wait>(
     requires begun { KnowsAppend region.now hold.old begun.now }
     requires outcome { (outcome ≢ Outcome.Open) × KnowsOutcome (view_of hold.old) begun.now.row outcome }
     requires colour { has begun.now.colours colour ≡ true }
-    requires marked { IsMarkedThere hold.old begun.now colour }
+    requires marked { HoldKnowsMarked hold.old begun.now colour }
     ensures hold { IsHold region.now hold.new }
     ensures others { SameBut colour hold.old hold.new }
     ensures seat { IsLater hold.old.seat hold.new.seat }
     ensures next { hold.new.next ≡ hold.old.next }
     ensures goes { GoesOn (IsStepIn begun.now) hold.old hold.new }
-    ensures settled { IsSettledNow hold.new begun.now outcome colour }
+    ensures settled { HoldKnowsSettled hold.new begun.now outcome colour }
 {
     region.settle(rt, hold, colour, begun, outcome);
 }
@@ -72,12 +72,12 @@ fn settle<R: Wait>(rt: &R, region: &Region, hold: &mut Hold, begun: &Begun, outc
     requires hold { IsHold region.now hold.old }
     requires begun { KnowsAppend region.now hold.old begun.now }
     requires outcome { (outcome ≢ Outcome.Open) × KnowsOutcome (view_of hold.old) begun.now.row outcome }
-    requires marked { (c : ℕ) → has begun.now.colours c ≡ true → IsMarkedThere hold.old begun.now c }
+    requires marked { (c : ℕ) → has begun.now.colours c ≡ true → HoldKnowsMarked hold.old begun.now c }
     ensures hold { IsHold region.now hold.new }
     ensures seat { IsLater hold.old.seat hold.new.seat }
     ensures next { hold.new.next ≡ hold.old.next }
     ensures goes { GoesOn (IsStepIn begun.now) hold.old hold.new }
-    ensures settled { (c : ℕ) → has begun.now.colours c ≡ true → IsSettledNow hold.new begun.now outcome c }
+    ensures settled { (c : ℕ) → has begun.now.colours c ≡ true → HoldKnowsSettled hold.new begun.now outcome c }
 {
     for colour in begun.colours.members() {
         settle_colour(rt, region, hold, begun, outcome, colour);
@@ -94,7 +94,7 @@ pub fn help<R: Wait>(rt: &R, region: &Region, hold: &mut Hold, begun: &Begun) ->
     ensures next { hold.new.next ≡ hold.old.next }
     ensures outcome { (result ≢ Outcome.Open) × KnowsOutcome (view_of hold.new) begun.now.row result × IsOutcome result }
     ensures goes { GoesOn (IsStepIn begun.now) hold.old hold.new }
-    ensures settled { (c : ℕ) → has begun.now.colours c ≡ true → IsSettledNow hold.new begun.now result c }
+    ensures settled { (c : ℕ) → has begun.now.colours c ≡ true → HoldKnowsSettled hold.new begun.now result c }
 {
     mark(rt, region, hold, begun);
     let outcome = region.decide(hold, begun.row);

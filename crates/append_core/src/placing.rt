@@ -7,7 +7,7 @@ ghost use Rattle.chain_store.specs.Going.{GoesOn};
 ghost use Rattle.chain_store.specs.Holds.{IsHold, entries_seen};
 ghost use Rattle.append_core.specs.declared.stood.Point.{Point};
 ghost use Rattle.append_core.specs.Helping.{HelpsOpen};
-ghost use Rattle.append_core.specs.Inside.{ArePointsOf, IsPlaced, colours_of};
+ghost use Rattle.append_core.specs.Inside.{ArePointsOf, HasPosition, point_colours};
 
 use crate::stands::line_position;
 use crate::stood::{Point, Stood};
@@ -52,8 +52,8 @@ pub(crate) fn stood<R: Wait>(
     ensures next { hold.new.next ≡ hold.old.next }
     ensures goes { GoesOn (λ c e. HelpsOpen hold.old hold.new e) hold.old hold.new }
     ensures key { result.key ≡ key }
-    ensures colours { colours_of result.points ≡ colours_of points.items }
-    ensures placed { (n : ℕ) (p : Point) → slice_get result.points n ≡ Some p → IsPlaced hold.new key points.items n p }
+    ensures colours { point_colours result.points ≡ point_colours points.items }
+    ensures placed { (n : ℕ) (p : Point) → slice_get result.points n ≡ Some p → HasPosition hold.new key points.items n p }
 {
     let mut points = points;
     for n in 0..points.len() {

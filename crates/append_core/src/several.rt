@@ -8,8 +8,8 @@ ghost use Rattle.chain_store.specs.declared.hold.Hold.{Hold};
 ghost use Rattle.chain_store.specs.Beginning.{HasNextRow, begun_for};
 ghost use Rattle.chain_store.specs.Holds.{IsHold, KnowsAppend, view_of};
 ghost use Rattle.append_core.specs.declared.stood.Point.{Point};
-ghost use Rattle.append_core.specs.Several.{IsStopOf, Leaves, StandsInAll, StopsAfter, own_append};
-ghost use Rattle.append_core.specs.Inside.{ArePointsOf, IsDone, IsNextOf};
+ghost use Rattle.append_core.specs.Several.{IsStopOf, HoldLeaves, HoldAppendsSeveral, HoldStopsAfter, own_append};
+ghost use Rattle.append_core.specs.Inside.{ArePointsOf, HasTakenAll, IsNextOf};
 
 use crate::course::Course;
 use crate::placing::{points_of, stood};
@@ -72,13 +72,13 @@ fn finish<R: Wait>(
     requires few { length points.items ≤ length places.now }
     requires points { ArePointsOf points.items begun.now.colours }
     requires done { (g : Hold) × (x : Node) × IsNextOf region.now g x × (begun.now ≡ own_append g x)
-        × IsDone region.now g hold.old x points.items places.now ended outcome }
+        × HasTakenAll region.now g hold.old x points.items places.now ended outcome }
     ensures hold { IsHold region.now hold.new }
     ensures ok { IfOk result (λ s. (g : Hold) (x : Node) → IsNextOf region.now g x → begun.now ≡ own_append g x
-        → IsDone region.now g hold.old x points.items places.now ended outcome → StandsInAll region.now g hold.new x s) }
+        → HasTakenAll region.now g hold.old x points.items places.now ended outcome → HoldAppendsSeveral region.now g hold.new x s) }
     ensures err { IfErr result (λ fault. (g : Hold) (x : Node) → IsNextOf region.now g x → begun.now ≡ own_append g x
-        → IsDone region.now g hold.old x points.items places.now ended outcome
-        → Leaves region.now g hold.new x None fault × (hold.new ≡ hold.old)) }
+        → HasTakenAll region.now g hold.old x points.items places.now ended outcome
+        → HoldLeaves region.now g hold.new x None fault × (hold.new ≡ hold.old)) }
 {
     match outcome {
         Outcome::Final(stamp) => {
@@ -130,13 +130,13 @@ fn perform<R: Wait, G: Gate>(
     requires points { ArePointsOf points.items begun.now.colours }
     requires stop { IfSome stop (λ steps. (0 < steps) × (steps ≤ length points.items + length points.items + 2)) }
     requires own { (g : Hold) × (x : Node) × IsNextOf region.now g x × (begun.now ≡ own_append g x)
-        × StopsAfter region.now g hold.old x 1 }
+        × HoldStopsAfter region.now g hold.old x 1 }
     ensures hold { IsHold region.now hold.new }
     ensures ok { IfOk result (λ s. (g : Hold) (x : Node) → IsNextOf region.now g x → begun.now ≡ own_append g x
-        → StopsAfter region.now g hold.old x 1 → StandsInAll region.now g hold.new x s) }
+        → HoldStopsAfter region.now g hold.old x 1 → HoldAppendsSeveral region.now g hold.new x s) }
     ensures whole { OnOk result (stop ≡ None) }
     ensures err { IfErr result (λ fault. (g : Hold) (x : Node) → IsNextOf region.now g x → begun.now ≡ own_append g x
-        → StopsAfter region.now g hold.old x 1 → Leaves region.now g hold.new x stop fault) }
+        → HoldStopsAfter region.now g hold.old x 1 → HoldLeaves region.now g hold.new x stop fault) }
 {
     let course = Course {
         client: begun.id.client,
@@ -187,9 +187,9 @@ pub fn multi<R: Wait, G: Gate>(
     requires stop { IfSome stop (IsStopOf node.now.value) }
     ensures hold { IsHold region.now hold.new }
     ensures seat { Grows (view_of hold.old) (view_of hold.new) }
-    ensures ok { IfOk result (StandsInAll region.now hold.old hold.new node.now.value) }
+    ensures ok { IfOk result (HoldAppendsSeveral region.now hold.old hold.new node.now.value) }
     ensures whole { OnOk result (stop ≡ None) }
-    ensures err { IfErr result (Leaves region.now hold.old hold.new node.now.value stop) }
+    ensures err { IfErr result (HoldLeaves region.now hold.old hold.new node.now.value stop) }
 {
     if is_at_once(stop) {
         return Err(MultiFault::Stopped { steps: 0 });

@@ -7,7 +7,7 @@ ghost use Rattle.chain_store.specs.declared.hold.Hold.{Hold};
 ghost use Rattle.chain_store.specs.Going.{GoesOn};
 ghost use Rattle.chain_store.specs.Holds.{IsHold, KnowsAppend, view_of};
 ghost use Rattle.append_core.specs.Helping.{IsStepIn};
-ghost use Rattle.append_core.specs.Several.{StopsAfter, own_append};
+ghost use Rattle.append_core.specs.Several.{HoldStopsAfter, own_append};
 ghost use Rattle.append_core.specs.Inside.{ArePointsOf, AreProposed, HasDecided, HasProposed, HasSettled, IsAhead, IsNextOf};
 ghost use Rattle.append_core.specs.Inside.{IsStopAt, TakesAll, end_after};
 
@@ -129,15 +129,15 @@ pub(crate) fn take_steps<R: Wait, G: Gate>(
     requires few { (length points.old.items ≤ MAX_COLOURS) × (length places.old ≡ MAX_COLOURS) }
     requires points { ArePointsOf points.old.items begun.now.colours }
     requires own { (g : Hold) × (x : Node) × IsNextOf region.now g x × (begun.now ≡ own_append g x)
-        × StopsAfter region.now g hold.old x 1 × IsAhead course.stop 1 }
+        × HoldStopsAfter region.now g hold.old x 1 × IsAhead course.stop 1 }
     ensures hold { IsHold region.now hold.new }
     ensures points { ArePointsOf points.new.items begun.now.colours }
     ensures few { length points.new.items ≡ length points.old.items }
     ensures places { length places.new ≡ MAX_COLOURS }
     ensures ok { IfOk result (λ r. (g : Hold) (x : Node) → IsNextOf region.now g x → begun.now ≡ own_append g x
-        → StopsAfter region.now g hold.old x 1 → TakesAll region.now g hold.new x points.new.items places.new r.1 r.0 course.stop) }
+        → HoldStopsAfter region.now g hold.old x 1 → TakesAll region.now g hold.new x points.new.items places.new r.1 r.0 course.stop) }
     ensures err { IfErr result (λ steps. (g : Hold) (x : Node) → IsNextOf region.now g x → begun.now ≡ own_append g x
-        → StopsAfter region.now g hold.old x 1 → IsStopAt region.now g hold.new x course.stop steps) }
+        → HoldStopsAfter region.now g hold.old x 1 → IsStopAt region.now g hold.new x course.stop steps) }
 {
     let ended = propose_all(rt, gate, region, hold, begun, course, points)?;
     let outcome = region.decide(hold, begun.row);

@@ -12,7 +12,7 @@ use Rattle.object_fold.specs.Nodes.{ObjectNode, nodes_of, shard_of}
 use Rattle.object_fold.specs.Maps.{value_among}
 use Rattle.col_core.proofs.CallerLemmas.{In, choice, in_filter, in_filter-back}
 use Rattle.atomic_map.specs.declared.line_writes.LastWrite.{LastWrite}
-use Rattle.atomic_map.specs.Writes.{last_write, later_write, value_left, write_after}
+use Rattle.atomic_map.specs.Writes.{last_shard_write, later_write, value_left, write_after}
 use Rattle.atomic_map.proofs.WriteLemmas.{or_old, value_is_left, written, written_by, written_or_old}
 
 -- KEYS
@@ -258,7 +258,7 @@ module _ (colours key : List ℕ) (line : ℕ → List ObjectNode) where
   Counting ks m = (k : ℕ) × In k ks × In m (nodes_of (shard_of colours key) (line k))
 
   abbrev latest_over : Option LastWrite → List ℕ → Option LastWrite
-  latest_over old ks = fold (λ write k. later_write write (last_write colours (line k) key)) old ks
+  latest_over old ks = fold (λ write k. later_write write (last_shard_write colours (line k) key)) old ks
 
   over_lines : (Before : ObjectNode → Type 0) (old : Option LastWrite) (ks : List ℕ)
       → ((k : ℕ) → In k ks → Rising (line k)) → IsLatest key Before old
@@ -270,8 +270,8 @@ module _ (colours key : List ℕ) (line : ℕ → List ObjectNode) where
   over_lines Before old (k ∷ ks) rise is =
       let first : ObjectNode → Type 0 = λ m. Before m ⊎ In m (nodes_of (shard_of colours key) (line k)) in
       latest_of key (λ m. first m ⊎ Counting ks m) (λ m. Before m ⊎ Counting (k ∷ ks) m) (latest_over old (k ∷ ks)) into back
-      (over_lines first (later_write old (last_write colours (line k) key)) ks (λ n i. rise n (inr i))
-      (latest_both key Before (λ m. In m (nodes_of (shard_of colours key) (line k))) old (last_write colours (line k) key) is
+      (over_lines first (later_write old (last_shard_write colours (line k) key)) ks (λ n i. rise n (inr i))
+      (latest_both key Before (λ m. In m (nodes_of (shard_of colours key) (line k))) old (last_shard_write colours (line k) key) is
       (last_is_latest key (nodes_of (shard_of colours key) (line k))
       (rising_part (λ n. has n.colours (shard_of colours key)) (line k) (rise k (inl refl)))))) where
         into : (m : ObjectNode) → (Before m ⊎ In m (nodes_of (shard_of colours key) (line k))) ⊎ Counting ks m
@@ -296,7 +296,7 @@ module _ (colours key : List ℕ) (line : ℕ → List ObjectNode) where
       → value_left (latest_over None ks) ≡ value_among colours nodes key
   value_by_lines ks nodes rise rises into back =
       ap value_left
-      (one_latest key (λ m. In m counted) (latest_over None ks) (last_write colours nodes key)
+      (one_latest key (λ m. In m counted) (latest_over None ks) (last_shard_write colours nodes key)
       (rising_one counted counted_rise)
       (latest_of key (λ m. ⊥ ⊎ Counting ks m) (λ m. In m counted) (latest_over None ks) from_lines to_lines
       (over_lines (λ m. ⊥) None ks rise (λ m none. absurd none)))

@@ -21,12 +21,12 @@ use Rattle.object_fold.specs.declared.kept_line.KeptLine.{KeptLine}
 use Rattle.object_fold.specs.Tables.{value_at}
 use Rattle.object_fold.specs.Folds.{FoldsFirst}
 use Rattle.col_core.proofs.CallerLemmas.{In, clocks_rise, contains_in, in_append, in_filter, in_left, in_line, in_right}
-use Rattle.lawful_run.specs.Asks.{keys_of as pair_keys, shards}
+use Rattle.lawful_run.specs.Asks.{keys_of_pairs as pair_keys, shards}
 use Rattle.log_client.specs.declared.store.Store.{Store}
 use Rattle.log_client.specs.declared.client.Client.{Client}
 use Rattle.log_client.specs.Appends.{AreColoursOf}
-use Rattle.log_client.specs.Clients.{IsClient, line_of, seen_of, tracks_of}
-use Rattle.log_client.specs.Objects.{AreColours}
+use Rattle.log_client.specs.Clients.{IsClient, own_line, seen_of, tracks_of}
+use Rattle.log_client.specs.Objects.{HasColoursOf}
 use Rattle.log_client.specs.Reading.{RestsOn, home_seen, keys_of}
 use Rattle.log_client.specs.StampedReads.{IsAboveSeen, ReadsGoOn}
 use Rattle.log_client.proofs.CallerLemmas.{client_sees_on, folds_none, follows_later, line_first, line_rises, made_from, rests_same, shards_of_store, tracks_long}
@@ -34,7 +34,7 @@ use Rattle.atomic_map.specs.declared.line_writes.LastWrite.{LastWrite}
 use Rattle.atomic_map.specs.declared.line_writes.LineWrites.{LineWrites}
 use Rattle.atomic_map.specs.declared.atomic.AtomicMap.{AtomicMap}
 use Rattle.atomic_map.specs.Colours.{AreFew}
-use Rattle.atomic_map.specs.Writes.{HoldsWrites, items_up_to}
+use Rattle.atomic_map.specs.Writes.{HoldsShardWrites, items_up_to}
 use Rattle.atomic_map.specs.Several.{CanGoOn, HasSameLast, IsAtomicMapOf, IsFolded, IsLineOf, Opens}
 use Rattle.atomic_map.proofs.LineLemmas.{front_up_to}
 
@@ -55,7 +55,7 @@ pub of_keys : (set : Colours) (found colours : List ℕ) (keys asked : List (Lis
 of_keys set found colours keys asked are same all =
     are ∙ (ap (λ (l : List ℕ). shards l keys) same ∙ ap (shards colours) all)
 
-module _ (s : Store) (c : Client) (colours : List ℕ) (is : IsClient s c) (are : AreColours c colours) (keys : List (List ℕ))
+module _ (s : Store) (c : Client) (colours : List ℕ) (is : IsClient s c) (are : HasColoursOf c colours) (keys : List (List ℕ))
     (some : 0 < length keys) (set : Colours) (bits : set.0 < 2 ^ MAX_COLOURS) (members_are : members set ≡ shards colours keys) where
   -- the set of the shards of keys is of the store
   pub of_store : AreColoursOf s set
@@ -90,7 +90,7 @@ lines_later s c d m is on of = record {
   };
   lines = λ colour one at. let kept = of.lines colour one at in record {
     colours_are = kept.colours_are;
-    folds = follows_later c d colour one.count (HoldsWrites one.state) on.grows kept.folds;
+    folds = follows_later c d colour one.count (HoldsShardWrites one.state) on.grows kept.folds;
   };
 }
 
@@ -132,12 +132,12 @@ opens_more m n p new same items none colours empty o = record {
 
 pub opens_map : (c : Client) (m n : AtomicMap) → Opens m n → IsAtomicMapOf c m → IsAtomicMapOf c n
 opens_map c m n o of = record {
-  colours = subst (AreColours c) (sym o.same.1) of.colours;
+  colours = subst (HasColoursOf c) (sym o.same.1) of.colours;
   lines = λ colour one at. elim (o.lines colour one at) [
     | inl early ↦ subst (λ (cs : List ℕ). IsLineOf c cs colour one) (sym o.same.1) (of.lines colour one early)
     | inr new ↦ record {
       colours_are = new.1 ∙ sym o.same.1;
-      folds = folds_none (line_of c colour) one.count (HoldsWrites one.state) new.0
+      folds = folds_none (own_line c colour) one.count (HoldsShardWrites one.state) new.0
           (λ key. ap (λ (es : List (List ℕ × LastWrite)). value_at es key) new.2);
     }
   ];
@@ -172,14 +172,14 @@ line_low own regions h lawful key i =
     (subst (λ (l : List Entry). In e.0 (entries l)) (sym (append-nil h)) e.1))))
 
 played_low : (s : Store) (c : Client) (k : ℕ) → IsClient s c → k < length (tracks_of c) → (i : PlacedNode)
-    → In i (line_of c k) → i.head.key.stamp ≤ clock (home_seen c k)
+    → In i (own_line c k) → i.head.key.stamp ≤ clock (home_seen c k)
 played_low s c k is lt i j =
     let p = line_first s c k is lt in
     line_low c.region (length s.regions) (home_seen c k)
     ((client_sees_on s c c [] is (rests_same s c is).goes).lawful c.region k) i.head.key
     (subst (In i.head.key) p.1
-    (in_left i.head.key (keys_of (line_of c k)) p.0
-    (made_from (λ (item : PlacedNode). item.head.key) (line_of c k) i j)))
+    (in_left i.head.key (keys_of (own_line c k)) p.0
+    (made_from (λ (item : PlacedNode). item.head.key) (own_line c k) i j)))
 
 -- what the client has read can be folded
 pub can_go_on : (s : Store) (c d : Client) (m : AtomicMap) (set : Colours) (stamp : ℕ) → IsClient s c → RestsOn s c d
@@ -198,7 +198,7 @@ can_go_on s c d m set stamp is on of of_set few above =
           let le = f.0 in
           let p = (on.grows k).1 in
           let high = All-contains (λ n. clock (seen_of c c.region n) ≤ stamp) (members set) k above (contains_in (members set) k i) in
-          let front = front_up_to stamp (line_of c k) p.0 (λ j among.
+          let front = front_up_to stamp (own_line c k) p.0 (λ j among.
           let low = played_low s c k is (let long = is.colours in omega (arith, lt, long)) j among in omega (arith, low, high)) in
           subst (λ (l : List PlacedNode). one.count ≤ length (items_up_to stamp l)) p.1 (omega (arith, le, front));
     })
@@ -249,7 +249,7 @@ next_of P first k left all apart each =
 
 module _ (c : Client) (m n : AtomicMap) (stamp k : ℕ) (first left all : List ℕ) (old : KeptLine LineWrites)
     (f : FoldsLines c m n stamp first (k ∷ left) all) (many : MAX_COLOURS ≤ length m.lines.items)
-    (value : old ≡ slice_index_or n.lines.items k old) (shown : List PlacedNode) (shown_is : shown ≡ line_of c k) where
+    (value : old ≡ slice_index_or n.lines.items k old) (shown : List PlacedNode) (shown_is : shown ≡ own_line c k) where
   goes : CanGoOn c n stamp k
   goes = next_of (CanGoOn c n stamp) first k left all f.apart f.goes
 
@@ -260,9 +260,9 @@ module _ (c : Client) (m n : AtomicMap) (stamp k : ℕ) (first left all : List �
       slice_get_read n.lines.items (length n.lines.items) k old refl (omega (arith, few, long, many)) value
 
   -- the next line can fold on
-  pub next_folds : FoldsFirst shown old.count (HoldsWrites old.state)
+  pub next_folds : FoldsFirst shown old.count (HoldsShardWrites old.state)
   next_folds =
-      subst (λ (l : List PlacedNode). FoldsFirst l old.count (HoldsWrites old.state)) (sym shown_is)
+      subst (λ (l : List PlacedNode). FoldsFirst l old.count (HoldsShardWrites old.state)) (sym shown_is)
       (f.map.lines k old there).folds
 
   pub next_low : old.count ≤ length (items_up_to stamp shown)
@@ -270,15 +270,15 @@ module _ (c : Client) (m n : AtomicMap) (stamp k : ℕ) (first left all : List �
       subst (λ (l : List PlacedNode). old.count ≤ length (items_up_to stamp l)) (sym shown_is) (goes.low old there)
 
   module _ (new : KeptLine LineWrites) (stays : new.state.colours ≡ old.state.colours)
-      (folds_shown : FoldsFirst shown new.count (HoldsWrites new.state))
+      (folds_shown : FoldsFirst shown new.count (HoldsShardWrites new.state))
       (low_shown : new.count ≤ length (items_up_to stamp shown)) where
     is_line : IsLineOf c n.colours k new
     is_line = record {
       colours_are = stays ∙ (f.map.lines k old there).colours_are;
-      folds = subst (λ (l : List PlacedNode). FoldsFirst l new.count (HoldsWrites new.state)) shown_is folds_shown;
+      folds = subst (λ (l : List PlacedNode). FoldsFirst l new.count (HoldsShardWrites new.state)) shown_is folds_shown;
     }
 
-    low : new.count ≤ length (items_up_to stamp (line_of c k))
+    low : new.count ≤ length (items_up_to stamp (own_line c k))
     low = subst (λ (l : List PlacedNode). new.count ≤ length (items_up_to stamp l)) shown_is low_shown
 
     -- the map with the line that went on
@@ -311,8 +311,8 @@ module _ (c : Client) (m n : AtomicMap) (stamp k : ℕ) (first left all : List �
       within = g.within;
       few = g.few;
       rising = g.rising;
-      low = at_colour (λ one. one.count ≤ length (items_up_to stamp (line_of c j))) j
-          (λ e. subst (λ (i : ℕ). new.count ≤ length (items_up_to stamp (line_of c i))) (sym e) low) g.low;
+      low = at_colour (λ one. one.count ≤ length (items_up_to stamp (own_line c j))) j
+          (λ e. subst (λ (i : ℕ). new.count ≤ length (items_up_to stamp (own_line c i))) (sym e) low) g.low;
     }
 
     -- where the line is folded up to the stamp
@@ -331,7 +331,7 @@ module _ (c : Client) (m n : AtomicMap) (stamp k : ℕ) (first left all : List �
       append_one [] = refl
       append_one (x ∷ xs) = ap (λ (l : List ℕ). x ∷ l) (append_one xs)
 
-      whole_line : take new.count (line_of c k) ≡ items_up_to stamp (line_of c k)
+      whole_line : take new.count (own_line c k) ≡ items_up_to stamp (own_line c k)
       whole_line = subst (λ (l : List PlacedNode). take new.count l ≡ items_up_to stamp l) shown_is whole
 
       here : IsFolded c then_map stamp k

@@ -22,20 +22,20 @@ use Rattle.col_core.specs.Log.{Log}
 use Rattle.col_core.proofs.CallerLemmas.{In, contains_in, in_contains, in_filter, in_filter-back}
 use Rattle.lawful_run.specs.Asks.{shards}
 use Rattle.lawful_run.specs.Objects.{AreObjectNodes, IsObjectNode}
-use Rattle.client_law.specs.Knowing.{Rest, log_of}
+use Rattle.client_law.specs.Knowing.{Rest, log_seen}
 use Rattle.log_client.specs.declared.store.Store.{Store}
 use Rattle.log_client.specs.declared.client.Client.{Client}
 use Rattle.log_client.specs.declared.answers.StampedRead.{StampedRead}
 use Rattle.log_client.specs.declared.faults.SyncFault.{SyncFault}
-use Rattle.log_client.specs.Fits.{Fits}
-use Rattle.log_client.specs.Clients.{IsClient, caller_of, holds_of, line_of, seen_of, starts_of}
+use Rattle.log_client.specs.Fits.{FitsHolds}
+use Rattle.log_client.specs.Clients.{IsClient, caller_of, holds_of, own_line, seen_of, starts_of}
 use Rattle.log_client.specs.Reading.{home_seen, keys_of}
 use Rattle.log_client.specs.StampedReads.{HasRead, HoldsUpTo, ReadHidden, ReadRefused, ReadsAs, ReadsOn, ShowsItem}
 use Rattle.log_client.proofs.CallerLemmas.{line_is_own, line_rises, made_from, made_of}
 use Rattle.atomic_map.specs.declared.line_writes.LastWrite.{LastWrite}
 use Rattle.atomic_map.specs.declared.line_writes.LineWrites.{LineWrites}
 use Rattle.atomic_map.specs.declared.atomic.AtomicMap.{AtomicMap}
-use Rattle.atomic_map.specs.Writes.{items_up_to, last_write, later_write, value_left}
+use Rattle.atomic_map.specs.Writes.{items_up_to, last_shard_write, later_write, value_left}
 use Rattle.atomic_map.specs.Several.{GetsAll, IsAtomicMapOf, IsFolded, latest_in, values_by_lines, values_in, write_in}
 use Rattle.atomic_map.proofs.LatestWrites.{value_by_lines}
 use Rattle.atomic_map.proofs.LineLemmas.{beside, beside_back, rises_items, rises_nodes, rises_up_to}
@@ -58,20 +58,20 @@ latest_next lines first k key one old write next there of is later =
 latest_is : (c : Client) (m : AtomicMap) (stamp : ℕ) (ks : List ℕ) → IsAtomicMapOf c m
     → ((k : ℕ) → In k ks → IsFolded c m stamp k) → (key : List ℕ) (old : Option LastWrite)
     → fold (λ write k. later_write write (write_in (slice_get m.lines.items k) key)) old ks
-    ≡ fold (λ write k. later_write write (last_write m.colours (object_nodes (items_up_to stamp (line_of c k))) key)) old ks
+    ≡ fold (λ write k. later_write write (last_shard_write m.colours (object_nodes (items_up_to stamp (own_line c k))) key)) old ks
 latest_is c m stamp [] of each key old = refl
 latest_is c m stamp (k ∷ ks) of each key old =
     let f = each k (inl refl) in
     let kept = of.lines k f.line f.there in
     let here : write_in (slice_get m.lines.items k) key
-    ≡ last_write m.colours (object_nodes (items_up_to stamp (line_of c k))) key =
+    ≡ last_shard_write m.colours (object_nodes (items_up_to stamp (own_line c k))) key =
     ap (λ (o : Option (KeptLine LineWrites)). write_in o key) f.there
     ∙ (kept.folds.1 key
-    ∙ (ap (λ (cs : List ℕ). last_write cs (object_nodes (take f.line.count (line_of c k))) key) kept.colours_are
-    ∙ ap (λ (l : List PlacedNode). last_write m.colours (object_nodes l) key) f.whole)) in
+    ∙ (ap (λ (cs : List ℕ). last_shard_write cs (object_nodes (take f.line.count (own_line c k))) key) kept.colours_are
+    ∙ ap (λ (l : List PlacedNode). last_shard_write m.colours (object_nodes l) key) f.whole)) in
     latest_is c m stamp ks of (λ n i. each n (inr i)) key (later_write old (write_in (slice_get m.lines.items k) key))
-    ∙ ap (λ (w : Option LastWrite). fold (λ write n. later_write write (last_write m.colours
-    (object_nodes (items_up_to stamp (line_of c n))) key)) (later_write old w) ks) here
+    ∙ ap (λ (w : Option LastWrite). fold (λ write n. later_write write (last_shard_write m.colours
+    (object_nodes (items_up_to stamp (own_line c n))) key)) (later_write old w) ks) here
 
 pub values_are : (c : Client) (m : AtomicMap) (colours : List ℕ) (stamp : ℕ) (ks : List ℕ) (keys : List (List ℕ))
     → IsAtomicMapOf c m → m.colours ≡ colours → All (IsFolded c m stamp) ks
@@ -115,18 +115,18 @@ has_nodes log Among (key ∷ keys) found =
       among n is rest m (inr i) = rest.among m i
 
 module _ (s : Store) (d : Client) (ks : List ℕ) (stamp : ℕ) (keys : List Key) (is : IsClient s d)
-    (has : HasRead d ks stamp keys) (held : All (HoldsUpTo d stamp) ks) (rest : Rest) (fits : Fits (holds_of d) rest) where
+    (has : HasRead d ks stamp keys) (held : All (HoldsUpTo d stamp) ks) (rest : Rest) (fits : FitsHolds (holds_of d) rest) where
   abbrev log : Log
-  log = log_of (seen_of d) rest
+  log = log_seen (seen_of d) rest
 
   abbrev line_up_to : ℕ → List ObjectNode
-  line_up_to k = object_nodes (items_up_to stamp (line_of d k))
+  line_up_to k = object_nodes (items_up_to stamp (own_line d k))
 
   -- a node of an own line has its key in the line that was seen, and is as it was appended
-  own : (k : ℕ) (item : PlacedNode) → In item (line_of d k)
+  own : (k : ℕ) (item : PlacedNode) → In item (own_line d k)
       → In item.head.key (line (home_seen d k)) × IsObjectNode log item.head.key (object_node item)
   own k item i =
-      let x = beside_back (ShowsItem log) (take (at (starts_of d k) d.region) (line (home_seen d k))) (line_of d k)
+      let x = beside_back (ShowsItem log) (take (at (starts_of d k) d.region) (line (home_seen d k))) (own_line d k)
       (line_is_own s d is rest fits k) item i in (
         subst (λ (key : Key). In key (line (home_seen d k))) (sym x.2.0)
             (in_front (at (starts_of d k) d.region) (line (home_seen d k)) x.0 x.1),
@@ -150,7 +150,7 @@ module _ (s : Store) (d : Client) (ks : List ℕ) (stamp : ℕ) (keys : List Key
       let x = made_of (λ k. line (home_seen d k)) ks o.1 (in_contains (map (λ k. line (home_seen d k)) ks) o.1 o.2) in
       let there = All-contains (HoldsUpTo d stamp) ks x.0 held (contains_in ks x.0 x.1) key o.0
       (subst (λ (l : List Key). Contains l key) (sym x.2) o.3) in
-      let y = made_of (λ (item : PlacedNode). item.head.key) (line_of d x.0) key (in_contains (keys_of (line_of d x.0)) key there) in
+      let y = made_of (λ (item : PlacedNode). item.head.key) (own_line d x.0) key (in_contains (keys_of (own_line d x.0)) key there) in
       let low = o.0 in
       let same = ap (λ (k : Key). k.stamp) y.2 in (
         object_node y.0,
@@ -158,8 +158,8 @@ module _ (s : Store) (d : Client) (ks : List ℕ) (stamp : ℕ) (keys : List Key
         (
           x.0,
           x.1,
-          made_from object_node (items_up_to stamp (line_of d x.0)) y.0
-              (in_filter-back (λ (item : PlacedNode). nat_le item.head.key.stamp stamp) y.0 (line_of d x.0) y.1
+          made_from object_node (items_up_to stamp (own_line d x.0)) y.0
+              (in_filter-back (λ (item : PlacedNode). nat_le item.head.key.stamp stamp) y.0 (own_line d x.0) y.1
               (le-leb y.0.head.key.stamp stamp (omega (arith, low, same)))),
         ),
       )
@@ -170,8 +170,8 @@ module _ (s : Store) (d : Client) (ks : List ℕ) (stamp : ℕ) (keys : List Key
   -- and each node of a line up to the stamp was read
   was_read : (k : ℕ) (m : ObjectNode) → In k ks → In m (line_up_to k) → In m read_nodes.nodes
   was_read k m i j =
-      let y = made_of object_node (items_up_to stamp (line_of d k)) m j in
-      let f = in_filter (λ (item : PlacedNode). nat_le item.head.key.stamp stamp) y.0 (line_of d k) y.1 in
+      let y = made_of object_node (items_up_to stamp (own_line d k)) m j in
+      let f = in_filter (λ (item : PlacedNode). nat_le item.head.key.stamp stamp) y.0 (own_line d k) y.1 in
       let o = own k y.0 f.0 in
       let key = y.0.head.key in
       let inside = in_contains keys key
@@ -189,7 +189,7 @@ module _ (s : Store) (d : Client) (ks : List ℕ) (stamp : ℕ) (keys : List Key
       ap (λ (f : List ℕ → Value). map f asked)
       (fun_ext (λ key.
       value_by_lines colours key line_up_to ks read_nodes.nodes
-      (λ k i. rises_up_to stamp (line_of d k) (rises_items (line_of d k) (line_rises s d is k)))
+      (λ k i. rises_up_to stamp (own_line d k) (rises_items (own_line d k) (line_rises s d is k)))
       (rises_nodes log keys read_nodes.nodes has.order.rising read_nodes.are) read_nodes.among was_read))
 
   pub nodes_read : (colours : List ℕ) (asked : List (List ℕ)) (values : List Value)
@@ -210,7 +210,7 @@ gets_all s c d set colours asked are is last read reads held values by objects k
           let so = x.2 rest fits in
           let n = nodes_read s d (members set) read.stamp reads.0 is reads.1 held rest fits colours asked values by in (
             reads.0,
-            subst (λ (l : List ℕ). ReadsAs l last read reads.0 (log_of (seen_of d) rest) (caller_of s d objects) kept x.0) are so,
+            subst (λ (l : List ℕ). ReadsAs l last read reads.0 (log_seen (seen_of d) rest) (caller_of s d objects) kept x.0) are so,
             n.0,
             n.1,
             n.2,

@@ -11,11 +11,10 @@ use Rattle.log_node.specs.declared.forms.Form.TheVariants as forms
 use Rattle.log_node.specs.Sets.{has}
 use Rattle.object_form.specs.Readings.{form_of}
 use Rattle.object_fold.specs.Nodes.{ObjectNode, nodes_of, shard_of}
-use Rattle.object_fold.specs.Tables.{value_at}
 use Rattle.object_fold.specs.Maps.{Value, set_pair, value_among, value_with}
 use Rattle.atomic_map.specs.declared.line_writes.LastWrite.{LastWrite}
 use Rattle.atomic_map.specs.declared.line_writes.LineWrites.{LineWrites}
-use Rattle.atomic_map.specs.Writes.{HoldsWrites, last_write, put_with, value_left, write_after, write_then, write_with}
+use Rattle.atomic_map.specs.Writes.{HoldsShardWrites, IsWritten, last_shard_write, put_with, value_left, write_after, write_then, write_with}
 
 -- ONE MORE NODE
 
@@ -33,14 +32,14 @@ filter_push p (y ∷ xs) x =
       turned false false l = refl
 
 last_more : (colours : List ℕ) (nodes : List ObjectNode) (node : ObjectNode) (key : List ℕ)
-    → last_write colours (nodes ++ node ∷ []) key
-    ≡ write_then colours node key (last_write colours nodes key) (form_of node.text)
+    → last_shard_write colours (nodes ++ node ∷ []) key
+    ≡ write_then colours node key (last_shard_write colours nodes key) (form_of node.text)
 last_more colours nodes node key =
     ap (write_after key None) (filter_push (λ n. has n.colours (shard_of colours key)) nodes node)
     ∙ by_bool (has node.colours (shard_of colours key)) where
       by_bool : (b : Bool)
           → write_after key None (cond b (nodes_of (shard_of colours key) nodes ++ node ∷ []) (nodes_of (shard_of colours key) nodes))
-          ≡ cond b (write_with node.key key (last_write colours nodes key) (form_of node.text)) (last_write colours nodes key)
+          ≡ cond b (write_with node.key key (last_shard_write colours nodes key) (form_of node.text)) (last_shard_write colours nodes key)
       by_bool true =
           fold_push (λ (write : Option LastWrite) (n : ObjectNode). write_with n.key key write (form_of n.text)) None
           (nodes_of (shard_of colours key) nodes) node
@@ -48,20 +47,17 @@ last_more colours nodes node key =
 
 -- writes that stand for nodes, after one more
 pub one_more : (old new : LineWrites) (nodes : List ObjectNode) (node : ObjectNode) → new.colours ≡ old.colours
-    → ((key : List ℕ) → value_at new.writes.entries key
-    ≡ write_then old.colours node key (value_at old.writes.entries key) (form_of node.text))
-    → HoldsWrites old nodes → HoldsWrites new (nodes ++ node ∷ [])
+    → IsWritten old node (form_of node.text) new → HoldsShardWrites old nodes → HoldsShardWrites new (nodes ++ node ∷ [])
 one_more old new nodes node same step stands key =
     step key
     ∙ (ap (λ (w : Option LastWrite). write_then old.colours node key w (form_of node.text)) (stands key)
     ∙ (sym (last_more old.colours nodes node key)
-    ∙ ap (λ (cs : List ℕ). last_write cs (nodes ++ node ∷ []) key) (sym same)))
+    ∙ ap (λ (cs : List ℕ). last_shard_write cs (nodes ++ node ∷ []) key) (sym same)))
 
--- what holds of all writes at Ok
-pub ok_for_all : {A E B : Type 0} (r : Result A E) (P : B → Type 0) (Q : Type 0) → ((b : B) → OnOk r (P b))
-    → (((b : B) → P b) → Q) → OnOk r Q
-ok_for_all (Ok a) P Q each f = f each
-ok_for_all (Err e) P Q each f = tt
+-- what follows at Ok
+pub ok_so : {A E : Type 0} (r : Result A E) (P Q : Type 0) → OnOk r P → (P → Q) → OnOk r Q
+ok_so (Ok a) P Q is so = so is
+ok_so (Err e) P Q is so = tt
 
 -- THE VALUE THAT IS LEFT
 
@@ -101,7 +97,7 @@ left_after key old (n ∷ nodes) =
 
 -- the value among nodes is that of the last write
 pub value_is_left : (colours : List ℕ) (nodes : List ObjectNode) (key : List ℕ)
-    → value_left (last_write colours nodes key) ≡ value_among colours nodes key
+    → value_left (last_shard_write colours nodes key) ≡ value_among colours nodes key
 value_is_left colours nodes key = left_after key None (nodes_of (shard_of colours key) nodes)
 
 -- WHAT ONE NODE WRITES

@@ -17,16 +17,15 @@ use Rattle.log_client.specs.declared.store.Store.{Store}
 use Rattle.log_client.specs.declared.client.Client.{Client}
 use Rattle.log_client.specs.declared.answers.StampedRead.{StampedRead}
 use Rattle.log_client.specs.declared.object_fault.ObjectFault.{ObjectFault}
-use Rattle.log_client.specs.declared.object_fault.ObjectFault.TheVariants as faults
 use Rattle.log_client.specs.Calls.{IsExplained}
-use Rattle.log_client.specs.Clients.{line_of, tracks_of}
+use Rattle.log_client.specs.Clients.{own_line, tracks_of}
 use Rattle.log_client.specs.Reading.{keys_of}
-use Rattle.log_client.specs.StampedReads.{ReadHidden, ReadRefused, ReadsAs}
-use Rattle.log_client.specs.Objects.{AreColours, Follows, IsAwayFrom}
+use Rattle.log_client.specs.StampedReads.{ReadsAs}
+use Rattle.log_client.specs.Objects.{HasColoursOf, FoldsLine, LookRefused}
 use Rattle.atomic_map.specs.declared.line_writes.LastWrite.{LastWrite}
 use Rattle.atomic_map.specs.declared.line_writes.LineWrites.{LineWrites}
 use Rattle.atomic_map.specs.declared.atomic.AtomicMap.{AtomicMap}
-use Rattle.atomic_map.specs.Writes.{HoldsWrites, items_up_to, last_write, later_write, value_left}
+use Rattle.atomic_map.specs.Writes.{HoldsShardWrites, items_up_to, last_shard_write, later_write, value_left}
 
 -- WHAT IS KEPT
 
@@ -34,11 +33,11 @@ use Rattle.atomic_map.specs.Writes.{HoldsWrites, items_up_to, last_write, later_
 -- has played of it.
 pub record IsLineOf (c : Client) (colours : List ℕ) (colour : ℕ) (line : KeptLine LineWrites) : Type 0 where
   pub colours_are : line.state.colours ≡ colours
-  pub folds : Follows c colour line.count (HoldsWrites line.state)
+  pub folds : FoldsLine c colour line.count (HoldsShardWrites line.state)
 
 -- The map is kept beside the client: its colours are the client's, and so are the lines that it has.
 pub record IsAtomicMapOf (c : Client) (m : AtomicMap) : Type 0 where
-  pub colours : AreColours c m.colours
+  pub colours : HasColoursOf c m.colours
   pub lines : (colour : ℕ) (line : KeptLine LineWrites) → slice_get m.lines.items colour ≡ Some line
       → IsLineOf c m.colours colour line
 
@@ -61,15 +60,15 @@ pub record Opens (old new : AtomicMap) : Type 0 where
 pub record CanGoOn (c : Client) (m : AtomicMap) (stamp colour : ℕ) : Type 0 where
   pub within : colour < length (tracks_of c)
   pub few : colour < MAX_COLOURS
-  pub rising : AreRising (keys_of (line_of c colour))
+  pub rising : AreRising (keys_of (own_line c colour))
   pub low : (line : KeptLine LineWrites) → slice_get m.lines.items colour ≡ Some line
-      → line.count ≤ length (items_up_to stamp (line_of c colour))
+      → line.count ≤ length (items_up_to stamp (own_line c colour))
 
 -- what is folded of the colour are the nodes of the client's own line up to the stamp
 pub record IsFolded (c : Client) (m : AtomicMap) (stamp colour : ℕ) : Type 0 where
   pub line : KeptLine LineWrites
   pub there : slice_get m.lines.items colour ≡ Some line
-  pub whole : take line.count (line_of c colour) ≡ items_up_to stamp (line_of c colour)
+  pub whole : take line.count (own_line c colour) ≡ items_up_to stamp (own_line c colour)
 
 -- WHAT IS READ
 
@@ -91,7 +90,7 @@ values_in lines colours keys = map (λ key. value_left (latest_in lines colours 
 abbrev pub latest_by_lines : Client → List ℕ → List ℕ → ℕ → List ℕ → Option LastWrite
 latest_by_lines c map_colours colours stamp key =
     fold (λ write colour. later_write write
-    (last_write map_colours (object_nodes (items_up_to stamp (line_of c colour))) key)) None colours
+    (last_shard_write map_colours (object_nodes (items_up_to stamp (own_line c colour))) key)) None colours
 
 -- the values of keys by these lines
 abbrev pub values_by_lines : Client → List ℕ → List ℕ → ℕ → List (List ℕ) → List Value
@@ -111,9 +110,4 @@ GetsAll s c d colours last asked values read = IsExplained s c d (GetsAllAs colo
 
 -- why a read of several keys, whose shards have these colours, of a map at this home was refused
 abbrev pub GetAllRefused : ℕ → Store → Client → Client → List ℕ → ObjectFault → Type 0
-GetAllRefused home s c d colours (faults.NotHome shown) = IsAwayFrom (Some home) c d shown
-GetAllRefused home s c d colours (faults.Append fault) = ⊥
-GetAllRefused home s c d colours (faults.Sync fault) = ReadRefused s c d colours fault
-GetAllRefused home s c d colours (faults.Unread stamp why) = ⊥
-GetAllRefused home s c d colours faults.NoTx = ⊥
-GetAllRefused home s c d colours faults.NoMemory = ReadHidden s c d colours
+GetAllRefused home s c d colours = LookRefused home s c d colours

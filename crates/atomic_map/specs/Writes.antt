@@ -38,17 +38,22 @@ abbrev pub write_then : List ℕ → ObjectNode → List ℕ → Option LastWrit
 write_then colours node key old form =
     if has node.colours (shard_of colours key) then write_with node.key key old form else old
 
+-- the line's writes are then those that a node with this form leaves
+abbrev pub IsWritten : LineWrites → ObjectNode → Form → LineWrites → Type 0
+IsWritten old node form new = (key : List ℕ)
+    → value_at new.writes.entries key ≡ write_then old.colours node key (value_at old.writes.entries key) form
+
 -- the key's last write after nodes, the first of them first
 abbrev pub write_after : List ℕ → Option LastWrite → List ObjectNode → Option LastWrite
 write_after key old nodes = fold (λ write node. write_with node.key key write (form_of node.text)) old nodes
 
 -- A key's last write among nodes: only those count that have the colour of its shard.
-abbrev pub last_write : List ℕ → List ObjectNode → List ℕ → Option LastWrite
-last_write colours nodes key = write_after key None (nodes_of (shard_of colours key) nodes)
+abbrev pub last_shard_write : List ℕ → List ObjectNode → List ℕ → Option LastWrite
+last_shard_write colours nodes key = write_after key None (nodes_of (shard_of colours key) nodes)
 
 -- the line's writes are the last ones among these nodes
-abbrev pub HoldsWrites : LineWrites → List ObjectNode → Type 0
-HoldsWrites line nodes = (key : List ℕ) → value_at line.writes.entries key ≡ last_write line.colours nodes key
+abbrev pub HoldsShardWrites : LineWrites → List ObjectNode → Type 0
+HoldsShardWrites line nodes = (key : List ℕ) → value_at line.writes.entries key ≡ last_shard_write line.colours nodes key
 
 -- the value that a last write leaves, if there is one
 abbrev pub value_left : Option LastWrite → Value

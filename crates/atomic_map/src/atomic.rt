@@ -1,15 +1,15 @@
 // The map of several keys.
-ghost use Rattle.std.specs.Prelude.{◌≡◌, ◌≢◌, ◌<◌, ◌≤◌, length, Some, None, Err, IfOk, IfErr, OnOk, OnErr};
+ghost use Rattle.std.specs.Prelude.{◌≡◌, ◌<◌, ◌≤◌, length, Some, None, IfOk, IfErr, OnOk, OnErr};
 ghost use Rattle.std.specs.List.{All};
 ghost use Rattle.std.specs.Option.{option_copied};
 ghost use Rattle.log_node.specs.Sets.{members};
 ghost use Rattle.object_form.specs.Forms.{ArePairs, form_text};
 ghost use Rattle.object_fold.specs.Folds.{last_after};
-ghost use Rattle.lawful_run.specs.Asks.{shards, keys_of};
+ghost use Rattle.lawful_run.specs.Asks.{shards, keys_of_pairs};
 ghost use Rattle.log_client.specs.Calls.{AnswersEach};
 ghost use Rattle.log_client.specs.Clients.{IsClient};
 ghost use Rattle.log_client.specs.Reading.{RestsOn, raised_colours, synced_colours};
-ghost use Rattle.log_client.specs.Objects.{AreColours, StandsIn, PutRefused};
+ghost use Rattle.log_client.specs.Objects.{HasColoursOf, StandsIn, PutRefused, RefusesAway};
 ghost use Rattle.atomic_map.specs.Colours.{AreFew};
 ghost use Rattle.atomic_map.specs.Writes.{value_left};
 ghost use Rattle.atomic_map.specs.Several.{CanGoOn, IsAtomicMapOf, IsFolded, IsSameMap, HasSameLast, GetsAll, GetAllRefused, Opens, latest_in, values_by_lines, values_in};
@@ -55,7 +55,7 @@ impl AtomicMap {
     /// The map of these colours at a home, of which nothing is folded. Takes no memory.
     pub fn open(alloc: Global, home: u8, colours: ColourList) -> AtomicMap
         ensures of { (result.home ≡ home) × (result.colours ≡ colours) × (result.last ≡ None) }
-        ensures map { (client : Client) → AreColours client colours → IsAtomicMapOf client result }
+        ensures map { (client : Client) → HasColoursOf client colours → IsAtomicMapOf client result }
     {
         AtomicMap {
             home,
@@ -81,11 +81,11 @@ impl AtomicMap {
         ensures client { RestsOn store.now client.old client.new }
         ensures map { IsAtomicMapOf client.new self.new }
         ensures same { self.new ≡ self.old }
-        ensures ok { IfOk result (StandsIn store.now client.old client.new (shards self.old.colours (keys_of pairs.now))
-            (form_text (Form.PutAll pairs.now))) }
-        ensures away { client.old.region ≢ self.old.home → result ≡ Err (ObjectFault.NotHome self.old.home) }
+        ensures ok { IfOk result (StandsIn store.now client.old client.new
+            (shards self.old.colours (keys_of_pairs pairs.now)) (form_text (Form.PutAll pairs.now))) }
+        ensures away { RefusesAway self.old.home client.old result }
         ensures err { IfErr result (PutRefused (Some self.old.home) store.now client.old client.new
-            (shards self.old.colours (keys_of pairs.now)) (form_text (Form.PutAll pairs.now))) }
+            (shards self.old.colours (keys_of_pairs pairs.now)) (form_text (Form.PutAll pairs.now))) }
     {
         if client.region() != self.home {
             return Err(ObjectFault::NotHome { home: self.home });
@@ -153,7 +153,8 @@ impl AtomicMap {
     // The value that it leaves.
     fn value(&self, alloc: Global, set: Colours, key: &[u8]) -> Result<Option<Text>, AllocError>
         requires { All (λ colour. colour < length self.now.lines.items) (members set) }
-        ensures { IfOk result (λ value. value ≡ value_left (latest_in self.now.lines.items (members set) key.now)) }
+        ensures { IfOk result (λ value.
+            value ≡ value_left (latest_in self.now.lines.items (members set) key.now)) }
     {
         match self.latest(set, key) {
             None => Ok(None),
@@ -168,7 +169,8 @@ impl AtomicMap {
     fn values(&self, alloc: Global, set: Colours, keys: &Keys) -> Result<Values, AllocError>
         requires { All (λ colour. colour < length self.now.lines.items) (members set) }
         ensures many { IfOk result (λ values. length values ≡ length keys.now) }
-        ensures values { IfOk result (λ values. values ≡ values_in self.now.lines.items (members set) keys.now) }
+        ensures values { IfOk result (λ values.
+            values ≡ values_in self.now.lines.items (members set) keys.now) }
     {
         let mut values = ListOf::new(alloc);
         for key in keys.as_slice() {
@@ -218,14 +220,17 @@ impl AtomicMap {
         ensures client { RestsOn store.now client.old client.new }
         ensures map { IsAtomicMapOf client.new self.new }
         ensures same { IsSameMap self.old self.new }
-        ensures ok { IfOk result (λ r. GetsAll store.now client.old client.new self.old.colours self.old.last keys.now r.0 r.1) }
+        ensures ok { IfOk result (λ r. GetsAll store.now client.old client.new
+            self.old.colours self.old.last keys.now r.0 r.1) }
         ensures many { IfOk result (λ r. length r.0 ≡ length keys.now) }
         ensures last { IfOk result (λ r. self.new.last ≡ last_after self.old.last r.1.items) }
         ensures stays { OnErr result (self.new.last ≡ self.old.last) }
-        ensures raises { IfOk result (λ r. raised_colours r.1.raises ≡ shards self.old.colours keys.now) }
-        ensures syncs { IfOk result (λ r. synced_colours r.1.syncs ≡ shards self.old.colours keys.now) }
+        ensures raises { IfOk result (λ r.
+            raised_colours r.1.raises ≡ shards self.old.colours keys.now) }
+        ensures syncs { IfOk result (λ r.
+            synced_colours r.1.syncs ≡ shards self.old.colours keys.now) }
         ensures played { IfOk result (λ r. AnswersEach client.old client.new r.1.syncs) }
-        ensures away { client.old.region ≢ self.old.home → result ≡ Err (ObjectFault.NotHome self.old.home) }
+        ensures away { RefusesAway self.old.home client.old result }
         ensures err { IfErr result (GetAllRefused self.old.home store.now client.old client.new
             (shards self.old.colours keys.now)) }
     {

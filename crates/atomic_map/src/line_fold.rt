@@ -2,11 +2,10 @@
 ghost use Rattle.std.specs.Prelude.{◌≡◌, ◌<◌, ◌≤◌, ◌+◌, ℕ, List, length, take, OnOk, OnErr};
 ghost use Rattle.std.specs.Option.{option_copied};
 ghost use Rattle.object_fold.specs.Nodes.{keyed_node};
-ghost use Rattle.object_fold.specs.Tables.{value_at};
 ghost use Rattle.object_fold.specs.Folds.{FoldsFirst};
 ghost use Rattle.playback.specs.Merging.{AreRising};
 ghost use Rattle.log_client.specs.Reading.{keys_of};
-ghost use Rattle.atomic_map.specs.Writes.{HoldsWrites, items_up_to, later_write, write_then};
+ghost use Rattle.atomic_map.specs.Writes.{HoldsShardWrites, IsWritten, items_up_to, later_write};
 
 use crate::line_writes::{LastWrite, LineWrites};
 use log_client::count_up_to;
@@ -20,7 +19,8 @@ pub fn later_write<'a>(
     write: Option<&'a LastWrite>,
     other: Option<&'a LastWrite>,
 ) -> Option<&'a LastWrite>
-    ensures { option_copied result ≡ later_write (option_copied write.entry) (option_copied other.entry) }
+    ensures { option_copied result
+        ≡ later_write (option_copied write.entry) (option_copied other.entry) }
 {
     match (write, other) {
         (None, other) => other,
@@ -40,9 +40,7 @@ impl LineWrites {
     fn put(&mut self, at: Key, node: &Node, key: Text, value: Text)
         requires room { 0 < self.old.writes.spare }
         ensures colours { self.new.colours ≡ self.old.colours }
-        ensures writes { (other : List ℕ) → value_at self.new.writes.entries other
-            ≡ write_then self.old.colours (keyed_node at node.now) other (value_at self.old.writes.entries other)
-            (Form.Put key value) }
+        ensures writes { IsWritten self.old (keyed_node at node.now) (Form.Put key value) self.new }
         ensures room { self.old.writes.spare ≤ self.new.writes.spare + 1 }
     {
         if self.counts(node, key.as_bytes()) {
@@ -58,9 +56,7 @@ impl LineWrites {
     fn put_all(&mut self, at: Key, node: &Node, pairs: Pairs)
         requires room { length pairs ≤ self.old.writes.spare }
         ensures colours { self.new.colours ≡ self.old.colours }
-        ensures writes { (other : List ℕ) → value_at self.new.writes.entries other
-            ≡ write_then self.old.colours (keyed_node at node.now) other (value_at self.old.writes.entries other)
-            (Form.PutAll pairs) }
+        ensures writes { IsWritten self.old (keyed_node at node.now) (Form.PutAll pairs) self.new }
     {
         for Pair { key, value } in pairs.into_vec() {
             self.put(at, node, key, value);
@@ -71,9 +67,7 @@ impl LineWrites {
     fn delete(&mut self, at: Key, node: &Node, key: Text)
         requires room { 0 < self.old.writes.spare }
         ensures colours { self.new.colours ≡ self.old.colours }
-        ensures writes { (other : List ℕ) → value_at self.new.writes.entries other
-            ≡ write_then self.old.colours (keyed_node at node.now) other (value_at self.old.writes.entries other)
-            (Form.Delete key) }
+        ensures writes { IsWritten self.old (keyed_node at node.now) (Form.Delete key) self.new }
     {
         if self.counts(node, key.as_bytes()) {
             let write = LastWrite {
@@ -87,8 +81,7 @@ impl LineWrites {
     // Notes what a node with this form writes.
     fn apply(&mut self, at: Key, node: &Node, form: Form) -> Result<(), AllocError>
         ensures colours { self.new.colours ≡ self.old.colours }
-        ensures ok { (other : List ℕ) → OnOk result (value_at self.new.writes.entries other
-            ≡ write_then self.old.colours (keyed_node at node.now) other (value_at self.old.writes.entries other) form) }
+        ensures ok { OnOk result (IsWritten self.old (keyed_node at node.now) form self.new) }
         ensures err { OnErr result (self.new.writes.entries ≡ self.old.writes.entries) }
     {
         match form {
@@ -121,7 +114,7 @@ impl LineWrites {
 }
 
 impl LineFold for LineWrites {
-    ghost Holds = { HoldsWrites };
+    ghost Holds = { HoldsShardWrites };
 
     ghost Opened = { List ℕ };
 
@@ -142,10 +135,10 @@ pub fn fold_on(
     stamp: u64,
 ) -> Result<(), AllocError>
     requires rising { AreRising (keys_of line.now) }
-    requires folds { FoldsFirst line.now kept.old.count (HoldsWrites kept.old.state) }
+    requires folds { FoldsFirst line.now kept.old.count (HoldsShardWrites kept.old.state) }
     requires low { kept.old.count ≤ length (items_up_to stamp line.now) }
     ensures colours { kept.new.state.colours ≡ kept.old.state.colours }
-    ensures folds { FoldsFirst line.now kept.new.count (HoldsWrites kept.new.state) }
+    ensures folds { FoldsFirst line.now kept.new.count (HoldsShardWrites kept.new.state) }
     ensures low { kept.new.count ≤ length (items_up_to stamp line.now) }
     ensures whole { OnOk result (take kept.new.count line.now ≡ items_up_to stamp line.now) }
 {

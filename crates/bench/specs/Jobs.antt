@@ -15,5 +15,6 @@ pub record IsJob (j : Job) : Type 0 where
   pub few : j.by < 4
   pub holds : IsHolder j.cell.now j.by j.pass
 
+-- each is such a client of the column
 abbrev pub AreJobs : List Job → Type 0
 AreJobs js = (k : ℕ) (j : Job) → slice_get js k ≡ Some j → IsJob j

@@ -2,6 +2,7 @@
 use Rattle.std.proofs.Common.{◌≡◌, ℕ, zero, suc, ◌<◌, ◌≤◌, List, [], ◌∷◌, ◌++◌, length, take, Some, refl, ap, sym, subst, ◌∙◌, arith}
 use Rattle.std.specs.Prelude.{slice_get}
 use Rattle.std.specs.List.{AllZip, count_by}
+use Rattle.std.specs.List.Sorted.{IsPermutation}
 use mathlib.Core.List.{IsPrefix}
 use Rattle.log_node.specs.declared.ids.Counts.{Counts}
 use Rattle.log_node.specs.Seen.{PlacedNode}
@@ -12,17 +13,18 @@ use Rattle.col_core.specs.Keeping.{Kept, kept_after_sync}
 use Rattle.col_core.specs.Log.{Log, first}
 use Rattle.col_core.specs.PlayOrder.{Place}
 use Rattle.object_fold.specs.Causal.{ChainNode, IsCausalAnswer}
+use Rattle.object_fold.specs.declared.causal_map.CausalMap.{CausalMap as Folded}
 use Rattle.object_fold.specs.CausalStates.{IsCausalMap}
 use Rattle.playback.specs.declared.player.Snapshot.{Snapshot}
 use Rattle.script_text.specs.declared.script.Object.{Object}
-use Rattle.lawful_run.specs.Reads.{Syncs, greatest_stamp, played_stamp}
+use Rattle.lawful_run.specs.Reads.{Syncs, greatest_stamp, greatest_played}
 use Rattle.lawful_run.specs.Objects.{IsChainNode, GetsValues, places_within}
 use Rattle.lawful_run.proofs.CallerLemmas.{prefix_length}
-use Rattle.client_law.specs.Knowing.{Rest, log_of}
+use Rattle.client_law.specs.Knowing.{Rest, log_seen}
 use Rattle.log_client.specs.declared.store.Store.{Store}
 use Rattle.log_client.specs.declared.client.Client.{Client}
 use Rattle.log_client.specs.declared.answers.Synced.{Synced}
-use Rattle.log_client.specs.Fits.{Fits}
+use Rattle.log_client.specs.Fits.{FitsHolds}
 use Rattle.log_client.specs.Clients.{holds_of, seen_of, tracks_of, starts_of, played_of, caller_of, IsClient}
 use Rattle.log_client.specs.Calls.{IsExplained, SyncsAs, AnswersSync, nodes_played}
 use Rattle.log_client.specs.Reading.{RestsOn}
@@ -34,7 +36,7 @@ use Rattle.causal_map.specs.CausalMaps.{IsCausalMapOf, GetsMany}
 use Rattle.causal_map.proofs.CausalAnswers.{answer_in}
 use Rattle.causal_map.proofs.PlacesPlayed.{all_places}
 use Rattle.causal_map.proofs.PlayedNodes.{chain_at, node_of_region, nodes_long, place_counts}
-use Rattle.causal_map.proofs.Shuffles.{Shuffled, beside_others}
+use Rattle.causal_map.proofs.Shuffles.{beside_others}
 
 -- LISTS
 
@@ -56,13 +58,14 @@ first_alike earlier (i ∷ old) more (suc n) le =
 
 -- WHILE THE CLIENT GOES ON
 
-keeps_on : (old new : List PlacedNode) (m : CausalMap) → IsPrefix old new → KeepsFirst old m.kept → KeepsFirst new m.kept
-keeps_on old new m p k =
-    let within = k.0 in
+keeps_on : (old new : List PlacedNode) (map : Folded) → IsPrefix old new → KeepsFirst old map → KeepsFirst new map
+keeps_on old new map p k =
+    let within = k.1 in
     let long = prefix_length old new p in (
+      k.0,
       omega (arith, within, long),
-      subst (λ (l : List PlacedNode). IsCausalMap m.kept.map (take m.kept.count (chain_nodes l))) p.1
-          (subst (IsCausalMap m.kept.map) (sym (first_alike [] old p.0 m.kept.count within)) k.1),
+      subst (λ (l : List PlacedNode). IsCausalMap map (take k.0 (chain_nodes l))) p.1
+          (subst (IsCausalMap map) (sym (first_alike [] old p.0 k.0 within)) k.2),
     )
 
 pub causal_later : (s : Store) (c d : Client) (m : CausalMap) → IsClient s c → RestsOn s c d → IsCausalMapOf c m
@@ -70,7 +73,7 @@ pub causal_later : (s : Store) (c d : Client) (m : CausalMap) → IsClient s c �
 causal_later s c d m is on of = record {
   colour = let lt = of.colour in let same = tracks_long s c d is on.client in omega (arith, lt, same);
   few = of.few;
-  folds = keeps_on (played_of c m.colour) (played_of d m.colour) m (on.grows m.colour).0 of.folds;
+  folds = keeps_on (played_of c m.colour) (played_of d m.colour) m.map (on.grows m.colour).0 of.folds;
 }
 
 -- WHAT EXPLAINS A GET
@@ -87,11 +90,11 @@ module _ (s : Store) (c d : Client) (key : List ℕ) (colour : ℕ) (values : Li
   synced : y.snapshot.colour ≡ colour
   synced = ap (λ (q : Snapshot). q.colour) answers.snapshot
 
-  module _ (objects : List Object) (kept : Kept) (rest : Rest) (fits : Fits (holds_of d) rest)
-      (here : Syncs (log_of (seen_of d) rest) (caller_of s d objects) kept y.snapshot.colour y.events y.snapshot.counts)
+  module _ (objects : List Object) (kept : Kept) (rest : Rest) (fits : FitsHolds (holds_of d) rest)
+      (here : Syncs (log_seen (seen_of d) rest) (caller_of s d objects) kept y.snapshot.colour y.events y.snapshot.counts)
       (started : y.snapshot.counts ≡ starts_of d colour) where
     abbrev log : Log
-    log = log_of (seen_of d) rest
+    log = log_seen (seen_of d) rest
 
     abbrev looked : Chains
     looked = chain d.region (first log d.region y.snapshot.colour y.events)
@@ -119,14 +122,14 @@ module _ (s : Store) (c d : Client) (key : List ℕ) (colour : ℕ) (values : Li
         zip_from (IsChainNode log looked) all.order (chain_nodes items)
         (zip_long (IsPlacedIn d colour) all.order items all.shown ∙ sym (nodes_long [] items)) read_as
 
-    places : Shuffled all.order (places_within y.snapshot.counts)
+    places : IsPermutation all.order (places_within y.snapshot.counts)
     places =
         all_places all.order (λ j p at. ((all.placed j p at).0, (all.placed j p at).1)) y.snapshot.counts
         (λ r few. all.whole r few ∙ ap (λ (v : Counts). at v r) (sym started))
 
     pub gets_values : GetsValues log (caller_of s d objects) (sync_piece y) key values
     gets_values =
-        let r = beside_others (IsChainNode log looked) places (chain_nodes items) shown in record {
+        let r = beside_others (IsChainNode log looked) all.order (places_within y.snapshot.counts) places (chain_nodes items) shown in record {
           nodes = r.0;
           played = r.1;
           answer = answer_in (chain_nodes items) r.0 key values r.2 says;
@@ -142,7 +145,7 @@ module _ (s : Store) (c d : Client) (key : List ℕ) (colour : ℕ) (values : Li
           λ rest fits.
               let syncs = r.2 rest fits in
               let own = (caller_of s d objects).own in
-              let log = log_of (seen_of d) rest in
+              let log = log_seen (seen_of d) rest in
               let caller = caller_of s d objects in
               let here : Syncs log caller kept y.snapshot.colour y.events y.snapshot.counts =
               subst (λ (k : ℕ). Syncs log caller kept k y.events y.snapshot.counts) (sym synced) syncs.0 in
@@ -155,7 +158,7 @@ module _ (s : Store) (c d : Client) (key : List ℕ) (colour : ℕ) (values : Li
                 syncs.2
                     ∙ (ap (kept_after_sync kept own colour y.events y.snapshot.counts) stamps
                     ∙ ap (λ (k : ℕ). kept_after_sync kept own k y.events y.snapshot.counts
-                    (played_stamp log caller kept k y.events y.snapshot.counts)) (sym synced)),
+                    (greatest_played log caller kept k y.events y.snapshot.counts)) (sym synced)),
               ),
         );
   }

@@ -3,18 +3,17 @@ use Rattle.std.proofs.Common.{◌≡◌, ℕ, zero, suc, ◌+◌, ◌<◌, ◌�
 use Rattle.std.specs.Prelude.{◌==◌, slice_get, slice_index}
 use Rattle.std.specs.List.{AllZip, count_by}
 use Rattle.std.proofs.lemmas.Bool.{cases_lt}
-use Rattle.std.proofs.lemmas.List.Sums.{sum_by-cons}
-use Rattle.std.proofs.lemmas.Option.{slice_get_within}
+use Rattle.std.proofs.lemmas.List.{length-take-le}
 use Rattle.log_node.specs.Seen.{PlacedNode}
 use Rattle.col_core.specs.PlayOrder.{Place}
 use Rattle.object_fold.specs.Causal.{ChainNode}
+use Rattle.object_fold.specs.declared.causal_map.CausalMap.{CausalMap}
 use Rattle.object_fold.specs.CausalStates.{IsCausalMap}
-use Rattle.object_fold.specs.Pasts.{IsNext}
+use Rattle.object_fold.specs.Pasts.{MayPlayNext}
 use Rattle.log_client.specs.declared.client.Client.{Client}
 use Rattle.log_client.specs.Clients.{played_of}
 use Rattle.log_client.proofs.CallerLemmas.{IsPlacedIn, PlayedIn, of_region, zip_at, zip_long}
-use Rattle.causal_map.specs.declared.kept_writes.KeptWrites.{KeptWrites}
-use Rattle.causal_map.specs.Played.{chain_node, chain_nodes, chain_nodes_after, ArePlayed, KeepsFirst}
+use Rattle.causal_map.specs.Played.{chain_node, chain_nodes, chain_nodes_after, AreInCausalOrder, KeepsFirst}
 use Rattle.log_node.proofs.CallerLemmas.{count_by-cons as counted}
 
 abbrev pub node_of_region : ℕ → PlacedNode → Bool
@@ -84,7 +83,7 @@ module _ (d : Client) (colour : ℕ) (all : PlayedIn d colour) where
   so_far : (r n : ℕ) → count_by (node_of_region r) (take n items) ≡ count_by (of_region r) (take n all.order)
   so_far r n = place_counts d colour r all.order items n all.shown
 
-  pub are_played : ArePlayed items
+  pub are_played : AreInCausalOrder items
   are_played n item there =
       let p = place_of n item there in
       let at_place = zip_at (IsPlacedIn d colour) all.order items n p.0 item all.shown p.1 there in (
@@ -96,8 +95,8 @@ module _ (d : Client) (colour : ℕ) (all : PlayedIn d colour) where
       )
 
 -- a node whose needs are four numbers is the next one after those before it
-pub next_node : (items : List PlacedNode) (n : ℕ) (item : PlacedNode) → ArePlayed items → slice_get items n ≡ Some item
-    → length item.head.needs.0 ≡ 4 → IsNext (take n (chain_nodes items)) (chain_node (take n items) item)
+pub next_node : (items : List PlacedNode) (n : ℕ) (item : PlacedNode) → AreInCausalOrder items → slice_get items n ≡ Some item
+    → length item.head.needs.0 ≡ 4 → MayPlayNext (take n (chain_nodes items)) (chain_node (take n items) item)
 next_node items n item played there four = record {
   region = (played n item there).0;
   position = sym (chain_counts item.node.region [] items n);
@@ -129,21 +128,20 @@ taken_more earlier (i ∷ items) (suc n) item e =
     ∙ ap (λ (l : List PlacedNode). take n (chain_nodes_after (earlier ++ i ∷ []) items) ++ chain_node l item ∷ [])
     (append_assoc earlier (i ∷ []) (take n items)))
 
+-- how many the map was fed
+pub fed_first : (items : List PlacedNode) (map : CausalMap) (k : KeepsFirst items map)
+    → length (take k.0 (chain_nodes items)) ≡ k.0
+fed_first items map k = length-take-le k.0 (chain_nodes items) (let le = k.1 in let long = nodes_long [] items in omega (arith, le, long))
+
 -- what is folded, with the next node
-pub keeps_more : (items : List PlacedNode) (old new : KeptWrites) (place : ℕ) (item : PlacedNode) → ArePlayed items
-    → slice_get items place ≡ Some item → length item.head.needs.0 ≡ 4 → old.count ≡ place → new.count ≡ place + 1
+pub keeps_more : (items : List PlacedNode) (old new : CausalMap) (place : ℕ) (item : PlacedNode) → AreInCausalOrder items
+    → slice_get items place ≡ Some item → length item.head.needs.0 ≡ 4
     → ((played : List ChainNode) (node : ChainNode) → node.region ≡ item.node.region → node.needs ≡ item.head.needs
-    → node.text ≡ item.node.text → IsNext played node → IsCausalMap old.map played → IsCausalMap new.map (played ++ node ∷ []))
-    → KeepsFirst items old → KeepsFirst items new
-keeps_more items old new place item played there four was is feeds kept =
-    let node = chain_node (take place items) item in
+    → node.text ≡ item.node.text → MayPlayNext played node → IsCausalMap old played → IsCausalMap new (played ++ node ∷ []))
+    → IsCausalMap old (take place (chain_nodes items)) → IsCausalMap new (take (place + 1) (chain_nodes items))
+keeps_more items old new place item played there four feeds fed =
     let all = chain_nodes items in
-    let next = next_node items place item played there four in
-    let count : new.count ≡ suc place = omega (arith, is) in
-    let lt = slice_get_within items place item there in (
-      omega (arith, count, lt),
-      subst (λ (n : ℕ). IsCausalMap new.map (take n all)) (sym count)
-          (subst (IsCausalMap new.map) (sym (taken_more [] items place item there))
-          (feeds (take place all) node refl refl refl next
-          (subst (λ (n : ℕ). IsCausalMap old.map (take n all)) was kept.1))),
-    )
+    subst (λ (n : ℕ). IsCausalMap new (take n all)) (let e : suc place ≡ place + 1 = omega arith in e)
+    (subst (IsCausalMap new) (sym (taken_more [] items place item there))
+    (feeds (take place all) (chain_node (take place items) item) refl refl refl
+    (next_node items place item played there four) fed))

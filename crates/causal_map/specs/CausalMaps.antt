@@ -16,11 +16,11 @@ use Rattle.causal_map.specs.declared.causal.CausalMap.{CausalMap}
 use Rattle.causal_map.specs.Played.{KeepsFirst}
 
 -- The map is kept beside the client: its colour is one of the client's, and what is folded are the first nodes that the client
--- has played of it.
+-- has played of it, as many as the map was fed.
 pub record IsCausalMapOf (c : Client) (m : CausalMap) : Type 0 where
   pub colour : m.colour < length (tracks_of c)
   pub few : m.colour < MAX_COLOURS
-  pub folds : KeepsFirst (played_of c m.colour) m.kept
+  pub folds : KeepsFirst (played_of c m.colour) m.map
 
 -- The colour was synced, and the values are those of the key's writes, among all nodes of the snapshot, that no other follows.
 abbrev pub GetsManyAs : List ℕ → Synced → List (List ℕ) → Log → Caller → Kept → Kept → Type 0

@@ -3,8 +3,8 @@ use Rattle.std.specs.Prelude.{◌≡◌, ℕ, ◌==◌, ◌<◌, ◌≤◌, List
 use Rattle.log_node.specs.Seen.{PlacedNode}
 use Rattle.log_node.specs.Vectors.{at}
 use Rattle.object_fold.specs.Causal.{ChainNode}
+use Rattle.object_fold.specs.declared.causal_map.CausalMap.{CausalMap}
 use Rattle.object_fold.specs.CausalStates.{IsCausalMap}
-use Rattle.causal_map.specs.declared.kept_writes.KeptWrites.{KeptWrites}
 
 -- A node that was played after these: it stands in its region's chain behind those of them that are of the region.
 abbrev pub chain_node : List PlacedNode → PlacedNode → ChainNode
@@ -20,6 +20,7 @@ abbrev pub chain_nodes_after : List PlacedNode → List PlacedNode → List Chai
 chain_nodes_after earlier [] = []
 chain_nodes_after earlier (item ∷ items) = chain_node earlier item ∷ chain_nodes_after (earlier ++ item ∷ []) items
 
+-- nodes in the order in which they were played, as a causal map reads them
 abbrev pub chain_nodes : List PlacedNode → List ChainNode
 chain_nodes items = chain_nodes_after [] items
 
@@ -28,11 +29,11 @@ abbrev pub count_of : ℕ → List PlacedNode → ℕ
 count_of region items = count_by (λ (item : PlacedNode). item.node.region == region) items
 
 -- each of them could be played after those before it: its needs count these alone
-abbrev pub ArePlayed : List PlacedNode → Type 0
-ArePlayed items = (n : ℕ) (item : PlacedNode) → slice_get items n ≡ Some item
+abbrev pub AreInCausalOrder : List PlacedNode → Type 0
+AreInCausalOrder items = (n : ℕ) (item : PlacedNode) → slice_get items n ≡ Some item
     → (item.node.region < 4)
     × ((region : ℕ) → region < 4 → at item.head.needs region ≤ count_of region (take n items))
 
--- what is folded are the first of these nodes
-abbrev pub KeepsFirst : List PlacedNode → KeptWrites → Type 0
-KeepsFirst items kept = (kept.count ≤ length items) × IsCausalMap kept.map (take kept.count (chain_nodes items))
+-- what the map was fed are the first of these nodes
+abbrev pub KeepsFirst : List PlacedNode → CausalMap → Type 0
+KeepsFirst items map = (count : ℕ) × (count ≤ length items) × IsCausalMap map (take count (chain_nodes items))

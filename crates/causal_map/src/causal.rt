@@ -1,5 +1,5 @@
 // The causal map.
-ghost use Rattle.std.specs.Prelude.{◌≡◌, ◌<◌, IsTrue, ◌∷◌, [], length, None, IfOk, IfErr, OnErr};
+ghost use Rattle.std.specs.Prelude.{◌≡◌, ◌<◌, IsTrue, ◌∷◌, [], length, None, IfOk, IfErr};
 ghost use Rattle.object_form.specs.Forms.{is_word, form_text};
 ghost use Rattle.log_client.specs.Calls.{AnswersSync};
 ghost use Rattle.log_client.specs.Clients.{IsClient, Helps, tracks_of};
@@ -7,33 +7,32 @@ ghost use Rattle.log_client.specs.Reading.{RestsOn};
 ghost use Rattle.log_client.specs.Objects.{StandsIn, PutRefused, GetRefused};
 ghost use Rattle.causal_map.specs.CausalMaps.{IsCausalMapOf, GetsMany};
 
-use crate::kept_writes::KeptWrites;
+use crate::played::values;
 use fuzzy_io::Gate;
 use log_client::{Appended, Client, ObjectFault, Store, Synced};
 use log_node::{Form, MAX_COLOURS, Names, Text};
-use std::alloc::{AllocError, Global};
+use std::alloc::Global;
 use std::sync::Wait;
 
 /// A causal map on a colour, for one client, with which all its calls are made. It has no home: nodes of all regions write it.
-/// What is folded of the nodes that the client has played is kept.
+/// It keeps what it was fed of the nodes that the client has played.
 #[derive(Drop)]
 pub struct CausalMap {
     pub(crate) colour: u8,
-    pub(crate) kept: KeptWrites,
+    pub(crate) map: object_fold::CausalMap,
 }
 
 impl CausalMap {
     /// The map of a colour, of which nothing is folded. Takes no memory.
-    pub fn open(alloc: Global, colour: u8) -> Result<CausalMap, AllocError>
-        ensures memory { OnErr result ⊥ }
-        ensures of { IfOk result (λ map. map.colour ≡ colour) }
+    pub fn open(alloc: Global, colour: u8) -> CausalMap
+        ensures of { result.colour ≡ colour }
         ensures map { (client : Client) → colour < length (tracks_of client) → colour < MAX_COLOURS
-            → IfOk result (IsCausalMapOf client) }
+            → IsCausalMapOf client result }
     {
-        Ok(CausalMap {
+        CausalMap {
             colour,
-            kept: KeptWrites::new(alloc),
-        })
+            map: object_fold::CausalMap::new(alloc),
+        }
     }
 
     /// Puts a value under a key: its node stands in the map's colour. Waits as an append does.
@@ -98,10 +97,8 @@ impl CausalMap {
     {
         match client.sync(rt, alloc, store, self.colour) {
             Ok(synced) => {
-                match self
-                    .kept
-                    .values(alloc, client.played(self.colour), key.as_bytes())
-                {
+                let nodes = client.played(self.colour);
+                match values(alloc, &mut self.map, nodes, key.as_bytes()) {
                     Ok(values) => Ok((values, synced)),
                     Err(_) => Err(ObjectFault::NoMemory),
                 }

@@ -2,6 +2,6 @@
 #![tactic(auto)]
 
 mod causal;
-mod kept_writes;
+mod played;
 
 pub use causal::CausalMap;

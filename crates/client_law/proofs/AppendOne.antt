@@ -18,7 +18,7 @@ use Rattle.lawful_run.proofs.CallerLemmas.{get_within, prefix_length}
 use Rattle.client_law.specs.Knowing.{Seen, Rest, SeesOn}
 use Rattle.client_law.specs.Making.{IsOwnStepAt}
 use Rattle.client_law.specs.Kept.{AreUnder, IsKeptBy}
-use Rattle.client_law.specs.Appends.{WantsAreStarts, StandsAlone, AppendsStand, KeptAfterAppend, NoStampWasLeft}
+use Rattle.client_law.specs.Appends.{WantsAreStarts, SeesOne, AppendsStand, KeptAfterAppend, NoStampWasLeft}
 use Rattle.client_law.proofs.Lists.{at_new, at_new_at, prefix_back}
 use Rattle.client_law.proofs.Keeping.{lawful_at, line_later, under_node, keeps_on, known_on, under_on, made_on}
 use Rattle.client_law.proofs.Events.{own_step, at_column, made_one, seen_here, place_seen}
@@ -58,7 +58,7 @@ stands_behind caller old new kept on k colour position key stands above =
 
 module _ (old new : Seen) (rest : Rest) (caller : Caller) (kept : Kept) (node : Node)
     (colour stamp place position : ℕ) (on : SeesOn caller old new) (k : IsKeptBy old caller kept)
-    (s : StandsAlone old new rest caller kept node colour stamp place position) where
+    (s : SeesOne old new rest caller kept node colour stamp place position) where
   stamped_above : kept.floor < stamp
   stamped_above =
       let m = lawful_at caller.own caller.regions (new caller.own colour) place

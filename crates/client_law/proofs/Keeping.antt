@@ -24,7 +24,7 @@ use Rattle.col_core.proofs.CallerLemmas.{chains_grow, cut-is_greatest, dated-is_
 use Rattle.lawful_run.specs.Callers.{Caller}
 use Rattle.lawful_run.specs.Explains.{next}
 use Rattle.lawful_run.proofs.CallerLemmas.{explained_later, prefix_length}
-use Rattle.client_law.specs.Knowing.{Seen, Rest, log_of, SeesOn, RepliesLast, ExplainedOn, ExplainedAtEnd}
+use Rattle.client_law.specs.Knowing.{Seen, Rest, log_seen, SeesOn, RepliesLast, ExplainedOn, ExplainedAtEnd}
 use Rattle.client_law.specs.Making.{own_steps}
 use Rattle.client_law.specs.Kept.{AreUnder, IsKeptBy, NothingIsKept, KeptStays, StartsWithin, StepsAtEnd}
 use Rattle.client_law.proofs.Lists.{prefix_self, prefix_back, image_at}
@@ -41,14 +41,14 @@ later_row r = record { row = refl; node = refl; marks = later_marks r.marks; las
 
 -- what was seen later, beside the same nodes and rows, is a later log
 pub seen_later : (caller : Caller) (old new : Seen) (rest : Rest) → SeesOn caller old new
-    → IsLater (log_of old rest) (log_of new rest)
+    → IsLater (log_seen old rest) (log_seen new rest)
 seen_later caller old new rest on =
-    later_by_growth caller.regions (log_of old rest) (log_of new rest) on.more
+    later_by_growth caller.regions (log_seen old rest) (log_seen new rest) on.more
     (λ client. prefix_self (rest.nodes client)) (λ region r i. (r, i, later_row r)) on.lawful
 
 pub explained_on : ExplainedOn
 explained_on old new Fitted Fits caller commands replies kept on less before rest fits =
-    explained_later (log_of old rest) (log_of new rest) (seen_later caller old new rest on) caller
+    explained_later (log_seen old rest) (log_seen new rest) (seen_later caller old new rest on) caller
     (before rest (less rest fits))
 
 pub replies_last : RepliesLast

@@ -14,7 +14,7 @@ use Rattle.col_core.specs.Legal.{IsColumnHistory, IsLawfulEvent}
 use Rattle.col_core.specs.Copies.{IsTrueCopy}
 use Rattle.col_core.proofs.CallerLemmas.{by_test, choice, dated-is_dated, if_true, if_false}
 use Rattle.lawful_run.proofs.CallerLemmas.{prefix_length}
-use Rattle.client_law.specs.Origins.{CarriesOfOrigins, GivesAreHeld, OriginsStay, CopiesAreTrue}
+use Rattle.client_law.specs.Origins.{CarriesOfOrigins, GivesAreHeld, OriginsStay, LawfulCopiesAreTrue}
 use Rattle.client_law.proofs.Lists.{drop_longer, map_at}
 use Rattle.client_law.proofs.Keeping.{chain_later}
 
@@ -167,6 +167,6 @@ module _ (regions : ℕ) (histories : ℕ → List Entry)
         ∙ map_at (λ (x : Dated). x.entry) (dated origin (histories origin)) n d e));
   }
 
-pub copies_are_true : CopiesAreTrue
+pub copies_are_true : LawfulCopiesAreTrue
 copies_are_true regions histories lawful carries gives origin copier origin_in copier_in apart =
     true_copy regions histories lawful carries gives origin copier origin_in copier_in apart

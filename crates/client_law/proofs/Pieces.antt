@@ -16,8 +16,8 @@ use Rattle.col_core.specs.PlayOrder.{nodes_between, greatest_between}
 use Rattle.col_core.specs.Keeping.{Kept, kept_after_sync}
 use Rattle.col_core.proofs.CallerLemmas.{head_with, In, in_left, in_right, slice_in}
 use Rattle.lawful_run.specs.Callers.{Caller}
-use Rattle.lawful_run.specs.Reads.{played, played_stamp}
-use Rattle.client_law.specs.Knowing.{Seen, Rest, log_of, SeesOn}
+use Rattle.lawful_run.specs.Reads.{played, greatest_played}
+use Rattle.client_law.specs.Knowing.{Seen, Rest, log_seen, SeesOn}
 use Rattle.client_law.specs.Kept.{AreUnder, IsKeptBy}
 use Rattle.client_law.specs.Moves.{home_dated, LooksThere}
 use Rattle.client_law.specs.Pieces.{KeptAfterPiece, stamp_there, kept_hidden, PlayedUntold, KeptUntold}
@@ -162,4 +162,4 @@ kept_after_a_piece old new rest caller kept sync on none k l events =
     let all = kept_looked old new rest caller kept sync.colour sync.counts on k l
     (kept_untold old new rest caller kept sync.colour sync.counts on none k l) in
     subst (λ (n : ℕ). IsKeptBy new caller (kept_after_sync kept caller.own sync.colour n sync.counts
-    (played_stamp (log_of new rest) caller kept sync.colour n sync.counts))) (sym events) all
+    (greatest_played (log_seen new rest) caller kept sync.colour n sync.counts))) (sym events) all

@@ -11,15 +11,15 @@ use Rattle.col_core.specs.Keeping.{Kept, updated_at, kept_after_event, seen_past
 use Rattle.col_core.proofs.CallerLemmas.{by_test}
 use Rattle.lawful_run.specs.Callers.{Caller}
 use Rattle.lawful_run.specs.Reads.{events_until}
-use Rattle.lawful_run.specs.Moves.{GivesAt, AsksFor, GivesTooLow, CarriesAt, with_places, kept_after_giving}
-use Rattle.client_law.specs.Knowing.{Seen, Rest, log_of, SeesOn}
+use Rattle.lawful_run.specs.Moves.{GivesFrom, AsksFor, GivesTooLow, CarriesNodes, with_places, kept_after_giving}
+use Rattle.lawful_run.proofs.CallerLemmas.{past_within}
+use Rattle.client_law.specs.Knowing.{Seen, Rest, log_seen, SeesOn}
 use Rattle.client_law.specs.Making.{own_steps, IsOwnStepAt, RiseFrom}
 use Rattle.client_law.specs.Kept.{IsKeptBy}
 use Rattle.client_law.specs.Moves.{CarriesThere, PullsThere, PullsStand, KeptAfterPull, KeptAfterGives, TrimsStand}
 use Rattle.client_law.proofs.Lists.{at_new_at}
 use Rattle.client_law.proofs.Keeping.{keeps_on, seen_on, known_on, under_on, made_on}
 use Rattle.client_law.proofs.Events.{own_step, at_column, made_here, made_one, place_seen}
-use Rattle.client_law.proofs.Rows.{past_within}
 
 -- RISING PLACES
 
@@ -91,7 +91,7 @@ column_cases r c region colour =
 
 module _ (old new : Seen) (rest : Rest) (caller : Caller) (region colour : ℕ) where
   give_step : (place from : ℕ) → length (old region colour) ≤ place
-      → GivesAt (log_of new rest) caller region colour place from
+      → GivesFrom (log_seen new rest) caller region colour place from
       → IsOwnStepAt caller.client (old region colour) (new region colour) place
   give_step place from unseen g = (
     unseen,
@@ -101,14 +101,14 @@ module _ (old new : Seen) (rest : Rest) (caller : Caller) (region colour : ℕ) 
   )
 
   gives_stand : (too_low gives : List ℕ) → RiseFrom (length (old region colour)) (too_low ++ gives)
-      → (seen until : ℕ) → All (GivesTooLow (log_of new rest) caller region colour seen until) too_low
-      → All (λ place. (from : ℕ) × GivesAt (log_of new rest) caller region colour place from) gives
+      → (seen until : ℕ) → All (GivesTooLow (log_seen new rest) caller region colour seen until) too_low
+      → All (λ place. (from : ℕ) × GivesFrom (log_seen new rest) caller region colour place from) gives
       → All (IsOwnStepAt caller.client (old region colour) (new region colour)) (too_low ++ gives)
   gives_stand too_low gives rising seen until low all =
-      let each = All-append (λ place. (from : ℕ) × GivesAt (log_of new rest) caller region colour place from) too_low
+      let each = All-append (λ place. (from : ℕ) × GivesFrom (log_seen new rest) caller region colour place from) too_low
       gives
-      (All-weaker (GivesTooLow (log_of new rest) caller region colour seen until)
-      (λ place. (from : ℕ) × GivesAt (log_of new rest) caller region colour place from) (λ place g. (g.0, g.1)) too_low
+      (All-weaker (GivesTooLow (log_seen new rest) caller region colour seen until)
+      (λ place. (from : ℕ) × GivesFrom (log_seen new rest) caller region colour place from) (λ place g. (g.0, g.1)) too_low
       low) all in
       let rise = rise_all (length (old region colour)) (too_low ++ gives) rising in
       λ k d lt. let g = each k d lt in give_step _ g.0 (rise k d lt) g.1
@@ -120,13 +120,13 @@ module _ (old new : Seen) (rest : Rest) (caller : Caller) (kept : Kept) (region 
     (p : PullsThere old new rest caller region colour nodes place carry too_low) where
   -- a look of late is behind all that the client had seen
   asks_since : (give from : ℕ)
-      → AsksFor (log_of new rest) caller region colour (length (old caller.own colour)) (events_until carry) give from
-      → AsksFor (log_of new rest) caller region colour (kept.seen caller.own colour) (events_until carry) give from
+      → AsksFor (log_seen new rest) caller region colour (length (old caller.own colour)) (events_until carry) give from
+      → AsksFor (log_seen new rest) caller region colour (kept.seen caller.own colour) (events_until carry) give from
   asks_since give from a =
       let b = k.seen_within caller.own colour in let c = a.1 in (a.0, omega (arith, b, c), a.2, a.3)
 
   carries_at : (at : At) → CarriesThere old new caller region colour nodes at
-      → CarriesAt (log_of new rest) caller kept region colour nodes at
+      → CarriesNodes (log_seen new rest) caller kept region colour nodes at
   carries_at (Event there) c =
       let a = k.seen_within caller.own colour in let b = c.0 in (omega (arith, a, b), c.1, c.2, c.3, c.4)
   carries_at (Look seen) c =
@@ -136,8 +136,8 @@ pub pulls_stand : PullsStand
 pulls_stand old new rest caller kept region colour nodes place carry too_low on k p = record {
   another = p.another;
   made_again = All-weaker
-      (GivesTooLow (log_of new rest) caller region colour (length (old caller.own colour)) (events_until carry))
-      (GivesTooLow (log_of new rest) caller region colour (kept.seen caller.own colour) (events_until carry))
+      (GivesTooLow (log_seen new rest) caller region colour (length (old caller.own colour)) (events_until carry))
+      (GivesTooLow (log_seen new rest) caller region colour (kept.seen caller.own colour) (events_until carry))
       (λ give g. (
         g.0,
         g.1,
@@ -275,8 +275,8 @@ pub kept_after_pulling : KeptAfterPull
 kept_after_pulling old new rest caller kept region colour nodes place (Event there) too_low on m k p =
     let gives = gives_stand old new rest caller region colour too_low (place ∷ []) p.rising
     (length (old caller.own colour)) there p.made_again
-    (All-cons (λ place. (from : ℕ) × GivesAt (log_of new rest) caller region colour place from) place []
-    (p.from, p.gives) (All-nil (λ place. (from : ℕ) × GivesAt (log_of new rest) caller region colour place from))) in
+    (All-cons (λ place. (from : ℕ) × GivesFrom (log_seen new rest) caller region colour place from) place []
+    (p.from, p.gives) (All-nil (λ place. (from : ℕ) × GivesFrom (log_seen new rest) caller region colour place from))) in
     let c = p.carries in
     carried_kept old new rest caller kept region colour nodes place too_low on k p.another gives p.rising m.given there (
       c.0,
@@ -287,8 +287,8 @@ kept_after_pulling old new rest caller kept region colour nodes place (Event the
 kept_after_pulling old new rest caller kept region colour nodes place (Look seen) too_low on m k p =
     let gives = gives_stand old new rest caller region colour too_low (place ∷ []) p.rising
     (length (old caller.own colour)) seen p.made_again
-    (All-cons (λ place. (from : ℕ) × GivesAt (log_of new rest) caller region colour place from) place []
-    (p.from, p.gives) (All-nil (λ place. (from : ℕ) × GivesAt (log_of new rest) caller region colour place from))) in
+    (All-cons (λ place. (from : ℕ) × GivesFrom (log_seen new rest) caller region colour place from) place []
+    (p.from, p.gives) (All-nil (λ place. (from : ℕ) × GivesFrom (log_seen new rest) caller region colour place from))) in
     looked_kept old new rest caller kept region colour nodes place too_low on k p.another gives p.rising m.given seen
     p.carries.1 m.carried m.others
 

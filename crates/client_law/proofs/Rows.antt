@@ -1,31 +1,29 @@
 -- Appends to several colours: what began, what is settled, what is gone, and where an append stopped.
-use Rattle.std.proofs.Common.{◌≡◌, ℕ, suc, ◌+◌, ◌<◌, ◌≤◌, max, List, [], ◌∷◌, ◌++◌, length, Some, slice_get, refl, ap, sym, subst, ◌∙◌, inl, inr, ◌⊎◌, arith, take_all, eqb-true}
+use Rattle.std.proofs.Common.{◌≡◌, ℕ, ◌+◌, ◌<◌, ◌≤◌, List, ◌++◌, length, Some, slice_get, refl, ap, sym, subst, ◌∙◌, inl, inr, arith, eqb-true}
 use Rattle.std.specs.Prelude.{◌==◌, Option, None, IsTrue}
 use Rattle.std.specs.List.{All}
 use Rattle.std.proofs.lemmas.List.Elements.{All-contains, All-weaker}
 use mathlib.Core.List.{IsPrefix}
 use Rattle.log_node.specs.declared.node.Node.{Node}
 use Rattle.log_node.specs.Sets.{members}
-use Rattle.log_node.specs.declared.marks.Why.{Why}
-use Rattle.log_node.specs.declared.marks.Mark.TheVariants as marks
 use Rattle.log_node.specs.Standings.{Standing, open_entry}
 use Rattle.col_core.specs.declared.Event as events
 use Rattle.col_core.specs.declared.Entry.{Entry}
-use Rattle.col_core.specs.History.{entries, has_entered}
+use Rattle.col_core.specs.History.{entries}
 use Rattle.col_core.specs.Computed.{dated}
 use Rattle.col_core.specs.Legal.{IsColumnHistory}
 use Rattle.col_core.specs.Ids.{IsOver, Proposes, alone, settled, IsStepOf}
-use Rattle.col_core.specs.Log.{is_own, places_of, HasMark}
+use Rattle.col_core.specs.Log.{is_own, places_of}
+use Rattle.col_core.specs.Appending.{IsStepWithin}
 use Rattle.col_core.specs.Keeping.{Kept, updated, seen_past, with_made, with_row}
 use Rattle.col_core.proofs.CallerLemmas.{both, entered_is_over, lawful_beginning, open_is_proposed, proposes_longer, settled_stays, singles_stay}
 use Rattle.lawful_run.specs.Callers.{Caller}
 use Rattle.lawful_run.specs.Appends.{IsSettledIn, IsSettled}
-use Rattle.lawful_run.specs.Stops.{IsStepWithin}
-use Rattle.lawful_run.proofs.CallerLemmas.{get_within}
-use Rattle.client_law.specs.Knowing.{Seen, Rest, log_of, SeesOn}
+use Rattle.lawful_run.proofs.CallerLemmas.{get_within, past_within, settled_by_now}
+use Rattle.client_law.specs.Knowing.{Seen, Rest, log_seen, SeesOn}
 use Rattle.client_law.specs.Making.{MakesAtHome}
 use Rattle.client_law.specs.Kept.{IsKeptBy}
-use Rattle.client_law.specs.Appends.{steps_since, EachStep, StepsOfMade, RowsBegin, KeptAfterRow, IsSettledThere, SettledForGood, ClosedStays, NotOpenBetween, IsSettledEverywhere, GoneAtEnd, GoneForMemory, StopsStand}
+use Rattle.client_law.specs.Appends.{steps_since, EachStep, StepsOfMade, RowsBegin, KeptAfterRow, SeesSettledIn, SettledForGood, ClosedStays, NotOpenBetween, SeesSettled, GoneAtEnd, GoneForMemory, StopsStand}
 use Rattle.client_law.proofs.Lists.{at_new}
 use Rattle.client_law.proofs.Counting.{made_on_top, places_grow, places_stand}
 use Rattle.client_law.proofs.Keeping.{keeps_on, seen_on, known_on, under_on, made_on}
@@ -60,14 +58,6 @@ rows_begin old new rest caller kept node on b = record {
       let s0 = s.0 in let before = b.before colour in
       (omega (arith, s0, before), t.0, t.1, t.2, t.3);
 }
-
--- what is seen of events at places within a history is within it
-pub past_within : (n seen : ℕ) (places : List ℕ) → seen ≤ n → All (λ place. place < n) places → seen_past seen places ≤ n
-past_within n seen [] le all = le
-past_within n seen (place ∷ places) le all =
-    let lt = all 0 place (omega arith) in
-    past_within n (max seen (place + 1)) places (omega (arith, le, lt))
-    (λ k d within. all (suc k) d (omega (arith, within)))
 
 module _ (caller : Caller) (old new : Seen) (kept : Kept) (on : SeesOn caller old new) where
   -- what is seen after the steps of late, where no more was seen before
@@ -108,20 +98,7 @@ kept_after_row old new caller kept on home k =
 -- SETTLED, GONE, STOPPED
 
 pub settled_for_good : SettledForGood
-settled_for_good new rest caller node colour s =
-    let whole = take_all (length (new caller.own colour)) (new caller.own colour) (omega arith) in
-    record {
-      events = length (new caller.own colour);
-      there = omega arith;
-      not_open = subst (λ (h : List Entry). open_entry node.id (entries h) ≡ None) (sym whole) s.closed;
-      for_good = subst (λ (h : List Entry). ((why : Why) × HasMark (log_of new rest) node colour (marks.Fenced why))
-          ⊎ IsTrue (has_entered node.id h)) (sym whole) (turn s.done);
-    } where
-      turn : ((why : Why) × (s.mark ≡ marks.Fenced why)) ⊎ IsTrue (has_entered node.id (new caller.own colour))
-          → ((why : Why) × HasMark (log_of new rest) node colour (marks.Fenced why))
-          ⊎ IsTrue (has_entered node.id (new caller.own colour))
-      turn (inl f) = inl (f.0, subst (HasMark (log_of new rest) node colour) f.1 s.known)
-      turn (inr e) = inr e
+settled_for_good new rest caller node colour s = settled_by_now (log_seen new rest) caller node colour s
 
 -- a beginning of a lawful history is lawful
 lawful_before : (own regions : ℕ) (history longer : List Entry) → IsColumnHistory own regions (dated own longer)
@@ -152,18 +129,16 @@ not_open_between own regions old between new id lawful p q (inr none) = turn (op
       absurd (none x.key.stamp (subst (λ (h : List Entry). Proposes h id x.key.stamp) q.1
       (proposes_longer between q.0 id x.key.stamp proposed)))
 
-settled_all : (new : Seen) (rest : Rest) (caller : Caller) (node : Node) → IsSettledEverywhere new rest caller node
-    → IsSettled (log_of new rest) caller node
+settled_all : (new : Seen) (rest : Rest) (caller : Caller) (node : Node) → SeesSettled new rest caller node
+    → IsSettled (log_seen new rest) caller node
 settled_all new rest caller node s =
-    All-weaker (IsSettledThere new rest caller node) (IsSettledIn (log_of new rest) caller node)
+    All-weaker (SeesSettledIn new rest caller node) (IsSettledIn (log_seen new rest) caller node)
     (settled_for_good new rest caller node) (members node.colours) s
 
 pub gone_at_end : GoneAtEnd
 gone_at_end old new rest caller kept node colour on b ends over = record {
   begins = rows_begin old new rest caller kept node on b;
-  outcome = ends.outcome;
-  fence = ends.fence;
-  least = ends.least;
+  ends = ends;
   settled = settled_all new rest caller node over;
 }
 

@@ -1,5 +1,5 @@
 -- An append to several colours that stands in all of them.
-use Rattle.std.proofs.Common.{◌≡◌, ℕ, ◌+◌, ◌<◌, ◌≤◌, max, List, [], ◌∷◌, ◌++◌, length, Some, slice_get, refl, ap, sym, subst, ◌∙◌, arith}
+use Rattle.std.proofs.Common.{◌≡◌, ℕ, ◌+◌, ◌<◌, ◌≤◌, max, List, [], ◌∷◌, ◌++◌, length, ap, sym, subst, ◌∙◌, arith}
 use Rattle.std.specs.List.{All}
 use Rattle.std.proofs.lemmas.List.{length-map}
 use Rattle.std.proofs.lemmas.List.Elements.{All-weaker, All-head, All-tail}
@@ -8,34 +8,28 @@ use Rattle.log_node.specs.declared.node.At.TheVariants.{Event, Look}
 use Rattle.log_node.specs.declared.node.Node.{Node}
 use Rattle.col_core.specs.History.{line, entry_key}
 use Rattle.col_core.specs.Rows.{node_wants}
+use Rattle.col_core.specs.Appending.{EntersBehind, StandsUnder}
 use Rattle.col_core.specs.Keeping.{Kept, updated, seen_after, kept_after_point, with_made, with_floor, with_row}
 use Rattle.report_text.specs.declared.report.PointPiece.{PointPiece}
 use Rattle.lawful_run.specs.Callers.{Caller}
-use Rattle.lawful_run.specs.Appends.{EntersAt, StandsAt, kept_after_points}
-use Rattle.lawful_run.proofs.CallerLemmas.{get_within}
-use Rattle.client_law.specs.Knowing.{Seen, Rest, log_of, SeesOn}
+use Rattle.lawful_run.specs.Appends.{StandsAt, kept_after_points}
+use Rattle.lawful_run.proofs.CallerLemmas.{enters_lower, enters_within, get_within, points_leave}
+use Rattle.client_law.specs.Knowing.{Seen, Rest, log_seen, SeesOn}
 use Rattle.client_law.specs.Kept.{AreUnder, IsKeptBy}
-use Rattle.client_law.specs.Appends.{steps_since, EntersThere, StandsThere, SeveralStand, KeptAfterSeveral}
+use Rattle.client_law.specs.Appends.{steps_since, SeesPoint, SeveralStand, KeptAfterSeveral}
 use Rattle.client_law.proofs.Lists.{at_new, at_new_at}
 use Rattle.client_law.proofs.Keeping.{keeps_on, under_node, seen_on, known_on, under_on}
-use Rattle.client_law.proofs.Events.{at_column, place_seen}
+use Rattle.client_law.proofs.Events.{at_column}
 use Rattle.client_law.proofs.AppendOne.{stands_behind}
 use Rattle.client_law.proofs.Above.{final_is_above}
 use Rattle.client_law.proofs.Rows.{rows_begin, steps_seen, steps_made}
 
 module _ (old new : Seen) (rest : Rest) (caller : Caller) (kept : Kept) (node : Node) (stamp : ℕ)
     (on : SeesOn caller old new) (k : IsKeptBy old caller kept) (floor_is : node.floor ≡ kept.floor) where
-  enters_at : (colour : ℕ) (at : At) → EntersThere old new caller node colour at
-      → EntersAt (log_of new rest) caller kept node colour at
-  enters_at colour (Event place) e =
-      let a = k.seen_within caller.own colour in let b = e.0 in (omega (arith, a, b), e.1, e.2, e.3, e.4)
-  enters_at colour (Look seen) e =
-      let a = k.seen_within caller.own colour in let b = e.0 in
-      (omega (arith, a, b), e.1, e.2, e.3, e.4, e.5, e.6, e.7)
-
   -- the stamp is above the floor, by any point
-  above_floor : (colour position : ℕ) (at : At) → EntersThere old new caller node colour at
-      → slice_get (line (new caller.own colour)) position ≡ Some (entry_key stamp node.id) → kept.floor < stamp
+  above_floor : (colour position : ℕ) (at : At)
+      → EntersBehind (length (old caller.own colour)) (new caller.own colour) caller.client node colour at
+      → StandsUnder (new caller.own colour) node stamp position → kept.floor < stamp
   above_floor colour position (Event place) e stands =
       let lt = final_is_above caller.own caller.regions (new caller.own colour) node (node_wants node colour) e.1 place
       position stamp (on.lawful caller.own colour) e.2 e.4 stands in
@@ -45,20 +39,21 @@ module _ (old new : Seen) (rest : Rest) (caller : Caller) (kept : Kept) (node : 
       position stamp (on.lawful caller.own colour) e.5 e.7 stands in
       omega (arith, lt, floor_is)
 
-  stands_at : (point : PointPiece) → StandsThere old new caller node stamp point
-      → StandsAt (log_of new rest) caller kept node stamp point
+  stands_at : (point : PointPiece) → SeesPoint old new caller node stamp point
+      → StandsAt (log_seen new rest) caller kept node stamp point
   stands_at point s = record {
-    entered = enters_at point.colour point.at s.entered;
+    entered = enters_lower (length (old caller.own point.colour)) (new caller.own point.colour) caller.client node
+        point.colour (kept.seen caller.own point.colour) (k.seen_within caller.own point.colour) point.at s.entered;
     stands = s.stands;
     behind = stands_behind caller old new kept on k point.colour point.position (entry_key stamp node.id) s.stands
         (above_floor point.colour point.position point.at s.entered s.stands);
   }
 
-  above_in : (points : List PointPiece) → All (StandsThere old new caller node stamp) points → 0 < length points
+  above_in : (points : List PointPiece) → All (SeesPoint old new caller node stamp) points → 0 < length points
       → kept.floor < stamp
   above_in [] all lt = absurd (let f : ⊥ = omega (arith, lt) in f)
   above_in (p ∷ ps) all lt =
-      let s = All-head (StandsThere old new caller node stamp) p ps all in
+      let s = All-head (SeesPoint old new caller node stamp) p ps all in
       above_floor p.colour p.position p.at s.entered s.stands
 
 pub several_stand : SeveralStand
@@ -70,7 +65,7 @@ several_stand old new rest caller kept node stamp points on k s =
       begins = rows_begin old new rest caller kept node on s.begun;
       outcome = s.outcome;
       colours = s.colours;
-      each = All-weaker (StandsThere old new caller node stamp) (StandsAt (log_of new rest) caller kept node stamp)
+      each = All-weaker (SeesPoint old new caller node stamp) (StandsAt (log_seen new rest) caller kept node stamp)
           (stands_at old new rest caller kept node stamp on k s.floor) points s.each;
       above = above_in old new rest caller kept node stamp on k s.floor points s.each (omega (arith, many, as_many, two));
     }
@@ -83,25 +78,15 @@ record Within (new : Seen) (caller : Caller) (stamp : ℕ) (kept : Kept) : Type 
   known_in : (c : ℕ) → kept.known c ≤ length (line (new caller.own c))
   known_low : (c : ℕ) → AreUnder (new caller.own c) (kept.known c) stamp
 
--- what points leave as it was
-record Leaves (kept after : Kept) : Type 0 where
-  floor : after.floor ≡ kept.floor
-  starts : after.starts ≡ kept.starts
-  made : after.made ≡ kept.made
-
-seen_there : (old new : Seen) (caller : Caller) (node : Node) (colour : ℕ) (at : At)
-    → EntersThere old new caller node colour at → seen_after at ≤ length (new caller.own colour)
-seen_there old new caller node colour (Event place) e = place_seen (new caller.own colour) place e.1 e.2
-seen_there old new caller node colour (Look seen) e = e.1
-
 module _ (old new : Seen) (caller : Caller) (node : Node) (stamp greater : ℕ) (on : SeesOn caller old new)
     (le : stamp ≤ greater) where
-  after_point : (kept : Kept) (p : PointPiece) → StandsThere old new caller node stamp p → Within new caller greater kept
+  after_point : (kept : Kept) (p : PointPiece) → SeesPoint old new caller node stamp p → Within new caller greater kept
       → Within new caller greater (kept_after_point kept caller.own p.colour p.at p.position)
   after_point kept p s w = record {
     seen_in = λ r c. at_new_at (λ (n : ℕ). n ≤ length (new r c)) kept.seen caller.own p.colour (seen_after p.at) r c
         (λ er ec. at_column (λ a b. seen_after p.at ≤ length (new a b)) r c caller.own p.colour er ec
-        (seen_there old new caller node p.colour p.at s.entered)) (λ _. w.seen_in r c);
+        (enters_within (length (old caller.own p.colour)) (new caller.own p.colour) caller.client node p.colour p.at
+        s.entered)) (λ _. w.seen_in r c);
     known_in = λ c. at_new (λ (n : ℕ). n ≤ length (line (new caller.own c))) kept.known p.colour (p.position + 1) c
         (λ e. subst (λ (d : ℕ). p.position + 1 ≤ length (line (new caller.own d))) (sym e)
         (let a = get_within (line (new caller.own p.colour)) p.position (entry_key stamp node.id) s.stands in
@@ -112,26 +97,20 @@ module _ (old new : Seen) (caller : Caller) (node : Node) (stamp greater : ℕ) 
         (entry_key stamp node.id) greater s.stands le)) (λ _. w.known_low c);
   }
 
-  after_points : (kept : Kept) (points : List PointPiece) → All (StandsThere old new caller node stamp) points
+  after_points : (kept : Kept) (points : List PointPiece) → All (SeesPoint old new caller node stamp) points
       → Within new caller greater kept
       → Within new caller greater (kept_after_points kept caller.own points)
   after_points kept [] all w = w
   after_points kept (p ∷ ps) all w =
       after_points (kept_after_point kept caller.own p.colour p.at p.position) ps
-      (All-tail (StandsThere old new caller node stamp) p ps all)
-      (after_point kept p (All-head (StandsThere old new caller node stamp) p ps all) w)
-
-left : (own : ℕ) (kept : Kept) (points : List PointPiece) → Leaves kept (kept_after_points kept own points)
-left own kept [] = record { floor = refl; starts = refl; made = refl }
-left own kept (p ∷ ps) =
-    let l = left own (kept_after_point kept own p.colour p.at p.position) ps in
-    record { floor = l.floor; starts = l.starts; made = l.made }
+      (All-tail (SeesPoint old new caller node stamp) p ps all)
+      (after_point kept p (All-head (SeesPoint old new caller node stamp) p ps all) w)
 
 pub kept_after_several : KeptAfterSeveral
 kept_after_several old new rest caller kept node stamp points on home k s =
     let own = caller.own in
     let there = kept_after_points kept own points in
-    let l = left own kept points in
+    let l = points_leave own kept points in
     let greater = max kept.floor stamp in
     let floor_is : max there.floor stamp ≡ greater = ap (λ (n : ℕ). max n stamp) l.floor in
     let w = after_points old new caller node stamp greater on (omega arith) kept points s.each (record {

@@ -20,9 +20,9 @@ use Rattle.col_core.proofs.CallerLemmas.{clocks_rise, head_with, lawful_beginnin
 use Rattle.report_text.specs.declared.report.RaisePiece.{RaisePiece}
 use Rattle.report_text.specs.declared.report.SyncPiece.{SyncPiece}
 use Rattle.lawful_run.specs.Callers.{Caller}
-use Rattle.lawful_run.specs.Reads.{Syncs, kept_after_piece, RaisesAt, kept_after_place, Raises, ClearSyncs, IsReadStamp}
+use Rattle.lawful_run.specs.Reads.{Syncs, kept_after_piece, RaisesClock, kept_after_place, Raises, ClearSyncs, IsReadStamp}
 use Rattle.lawful_run.proofs.CallerLemmas.{get_within, prefix_get, prefix_length, prefix_take}
-use Rattle.client_law.specs.Knowing.{Seen, Rest, log_of, SeesOn}
+use Rattle.client_law.specs.Knowing.{Seen, Rest, log_seen, SeesOn}
 use Rattle.client_law.specs.Kept.{IsKeptBy}
 use Rattle.client_law.specs.StampedReads.{RaiseStands, RaisesOn, ClearSyncsOn, IsStampThere, ReadsStand, KeptWithFloor}
 use Rattle.client_law.proofs.Keeping.{chain_later, own_chain}
@@ -91,8 +91,8 @@ module _ (old new : Seen) (rest : Rest) (caller : Caller) (on : SeesOn caller ol
       let a = prefix_length (old caller.own colour) (new caller.own colour) (on.more caller.own colour) in
       omega (arith, a, le)
 
-  raise_later : (kept : Kept) (stamp colour : ℕ) (at : At) → RaisesAt (log_of old rest) caller kept stamp colour at
-      → RaisesAt (log_of new rest) caller kept stamp colour at
+  raise_later : (kept : Kept) (stamp colour : ℕ) (at : At) → RaisesClock (log_seen old rest) caller kept stamp colour at
+      → RaisesClock (log_seen new rest) caller kept stamp colour at
   raise_later kept stamp colour (Event place) r =
       let l = get_within (old caller.own colour) place _ r.2 in (
         r.0,
@@ -108,7 +108,7 @@ module _ (old new : Seen) (rest : Rest) (caller : Caller) (on : SeesOn caller ol
   )
 
   raises_later : (stamp : ℕ) (kept : Kept) (raises : List RaisePiece) (after : Kept)
-      → Raises (log_of old rest) caller stamp kept raises after → Raises (log_of new rest) caller stamp kept raises after
+      → Raises (log_seen old rest) caller stamp kept raises after → Raises (log_seen new rest) caller stamp kept raises after
   raises_later stamp kept [] after r = r
   raises_later stamp kept (raise ∷ raises) after r = (
     raise_later kept stamp raise.colour raise.at r.0,
@@ -116,8 +116,8 @@ module _ (old new : Seen) (rest : Rest) (caller : Caller) (on : SeesOn caller ol
   )
 
   sync_later : (kept : Kept) (colour events : ℕ) (snapshot : Counts)
-      → Syncs (log_of old rest) caller kept colour events snapshot
-      → Syncs (log_of new rest) caller kept colour events snapshot
+      → Syncs (log_seen old rest) caller kept colour events snapshot
+      → Syncs (log_seen new rest) caller kept colour events snapshot
   sync_later kept colour events snapshot s = let same = sym (taken colour events s.there) in record {
     unseen = s.unseen;
     there = still colour events s.there;
@@ -128,31 +128,31 @@ module _ (old new : Seen) (rest : Rest) (caller : Caller) (on : SeesOn caller ol
   }
 
   piece_same : (kept : Kept) (sync : SyncPiece) → sync.events ≤ length (old caller.own sync.colour)
-      → kept_after_piece (log_of new rest) caller kept sync ≡ kept_after_piece (log_of old rest) caller kept sync
+      → kept_after_piece (log_seen new rest) caller kept sync ≡ kept_after_piece (log_seen old rest) caller kept sync
   piece_same kept sync there =
       ap (kept_after_sync kept caller.own sync.colour sync.events sync.counts)
       (ap (λ (h : List Entry). greatest_between (chain caller.own (dated caller.own h)) (kept.starts sync.colour)
       sync.counts) (taken sync.colour sync.events there))
 
   clear_later : (stamp : ℕ) (kept : Kept) (syncs : List SyncPiece) (after : Kept)
-      → ClearSyncs (log_of old rest) caller stamp kept syncs after
-      → ClearSyncs (log_of new rest) caller stamp kept syncs after
+      → ClearSyncs (log_seen old rest) caller stamp kept syncs after
+      → ClearSyncs (log_seen new rest) caller stamp kept syncs after
   clear_later stamp kept [] after c = c
   clear_later stamp kept (sync ∷ syncs) after c = (
     sync_later kept sync.colour sync.events sync.counts c.0,
     subst (IsClearUpTo stamp) (sym (taken sync.colour sync.events c.0.there)) c.1,
-    subst (λ (k : Kept). ClearSyncs (log_of new rest) caller stamp k syncs after)
+    subst (λ (k : Kept). ClearSyncs (log_seen new rest) caller stamp k syncs after)
         (sym (piece_same kept sync c.0.there))
-        (clear_later stamp (kept_after_piece (log_of old rest) caller kept sync) syncs after c.2),
+        (clear_later stamp (kept_after_piece (log_seen old rest) caller kept sync) syncs after c.2),
   )
 
 raise_last : (seen : Seen) (rest : Rest) (caller : Caller) (stamp : ℕ) (kept middle : Kept) (raises : List RaisePiece)
-    (raise : RaisePiece) → Raises (log_of seen rest) caller stamp kept raises middle
-    → RaisesAt (log_of seen rest) caller middle stamp raise.colour raise.at
-    → Raises (log_of seen rest) caller stamp kept (raises ++ raise ∷ [])
+    (raise : RaisePiece) → Raises (log_seen seen rest) caller stamp kept raises middle
+    → RaisesClock (log_seen seen rest) caller middle stamp raise.colour raise.at
+    → Raises (log_seen seen rest) caller stamp kept (raises ++ raise ∷ [])
     (kept_after_place middle caller.own raise.colour raise.at)
 raise_last seen rest caller stamp kept middle [] raise e r =
-    subst (λ (k : Kept). RaisesAt (log_of seen rest) caller k stamp raise.colour raise.at
+    subst (λ (k : Kept). RaisesClock (log_seen seen rest) caller k stamp raise.colour raise.at
     × (kept_after_place middle caller.own raise.colour raise.at
     ≡ kept_after_place k caller.own raise.colour raise.at)) e (r, refl)
 raise_last seen rest caller stamp kept middle (one ∷ raises) raise e r = (
@@ -166,20 +166,20 @@ raises_on old new rest caller stamp kept middle raises raise on before last =
     (raises_later old new rest caller on stamp kept raises middle before) last
 
 sync_last : (seen : Seen) (rest : Rest) (caller : Caller) (stamp : ℕ) (kept middle : Kept) (syncs : List SyncPiece)
-    (sync : SyncPiece) → ClearSyncs (log_of seen rest) caller stamp kept syncs middle
-    → Syncs (log_of seen rest) caller middle sync.colour sync.events sync.counts
+    (sync : SyncPiece) → ClearSyncs (log_seen seen rest) caller stamp kept syncs middle
+    → Syncs (log_seen seen rest) caller middle sync.colour sync.events sync.counts
     → IsClearUpTo stamp (take sync.events (seen caller.own sync.colour))
-    → ClearSyncs (log_of seen rest) caller stamp kept (syncs ++ sync ∷ [])
-    (kept_after_piece (log_of seen rest) caller middle sync)
+    → ClearSyncs (log_seen seen rest) caller stamp kept (syncs ++ sync ∷ [])
+    (kept_after_piece (log_seen seen rest) caller middle sync)
 sync_last seen rest caller stamp kept middle [] sync e s clear =
-    subst (λ (k : Kept). Syncs (log_of seen rest) caller k sync.colour sync.events sync.counts
+    subst (λ (k : Kept). Syncs (log_seen seen rest) caller k sync.colour sync.events sync.counts
     × IsClearUpTo stamp (take sync.events (seen caller.own sync.colour))
-    × (kept_after_piece (log_of seen rest) caller middle sync ≡ kept_after_piece (log_of seen rest) caller k sync)) e
+    × (kept_after_piece (log_seen seen rest) caller middle sync ≡ kept_after_piece (log_seen seen rest) caller k sync)) e
     (s, clear, refl)
 sync_last seen rest caller stamp kept middle (one ∷ syncs) sync e s clear = (
   e.0,
   e.1,
-  sync_last seen rest caller stamp (kept_after_piece (log_of seen rest) caller kept one) middle syncs sync e.2 s
+  sync_last seen rest caller stamp (kept_after_piece (log_seen seen rest) caller kept one) middle syncs sync e.2 s
       clear,
 )
 
@@ -241,7 +241,7 @@ reads_stand old middle new rest caller kept raised synced colours stamp raises s
             (clock_then caller.own caller.regions h n stamp lawful le),
       )
 
-  chosen : IsStampThere old new caller kept raises stamp → IsReadStamp (log_of new rest) caller kept raises stamp
+  chosen : IsStampThere old new caller kept raises stamp → IsReadStamp (log_seen new rest) caller kept raises stamp
   chosen (inl e) = inl e
   chosen (inr (raise, among, events, since, until, is)) =
       let b = k.seen_within caller.own raise.colour in

@@ -19,7 +19,7 @@ use Rattle.col_core.specs.Keeping.{Kept}
 use Rattle.col_core.proofs.CallerLemmas.{by_test, cut-is_greatest, head_with, if_true, is_in_between, own_line_within, same_place-is}
 use Rattle.lawful_run.specs.Callers.{Caller}
 use Rattle.lawful_run.specs.Reads.{ShowsNode, greatest_stamp}
-use Rattle.client_law.specs.Knowing.{Seen, Rest, log_of, SeesOn}
+use Rattle.client_law.specs.Knowing.{Seen, Rest, log_seen, SeesOn}
 use Rattle.client_law.specs.Kept.{AreUnder, IsKeptBy}
 use Rattle.client_law.specs.Moves.{home_dated, LooksThere, SyncsStand, ShowsThere, PlaysThere, PlaysStand, KeptAfterSync, KeptAfterKeys, PlaysKeys, TrimmedThere}
 use Rattle.client_law.proofs.Lists.{at_new, map_at}
@@ -67,10 +67,10 @@ plays_stand new rest caller kept colour snapshot nodes p = record {
   played = subst (λ (h : List Entry). IsPlayOrder (chain caller.own (dated caller.own h)) (kept.starts colour) snapshot
       p.order) (sym (whole new caller colour)) p.played;
   lines = all_zip_of (ShowsThere new rest caller colour)
-      (ShowsNode (log_of new rest) caller colour (length (new caller.own colour))) shows p.order nodes p.lines;
+      (ShowsNode (log_seen new rest) caller colour (length (new caller.own colour))) shows p.order nodes p.lines;
 } where
   shows : (place : Place) (item : PlacedNode) → ShowsThere new rest caller colour place item
-      → ShowsNode (log_of new rest) caller colour (length (new caller.own colour)) place item
+      → ShowsNode (log_seen new rest) caller colour (length (new caller.own colour)) place item
   shows place item s = record {
     head = s.head;
     stands = subst (λ (h : List Entry). Stands (chain caller.own (dated caller.own h)) place s.head)

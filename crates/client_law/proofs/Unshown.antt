@@ -1,21 +1,19 @@
 -- Appends that stand and whose answer does not show where.
 use Rattle.std.proofs.Common.{◌≡◌, ◌≢◌, ℕ, ◌+◌, ◌≤◌, max, List, [], ◌∷◌, ◌++◌, length, false, cond, refl, sym, subst, ◌∙◌, inl, inr, arith, append-nil, eqb-true, eq-eqb}
 use Rattle.std.specs.Prelude.{◌==◌}
-use Rattle.std.specs.List.{All}
-use Rattle.std.proofs.lemmas.List.Elements.{All-map, All-weaker}
 use Rattle.col_core.specs.Log.{places_of}
 use Rattle.col_core.specs.Keeping.{seen_past, with_floor, with_row}
 use Rattle.col_core.proofs.CallerLemmas.{choice}
-use Rattle.report_text.specs.declared.report.PointPiece.{PointPiece}
-use Rattle.lawful_run.specs.Appends.{StandsUnder, one_unshown, several_unshown}
-use Rattle.client_law.specs.Knowing.{log_of}
-use Rattle.client_law.specs.Appends.{steps_since, StandsThere}
+use Rattle.lawful_run.specs.Appends.{one_unshown}
+use Rattle.lawful_run.proofs.CallerLemmas.{unshown_too}
+use Rattle.client_law.specs.Knowing.{log_seen}
+use Rattle.client_law.specs.Appends.{steps_since}
 use Rattle.client_law.specs.Unshown.{kept_unshown_alone, kept_unshown_several, UnshownAlone, KeptUnshownAlone, UnshownInAll, KeptUnshownInAll}
 use Rattle.client_law.proofs.Lists.{at_new}
 use Rattle.client_law.proofs.Keeping.{keeps_on, seen_on, known_on, under_on, made_on}
 use Rattle.client_law.proofs.Events.{made_one, place_seen}
 use Rattle.client_law.proofs.AppendOne.{appends_stand, own_single}
-use Rattle.client_law.proofs.Rows.{rows_begin, steps_seen, steps_made}
+use Rattle.client_law.proofs.Rows.{steps_seen, steps_made}
 use Rattle.client_law.proofs.Several.{several_stand}
 
 pub unshown_alone : UnshownAlone
@@ -53,15 +51,8 @@ kept_unshown_one old new rest caller kept node colour stamp place position on k 
 
 pub unshown_in_all : UnshownInAll
 unshown_in_all old new rest caller kept node stamp points on k s =
-    let a = several_stand old new rest caller kept node stamp points on k s in
-    several_unshown (steps_since caller old new) (rows_begin old new rest caller kept node on s.begun) s.outcome
-    (subst (All (λ colour. (position : ℕ) × StandsUnder (log_of new rest) caller node stamp colour position)) s.colours
-    (All-map (λ colour. (position : ℕ) × StandsUnder (log_of new rest) caller node stamp colour position)
-    (λ (p : PointPiece). p.colour) points
-    (All-weaker (StandsThere old new caller node stamp)
-    (λ (p : PointPiece). (position : ℕ) × StandsUnder (log_of new rest) caller node stamp p.colour position)
-    (λ p t. (p.position, t.stands)) points s.each)))
-    a.above
+    unshown_too (log_seen new rest) caller node kept stamp points (steps_since caller old new)
+    (several_stand old new rest caller kept node stamp points on k s)
 
 pub kept_unshown_all : KeptUnshownInAll
 kept_unshown_all old new caller kept stamp on home k =

@@ -23,12 +23,12 @@ pub record Rest : Type 0 where
   pub rows : ℕ → List BegunRow
 
 -- the log that has what was seen, these nodes and these rows
-abbrev pub log_of : Seen → Rest → Log
-log_of seen rest = record { histories = seen; nodes = rest.nodes; rows = rest.rows }
+abbrev pub log_seen : Seen → Rest → Log
+log_seen seen rest = record { histories = seen; nodes = rest.nodes; rows = rest.rows }
 
 -- more was seen
-abbrev pub SeesMore : Seen → Seen → Type 0
-SeesMore old new = (region colour : ℕ) → IsPrefix (old region colour) (new region colour)
+abbrev pub MoreIsSeen : Seen → Seen → Type 0
+MoreIsSeen old new = (region colour : ℕ) → IsPrefix (old region colour) (new region colour)
 
 -- what was seen is lawful
 abbrev pub AreLawful : ℕ → Seen → Type 0
@@ -36,14 +36,14 @@ AreLawful regions seen = (region colour : ℕ) → IsColumnHistory region region
 
 -- what a client of one of four regions had seen, and has seen later, which is lawful
 pub record SeesOn (caller : Caller) (old new : Seen) : Type 0 where
-  pub more : SeesMore old new
+  pub more : MoreIsSeen old new
   pub lawful : AreLawful caller.regions new
   pub home : caller.own < 4
 
 -- With any nodes and rows that fit what the client knows, what it has seen explains its replies.
 abbrev pub IsExplainedBy : Seen → (Rest → Type 0) → Caller → List Command → List ReplyLine → Kept → Type 0
 IsExplainedBy seen Fits caller commands replies kept =
-    (rest : Rest) → Fits rest → Explained (log_of seen rest) caller commands replies kept
+    (rest : Rest) → Fits rest → Explained (log_seen seen rest) caller commands replies kept
 
 -- One command more: what was seen before explains the earlier replies, what is seen now explains this one, and less fits
 -- what is known now.
@@ -53,7 +53,7 @@ RepliesLast =
     (replies : List ReplyLine) (kept after : Kept) (command : Command) (reply : ReplyLine)
     → SeesOn caller old new → ((rest : Rest) → Fits rest → Fitted rest)
     → IsExplainedBy old Fitted caller commands replies kept
-    → ((rest : Rest) → Fits rest → Answers (log_of new rest) caller kept command reply after)
+    → ((rest : Rest) → Fits rest → Answers (log_seen new rest) caller kept command reply after)
     → IsExplainedBy new Fits caller (commands ++ command ∷ []) (replies ++ reply ∷ []) after
 
 -- What is seen and known later goes on explaining the replies.

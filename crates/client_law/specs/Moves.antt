@@ -16,8 +16,8 @@ use Rattle.col_core.specs.Log.{HasText}
 use Rattle.col_core.specs.Keeping.{Kept, kept_after_sync, seen_after}
 use Rattle.lawful_run.specs.Callers.{Caller}
 use Rattle.lawful_run.specs.Reads.{Syncs, ShowsPlayed, IsTrimmed, greatest_stamp, events_until}
-use Rattle.lawful_run.specs.Moves.{GivesAt, AsksFor, GivesTooLow, Pulls, OnlyGives, kept_after_pull, kept_after_giving, TrimsBy}
-use Rattle.client_law.specs.Knowing.{Seen, Rest, log_of, SeesOn}
+use Rattle.lawful_run.specs.Moves.{GivesFrom, AsksFor, GivesTooLow, Pulls, OnlyGives, kept_after_pull, kept_after_giving, TrimsBy}
+use Rattle.client_law.specs.Knowing.{Seen, Rest, log_seen, SeesOn}
 use Rattle.client_law.specs.Making.{own_steps, RiseFrom, MakesNone, MakesOnly}
 use Rattle.client_law.specs.Kept.{IsKeptBy}
 
@@ -36,7 +36,7 @@ pub record LooksThere (new : Seen) (caller : Caller) (kept : Kept) (colour : ℕ
 abbrev pub SyncsStand : Type 0
 SyncsStand = (old new : Seen) (rest : Rest) (caller : Caller) (kept : Kept) (colour : ℕ) (snapshot : Counts)
     → SeesOn caller old new → IsKeptBy old caller kept → LooksThere new caller kept colour snapshot
-    → Syncs (log_of new rest) caller kept colour (length (new caller.own colour)) snapshot
+    → Syncs (log_seen new rest) caller kept colour (length (new caller.own colour)) snapshot
 
 -- a node line shows the node at the place of what is seen, with its text
 pub record ShowsThere (new : Seen) (rest : Rest) (caller : Caller) (colour : ℕ) (place : Place)
@@ -44,7 +44,7 @@ pub record ShowsThere (new : Seen) (rest : Rest) (caller : Caller) (colour : ℕ
   pub head : Head
   pub stands : Stands (chain caller.own (home_dated new caller colour)) place head
   pub key : item.head.key ≡ head.key
-  pub text : HasText (log_of new rest) head.key.id item.node.text
+  pub text : HasText (log_seen new rest) head.key.id item.node.text
 
 -- the node lines show the nodes from the last snapshot to this one, in the order of play
 pub record PlaysThere (new : Seen) (rest : Rest) (caller : Caller) (kept : Kept) (colour : ℕ) (snapshot : Counts)
@@ -65,7 +65,7 @@ pub record PlaysKeys (new : Seen) (caller : Caller) (kept : Kept) (colour : ℕ)
 abbrev pub PlaysStand : Type 0
 PlaysStand = (new : Seen) (rest : Rest) (caller : Caller) (kept : Kept) (colour : ℕ) (snapshot : Counts)
     (nodes : List PlacedNode) → PlaysThere new rest caller kept colour snapshot nodes
-    → ShowsPlayed (log_of new rest) caller kept colour (length (new caller.own colour)) snapshot nodes
+    → ShowsPlayed (log_seen new rest) caller kept colour (length (new caller.own colour)) snapshot nodes
 
 -- what is kept after a sync that played these nodes
 abbrev pub kept_after_played : Seen → Caller → Kept → ℕ → Counts → List PlacedNode → Kept
@@ -91,7 +91,7 @@ abbrev pub TrimmedThere : Type 0
 TrimmedThere = (old new : Seen) (rest : Rest) (caller : Caller) (kept : Kept) (colour : ℕ) (shown : Counts)
     → SeesOn caller old new → IsKeptBy old caller kept
     → shown ≡ base caller.own caller.regions (home_dated new caller colour)
-    → IsFalse (is_within shown (kept.starts colour)) → IsTrimmed (log_of new rest) caller kept colour shown
+    → IsFalse (is_within shown (kept.starts colour)) → IsTrimmed (log_seen new rest) caller kept colour shown
 
 -- PULLS
 
@@ -112,11 +112,11 @@ pub record PullsThere (old new : Seen) (rest : Rest) (caller : Caller) (region c
     (too_low : List ℕ) : Type 0 where
   pub another : region ≢ caller.own
   pub rising : RiseFrom (length (old region colour)) (too_low ++ place ∷ [])
-  pub made_again : All (GivesTooLow (log_of new rest) caller region colour (length (old caller.own colour))
+  pub made_again : All (GivesTooLow (log_seen new rest) caller region colour (length (old caller.own colour))
       (events_until carry)) too_low
   pub from : ℕ
-  pub gives : GivesAt (log_of new rest) caller region colour place from
-  pub asks : AsksFor (log_of new rest) caller region colour (length (old caller.own colour)) (events_until carry) place
+  pub gives : GivesFrom (log_seen new rest) caller region colour place from
+  pub asks : AsksFor (log_seen new rest) caller region colour (length (old caller.own colour)) (events_until carry) place
       from
   pub carries : CarriesThere old new caller region colour nodes carry
   pub holds : length (line (take place (new region colour)))
@@ -127,7 +127,7 @@ abbrev pub PullsStand : Type 0
 PullsStand = (old new : Seen) (rest : Rest) (caller : Caller) (kept : Kept) (region colour nodes place : ℕ) (carry : At)
     (too_low : List ℕ) → SeesOn caller old new → IsKeptBy old caller kept
     → PullsThere old new rest caller region colour nodes place carry too_low
-    → Pulls (log_of new rest) caller kept region colour nodes place carry too_low
+    → Pulls (log_seen new rest) caller kept region colour nodes place carry too_low
 
 -- how many events a carry is
 abbrev pub carry_count : At → ℕ
@@ -157,7 +157,7 @@ KeptAfterGives = (old new : Seen) (rest : Rest) (caller : Caller) (kept : Kept) 
     (too_low gives : List ℕ) → SeesOn caller old new
     → MakesOnly caller.client region colour (length (too_low ++ gives)) old new
     → IsKeptBy old caller kept → RiseFrom (length (old region colour)) (too_low ++ gives)
-    → OnlyGives (log_of new rest) caller kept region colour looked too_low gives
+    → OnlyGives (log_seen new rest) caller kept region colour looked too_low gives
     → IsKeptBy new caller (kept_after_giving kept caller.own region colour looked too_low gives)
 
 -- TRIMS
@@ -169,4 +169,4 @@ TrimsStand = (old new : Seen) (rest : Rest) (caller : Caller) (kept : Kept) (col
     → SeesOn caller old new → IsKeptBy old caller kept → length (old caller.own colour) ≤ place
     → slice_get (new caller.own colour) place ≡ Some (record { by = caller.client; event = events.Trim counts; stamp = 0 })
     → shown ≡ base caller.own caller.regions (dated caller.own (take (place + 1) (new caller.own colour)))
-    → TrimsBy (log_of new rest) caller kept colour place counts shown
+    → TrimsBy (log_seen new rest) caller kept colour place counts shown

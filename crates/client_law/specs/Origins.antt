@@ -10,15 +10,15 @@ use Rattle.col_core.specs.Legal.{IsColumnHistory}
 use Rattle.col_core.specs.Copies.{AreTrueCopies}
 
 -- The heads are a stretch of the origin's own line, with its needs, from the start on, as far as its history was seen.
-abbrev pub IsOfOrigin : ℕ → List Entry → ℕ → List Head → Type 0
-IsOfOrigin origin seen start heads = IsPrefix heads (drop start (chain origin (dated origin seen) origin))
+abbrev pub IsStretchOfOrigin : ℕ → List Entry → ℕ → List Head → Type 0
+IsStretchOfOrigin origin seen start heads = IsPrefix heads (drop start (chain origin (dated origin seen) origin))
 
 -- Each carry of a history, by whoever made it, brought a stretch of its origin's line that its maker had seen.
 abbrev pub CarriesOfOrigins : (ℕ → List Entry) → ℕ → Type 0
 CarriesOfOrigins histories copier =
     (place : ℕ) (e : Entry) (origin start : ℕ) (heads : List Head) → slice_get (histories copier) place ≡ Some e
     → e.event ≡ Carry origin start heads
-    → (seen : List Entry) × IsPrefix seen (histories origin) × IsOfOrigin origin seen start heads
+    → (seen : List Entry) × IsPrefix seen (histories origin) × IsStretchOfOrigin origin seen start heads
 
 -- Each give of a history asked from no greater number than its maker had seen to be held by the copier.
 abbrev pub GivesAreHeld : (ℕ → List Entry) → ℕ → Type 0
@@ -32,11 +32,11 @@ GivesAreHeld histories origin =
 abbrev pub OriginsStay : Type 0
 OriginsStay = (origin regions : ℕ) (seen more : List Entry) (start : ℕ) (heads : List Head)
     → IsColumnHistory origin regions (dated origin more) → IsPrefix seen more
-    → IsOfOrigin origin seen start heads → IsOfOrigin origin more start heads
+    → IsStretchOfOrigin origin seen start heads → IsStretchOfOrigin origin more start heads
 
 -- The copies of a colour are true where all its histories are lawful, and each carry and each give was made so.
-abbrev pub CopiesAreTrue : Type 0
-CopiesAreTrue = (regions : ℕ) (histories : ℕ → List Entry)
+abbrev pub LawfulCopiesAreTrue : Type 0
+LawfulCopiesAreTrue = (regions : ℕ) (histories : ℕ → List Entry)
     → ((region : ℕ) → region < regions → IsColumnHistory region regions (dated region (histories region)))
     → ((region : ℕ) → region < regions → CarriesOfOrigins histories region)
     → ((region : ℕ) → region < regions → GivesAreHeld histories region)

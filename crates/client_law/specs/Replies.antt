@@ -14,6 +14,7 @@ use Rattle.col_core.specs.History.{IsAtEnd}
 use Rattle.col_core.specs.Cuts.{base}
 use Rattle.col_core.specs.Computed.{dated}
 use Rattle.col_core.specs.Log.{HasOutcome}
+use Rattle.col_core.specs.Appending.{EndsAtColour}
 use Rattle.col_core.specs.Keeping.{Kept, kept_after_single, kept_after_sync, kept_after_event, with_made, with_floor, with_row}
 use Rattle.script_text.specs.declared.script.What.{What}
 use Rattle.script_text.specs.declared.script.What.TheVariants as whats
@@ -26,9 +27,9 @@ use Rattle.lawful_run.specs.Appends.{kept_after_points}
 use Rattle.lawful_run.specs.Reads.{greatest_stamp}
 use Rattle.lawful_run.specs.Moves.{OnlyGives, kept_after_pull, kept_after_giving}
 use Rattle.lawful_run.specs.Explains.{Explains}
-use Rattle.client_law.specs.Knowing.{Seen, Rest, log_of, SeesOn}
+use Rattle.client_law.specs.Knowing.{Seen, Rest, log_seen, SeesOn}
 use Rattle.client_law.specs.Kept.{IsKeptBy}
-use Rattle.client_law.specs.Appends.{StandsAlone, steps_since, HasBegun, StandInAll, IsSettledEverywhere, EndsAtColour, StopsThere}
+use Rattle.client_law.specs.Appends.{SeesOne, steps_since, SeesBegun, SeesSeveral, SeesSettled, SeesStop}
 use Rattle.client_law.specs.Moves.{home_dated, LooksThere, PlaysThere, PullsThere}
 
 -- what is kept after an append to several colours that is gone or has stopped
@@ -42,7 +43,7 @@ kept_after_standing caller old new kept stamp points =
     (steps_since caller old new)
 
 -- A client that has seen so much, and keeps what it has seen, asks for an append of a node.
-pub record IsAsked (old new : Seen) (caller : Caller) (kept : Kept) (what : What) (colours : Colours)
+pub record AppendIsAsked (old new : Seen) (caller : Caller) (kept : Kept) (what : What) (colours : Colours)
     (text : List ℕ) : Type 0 where
   pub on : SeesOn caller old new
   pub keeps : IsKeptBy old caller kept
@@ -51,54 +52,54 @@ pub record IsAsked (old new : Seen) (caller : Caller) (kept : Kept) (what : What
 -- The reply to an append that stands in one colour: its stamp, and its point.
 abbrev pub StoodAlone : Type 0
 StoodAlone = (old new : Seen) (rest : Rest) (caller : Caller) (kept : Kept) (what : What) (colours : Colours)
-    (text : List ℕ) (colour stamp place position : ℕ) → IsAsked old new caller kept what colours text
+    (text : List ℕ) (colour stamp place position : ℕ) → AppendIsAsked old new caller kept what colours text
     → manner_of what ≡ Appending → members colours ≡ colour ∷ []
-    → StandsAlone old new rest caller kept (node_of caller kept colours text) colour stamp place position
-    → Explains (log_of new rest) caller kept what
+    → SeesOne old new rest caller kept (node_of caller kept colours text) colour stamp place position
+    → Explains (log_seen new rest) caller kept what
     (answers.Stood stamp None (record { colour = colour; at = Event place; position = position } ∷ [])) []
     (kept_after_single kept caller.own colour place stamp position)
 
 -- The reply to an append that stands in several colours: its stamp, its row, and its points.
 abbrev pub StoodInAll : Type 0
 StoodInAll = (old new : Seen) (rest : Rest) (caller : Caller) (kept : Kept) (what : What) (colours : Colours)
-    (text : List ℕ) (stamp : ℕ) (points : List PointPiece) → IsAsked old new caller kept what colours text
+    (text : List ℕ) (stamp : ℕ) (points : List PointPiece) → AppendIsAsked old new caller kept what colours text
     → manner_of what ≡ Appending
-    → StandInAll old new rest caller kept (node_of caller kept colours text) stamp points
-    → Explains (log_of new rest) caller kept what (answers.Stood stamp (Some kept.rows) points) []
+    → SeesSeveral old new rest caller kept (node_of caller kept colours text) stamp points
+    → Explains (log_seen new rest) caller kept what (answers.Stood stamp (Some kept.rows) points) []
     (kept_after_standing caller old new kept stamp points)
 
 -- The reply to an append to one colour for which no stamp was left: the colour.
 abbrev pub EndedAlone : Type 0
 EndedAlone = (old new : Seen) (rest : Rest) (caller : Caller) (kept : Kept) (what : What) (colours : Colours)
-    (text : List ℕ) (colour : ℕ) → IsAsked old new caller kept what colours text
+    (text : List ℕ) (colour : ℕ) → AppendIsAsked old new caller kept what colours text
     → manner_of what ≢ Stopping → members colours ≡ colour ∷ [] → IsAtEnd (new caller.own colour) kept.floor
-    → Explains (log_of new rest) caller kept what (answers.StampEnd colour) [] kept
+    → Explains (log_seen new rest) caller kept what (answers.StampEnd colour) [] kept
 
 -- The reply to an append to several colours that is gone at the stamps' end: the least colour that had none left.
 abbrev pub EndedInColour : Type 0
 EndedInColour = (old new : Seen) (rest : Rest) (caller : Caller) (kept : Kept) (what : What) (colours : Colours)
-    (text : List ℕ) (colour : ℕ) → IsAsked old new caller kept what colours text
-    → manner_of what ≢ Stopping → HasBegun old new rest caller kept (node_of caller kept colours text)
-    → EndsAtColour new rest (node_of caller kept colours text) colour
-    → IsSettledEverywhere new rest caller (node_of caller kept colours text)
-    → Explains (log_of new rest) caller kept what (answers.StampEnd colour) []
+    (text : List ℕ) (colour : ℕ) → AppendIsAsked old new caller kept what colours text
+    → manner_of what ≢ Stopping → SeesBegun old new rest caller kept (node_of caller kept colours text)
+    → EndsAtColour (log_seen new rest) (node_of caller kept colours text) colour
+    → SeesSettled new rest caller (node_of caller kept colours text)
+    → Explains (log_seen new rest) caller kept what (answers.StampEnd colour) []
     (kept_after_steps caller old new kept)
 
 -- The reply to an append to several colours that is gone for want of memory.
 abbrev pub WentForMemory : Type 0
 WentForMemory = (old new : Seen) (rest : Rest) (caller : Caller) (kept : Kept) (what : What) (colours : Colours)
-    (text : List ℕ) → IsAsked old new caller kept what colours text
-    → HasBegun old new rest caller kept (node_of caller kept colours text)
-    → HasOutcome (log_of new rest) (node_of caller kept colours text) (Gone Memory)
-    → IsSettledEverywhere new rest caller (node_of caller kept colours text)
-    → Explains (log_of new rest) caller kept what answers.NoMemory [] (kept_after_steps caller old new kept)
+    (text : List ℕ) → AppendIsAsked old new caller kept what colours text
+    → SeesBegun old new rest caller kept (node_of caller kept colours text)
+    → HasOutcome (log_seen new rest) (node_of caller kept colours text) (Gone Memory)
+    → SeesSettled new rest caller (node_of caller kept colours text)
+    → Explains (log_seen new rest) caller kept what answers.NoMemory [] (kept_after_steps caller old new kept)
 
 -- The reply to an append that stopped after one step or more.
 abbrev pub StoppedWithin : Type 0
 StoppedWithin = (old new : Seen) (rest : Rest) (caller : Caller) (kept : Kept) (colours : Colours) (text : List ℕ)
-    (steps : ℕ) → SeesOn caller old new → HasBegun old new rest caller kept (node_of caller kept colours text)
-    → StopsThere old new rest caller (node_of caller kept colours text) (steps + 1)
-    → Explains (log_of new rest) caller kept (whats.Stop (steps + 1) colours text) (answers.Stopped (steps + 1)) []
+    (steps : ℕ) → SeesOn caller old new → SeesBegun old new rest caller kept (node_of caller kept colours text)
+    → SeesStop old new rest caller (node_of caller kept colours text) (steps + 1)
+    → Explains (log_seen new rest) caller kept (whats.Stop (steps + 1) colours text) (answers.Stopped (steps + 1)) []
     (kept_after_steps caller old new kept)
 
 -- The reply to a sync: its look, its snapshot, and the nodes that it played.
@@ -106,7 +107,7 @@ abbrev pub SyncedThere : Type 0
 SyncedThere = (old new : Seen) (rest : Rest) (caller : Caller) (kept : Kept) (colour : ℕ) (snapshot : Counts)
     (nodes : List PlacedNode) → SeesOn caller old new → IsKeptBy old caller kept
     → LooksThere new caller kept colour snapshot → PlaysThere new rest caller kept colour snapshot nodes
-    → Explains (log_of new rest) caller kept (whats.Sync colour)
+    → Explains (log_seen new rest) caller kept (whats.Sync colour)
     (answers.Synced (record { colour = colour; events = length (new caller.own colour); counts = snapshot })
     (length nodes)) nodes
     (kept_after_sync kept caller.own colour (length (new caller.own colour)) snapshot (greatest_stamp nodes))
@@ -117,21 +118,21 @@ LackedThere = (old new : Seen) (rest : Rest) (caller : Caller) (kept : Kept) (co
     → SeesOn caller old new → IsKeptBy old caller kept
     → shown ≡ base caller.own caller.regions (home_dated new caller colour)
     → IsFalse (is_within shown (kept.starts colour))
-    → Explains (log_of new rest) caller kept (whats.Sync colour) (answers.Trimmed colour shown) [] kept
+    → Explains (log_seen new rest) caller kept (whats.Sync colour) (answers.Trimmed colour shown) [] kept
 
 -- The reply to a pull: how many nodes it carried, its last give, and its carry.
 abbrev pub PulledThere : Type 0
 PulledThere = (old new : Seen) (rest : Rest) (caller : Caller) (kept : Kept) (region colour nodes place : ℕ)
     (carry : At) (too_low : List ℕ) → SeesOn caller old new → IsKeptBy old caller kept
     → PullsThere old new rest caller region colour nodes place carry too_low
-    → Explains (log_of new rest) caller kept (whats.Pull region colour) (answers.Pulled nodes (Event place) carry) []
+    → Explains (log_seen new rest) caller kept (whats.Pull region colour) (answers.Pulled nodes (Event place) carry) []
     (kept_after_pull kept caller.own region colour place carry too_low)
 
 -- The reply to a pull that found no memory, and carried nothing.
 abbrev pub GaveForMemory : Type 0
 GaveForMemory = (new : Seen) (rest : Rest) (caller : Caller) (kept : Kept) (region colour looked : ℕ)
-    (too_low gives : List ℕ) → OnlyGives (log_of new rest) caller kept region colour looked too_low gives
-    → Explains (log_of new rest) caller kept (whats.Pull region colour) answers.NoMemory []
+    (too_low gives : List ℕ) → OnlyGives (log_seen new rest) caller kept region colour looked too_low gives
+    → Explains (log_seen new rest) caller kept (whats.Pull region colour) answers.NoMemory []
     (kept_after_giving kept caller.own region colour looked too_low gives)
 
 -- The reply to a trim by the client's last snapshot: the event, and the base after it.
@@ -141,5 +142,5 @@ TrimmedTo = (old new : Seen) (rest : Rest) (caller : Caller) (kept : Kept) (colo
     → slice_get (new caller.own colour) place
     ≡ Some (record { by = caller.client; event = events.Trim (kept.starts colour); stamp = 0 })
     → shown ≡ base caller.own caller.regions (dated caller.own (take (place + 1) (new caller.own colour)))
-    → Explains (log_of new rest) caller kept (whats.Trim colour) (answers.Based (Event place) shown) []
+    → Explains (log_seen new rest) caller kept (whats.Trim colour) (answers.Based (Event place) shown) []
     (kept_after_event kept caller.own colour place)

@@ -10,8 +10,8 @@ use Rattle.col_core.specs.Keeping.{Kept, with_floor}
 use Rattle.report_text.specs.declared.report.RaisePiece.{RaisePiece}
 use Rattle.report_text.specs.declared.report.SyncPiece.{SyncPiece}
 use Rattle.lawful_run.specs.Callers.{Caller}
-use Rattle.lawful_run.specs.Reads.{Syncs, kept_after_piece, RaisesAt, kept_after_place, Raises, ClearSyncs, events_until, ReadsAt}
-use Rattle.client_law.specs.Knowing.{Seen, Rest, log_of, SeesOn}
+use Rattle.lawful_run.specs.Reads.{Syncs, kept_after_piece, RaisesClock, kept_after_place, Raises, ClearSyncs, events_until, ReadsAt}
+use Rattle.client_law.specs.Knowing.{Seen, Rest, log_seen, SeesOn}
 use Rattle.client_law.specs.Kept.{IsKeptBy}
 
 -- The clock is raised to the stamp by the client's event, which was not seen before, or it is there already at a look.
@@ -28,26 +28,26 @@ RaisesThere old new caller stamp colour (Look seen) =
 abbrev pub RaiseStands : Type 0
 RaiseStands = (old new : Seen) (rest : Rest) (caller : Caller) (kept : Kept) (stamp colour : ℕ) (at : At)
     → SeesOn caller old new → IsKeptBy old caller kept → RaisesThere old new caller stamp colour at
-    → RaisesAt (log_of new rest) caller kept stamp colour at
+    → RaisesClock (log_seen new rest) caller kept stamp colour at
 
 -- One raise more: what was seen before explains the earlier ones.
 abbrev pub RaisesOn : Type 0
 RaisesOn = (old new : Seen) (rest : Rest) (caller : Caller) (stamp : ℕ) (kept middle : Kept)
     (raises : List RaisePiece) (raise : RaisePiece)
-    → SeesOn caller old new → Raises (log_of old rest) caller stamp kept raises middle
-    → RaisesAt (log_of new rest) caller middle stamp raise.colour raise.at
-    → Raises (log_of new rest) caller stamp kept (raises ++ raise ∷ [])
+    → SeesOn caller old new → Raises (log_seen old rest) caller stamp kept raises middle
+    → RaisesClock (log_seen new rest) caller middle stamp raise.colour raise.at
+    → Raises (log_seen new rest) caller stamp kept (raises ++ raise ∷ [])
     (kept_after_place middle caller.own raise.colour raise.at)
 
 -- One sync more, after which no open entry up to the stamp is left.
 abbrev pub ClearSyncsOn : Type 0
 ClearSyncsOn = (old new : Seen) (rest : Rest) (caller : Caller) (stamp : ℕ) (kept middle : Kept)
     (syncs : List SyncPiece) (sync : SyncPiece)
-    → SeesOn caller old new → ClearSyncs (log_of old rest) caller stamp kept syncs middle
-    → Syncs (log_of new rest) caller middle sync.colour sync.events sync.counts
+    → SeesOn caller old new → ClearSyncs (log_seen old rest) caller stamp kept syncs middle
+    → Syncs (log_seen new rest) caller middle sync.colour sync.events sync.counts
     → IsClearUpTo stamp (take sync.events (new caller.own sync.colour))
-    → ClearSyncs (log_of new rest) caller stamp kept (syncs ++ sync ∷ [])
-    (kept_after_piece (log_of new rest) caller middle sync)
+    → ClearSyncs (log_seen new rest) caller stamp kept (syncs ++ sync ∷ [])
+    (kept_after_piece (log_seen new rest) caller middle sync)
 
 -- the read's stamp: the floor, or a clock that was looked at before its column's raise
 abbrev pub IsStampThere : Seen → Seen → Caller → Kept → List RaisePiece → ℕ → Type 0
@@ -65,8 +65,8 @@ pub record ReadsThere (old middle new : Seen) (rest : Rest) (caller : Caller) (k
   pub above_floor : kept.floor ≤ stamp
   pub above_clocks : All (λ colour. clock (old caller.own colour) ≤ stamp) colours
   pub chosen : IsStampThere old new caller kept raises stamp
-  pub raising : Raises (log_of middle rest) caller stamp kept raises raised
-  pub syncing : ClearSyncs (log_of new rest) caller stamp raised syncs synced
+  pub raising : Raises (log_seen middle rest) caller stamp kept raises raised
+  pub syncing : ClearSyncs (log_seen new rest) caller stamp raised syncs synced
 
 -- Such a read is a stamped read in the log that is seen; the floor is then at its stamp or above.
 abbrev pub ReadsStand : Type 0
@@ -74,7 +74,7 @@ ReadsStand = (old middle new : Seen) (rest : Rest) (caller : Caller) (kept raise
     (stamp : ℕ) (raises : List RaisePiece) (syncs : List SyncPiece)
     → SeesOn caller old middle → SeesOn caller middle new → IsKeptBy old caller kept
     → ReadsThere old middle new rest caller kept raised synced colours stamp raises syncs
-    → ReadsAt (log_of new rest) caller kept colours stamp raises syncs (with_floor synced stamp)
+    → ReadsAt (log_seen new rest) caller kept colours stamp raises syncs (with_floor synced stamp)
 
 -- What is kept with a greater floor.
 abbrev pub KeptWithFloor : Type 0

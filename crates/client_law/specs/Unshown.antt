@@ -6,10 +6,10 @@ use Rattle.col_core.specs.Keeping.{Kept, with_made, with_floor, with_node, with_
 use Rattle.report_text.specs.declared.report.PointPiece.{PointPiece}
 use Rattle.lawful_run.specs.Callers.{Caller}
 use Rattle.lawful_run.specs.Appends.{AppendsUnshown}
-use Rattle.client_law.specs.Knowing.{Seen, Rest, log_of, SeesOn}
+use Rattle.client_law.specs.Knowing.{Seen, Rest, log_seen, SeesOn}
 use Rattle.client_law.specs.Making.{MakesOnly, MakesAtHome}
 use Rattle.client_law.specs.Kept.{IsKeptBy}
-use Rattle.client_law.specs.Appends.{StandsAlone, steps_since, StandInAll}
+use Rattle.client_law.specs.Appends.{SeesOne, steps_since, SeesSeveral}
 
 -- what is kept after such an append to one colour
 abbrev pub kept_unshown_alone : Caller → Kept → ℕ → ℕ → ℕ → Kept
@@ -26,15 +26,15 @@ abbrev pub UnshownAlone : Type 0
 UnshownAlone =
     (old new : Seen) (rest : Rest) (caller : Caller) (kept : Kept) (node : Node) (colour stamp place position : ℕ)
     → SeesOn caller old new → IsKeptBy old caller kept → members node.colours ≡ colour ∷ []
-    → StandsAlone old new rest caller kept node colour stamp place position
-    → AppendsUnshown (log_of new rest) caller kept node stamp (kept_unshown_alone caller kept colour stamp place)
+    → SeesOne old new rest caller kept node colour stamp place position
+    → AppendsUnshown (log_seen new rest) caller kept node stamp (kept_unshown_alone caller kept colour stamp place)
 
 -- What is kept after it, where it was the client's one step.
 abbrev pub KeptUnshownAlone : Type 0
 KeptUnshownAlone =
     (old new : Seen) (rest : Rest) (caller : Caller) (kept : Kept) (node : Node) (colour stamp place position : ℕ)
     → SeesOn caller old new → IsKeptBy old caller kept
-    → StandsAlone old new rest caller kept node colour stamp place position
+    → SeesOne old new rest caller kept node colour stamp place position
     → MakesOnly caller.client caller.own colour 1 old new
     → IsKeptBy new caller (kept_unshown_alone caller kept colour stamp place)
 
@@ -42,8 +42,8 @@ KeptUnshownAlone =
 abbrev pub UnshownInAll : Type 0
 UnshownInAll = (old new : Seen) (rest : Rest) (caller : Caller) (kept : Kept) (node : Node) (stamp : ℕ)
     (points : List PointPiece)
-    → SeesOn caller old new → IsKeptBy old caller kept → StandInAll old new rest caller kept node stamp points
-    → AppendsUnshown (log_of new rest) caller kept node stamp (kept_unshown_several caller old new kept stamp)
+    → SeesOn caller old new → IsKeptBy old caller kept → SeesSeveral old new rest caller kept node stamp points
+    → AppendsUnshown (log_seen new rest) caller kept node stamp (kept_unshown_several caller old new kept stamp)
 
 -- What is kept after that.
 abbrev pub KeptUnshownInAll : Type 0

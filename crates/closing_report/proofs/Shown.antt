@@ -6,7 +6,7 @@ use Rattle.std.proofs.lemmas.List.Elements.{All-map}
 use Rattle.column.specs.Columns.{ColumnState}
 use Rattle.report_text.specs.declared.report.ColumnReport.{ColumnReport}
 use Rattle.closing_report.specs.Columns.{column_shown, HasNames}
-use Rattle.closing_report.specs.Places.{open_place, AreShown}
+use Rattle.closing_report.specs.Places.{open_place, ArePlacesShown}
 use Rattle.closing_report.specs.declared.beside.Place.{Place}
 
 -- the columns in their places have names
@@ -19,7 +19,7 @@ places_named regions colours columns places named are =
 
 -- where something is shown in each place, it is what is shown of the columns
 pub all_shown : (regions colours : List (List ℕ)) (columns : List ColumnState) (reports : List ColumnReport) (after : List Place)
-    → AreShown regions colours (map open_place columns) after → map Some reports ≡ map (λ (place : Place). place.shown) after
+    → ArePlacesShown regions colours (map open_place columns) after → map Some reports ≡ map (λ (place : Place). place.shown) after
     → reports ≡ map (column_shown regions colours) columns
 all_shown regions colours [] [] [] are same = refl
 all_shown regions colours [] (report ∷ reports) [] are same = absurd (let f : ⊥ = cc (same) in f)

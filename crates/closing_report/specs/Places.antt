@@ -14,6 +14,6 @@ IsShown regions colours before after =
     (column : ColumnState) → before.column ≡ Some column → IfSome after.shown (λ report. report ≡ column_shown regions colours column)
 
 -- so it is in each place
-pub record AreShown (regions colours : List (List ℕ)) (before after : List Place) : Type 0 where
+pub record ArePlacesShown (regions colours : List (List ℕ)) (before after : List Place) : Type 0 where
   pub many : length after ≡ length before
   pub each : (n : ℕ) (x y : Place) → slice_get before n ≡ Some x → slice_get after n ≡ Some y → IsShown regions colours x y

@@ -2,7 +2,7 @@
 ghost use Rattle.std.specs.Prelude.{◌≡◌, ◌<◌, Some, map, IfOk, IfSome};
 ghost use Rattle.std.specs.List.{All};
 ghost use Rattle.closing_report.specs.Columns.{column_shown, HasNames};
-ghost use Rattle.closing_report.specs.Places.{open_place, IsShown, AreShown};
+ghost use Rattle.closing_report.specs.Places.{open_place, IsShown, ArePlacesShown};
 ghost use Rattle.closing_report.specs.declared.beside.Place.{Place};
 
 use crate::columns::column_report;
@@ -70,7 +70,7 @@ fn show_all<R: Threads + Sync>(
 )
     requires threads { 0 < threads }
     requires names { All (λ place. IfSome place.column (HasNames regions.now colours.now)) places.old }
-    ensures { AreShown regions.now colours.now places.old places.new }
+    ensures { ArePlacesShown regions.now colours.now places.old places.new }
 {
     for_each_mut(
         rt,

@@ -151,10 +151,6 @@ module _ (own regions : ℕ) (history more : List Entry) (key : Key)
   rises_later = rises-filter (is_open_below key) (History.entries (history ++ more))
       (rising own regions (history ++ more) h)
 
-  rises_before : Rises (open_below key history)
-  rises_before = rises-filter (is_open_below key) (History.entries history)
-      (rising own regions history (lawful_beginning own regions history more h))
-
   missing : (f : Standing) → open_entry f.key.id (History.entries (history ++ more)) ≡ None
       → In f (open_below key (history ++ more)) → ⊥
   missing f none i =

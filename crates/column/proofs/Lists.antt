@@ -40,18 +40,6 @@ drop_twice (suc m) (suc n) k [] is = none k where
 drop_twice m (suc n) zero (x ∷ xs) is = absurd (let f : ⊥ = omega (arith, is) in f)
 drop_twice m (suc n) (suc k) (x ∷ xs) is = drop_twice m n k xs (omega (arith, is))
 
--- from past the end there is nothing
-pub drop_least : {A : Type 0} (n : ℕ) (xs : List A) → drop (min n (length xs)) xs ≡ drop n xs
-drop_least {A} zero xs = ap (λ (k : ℕ). drop {A = A} k xs) (least_zero (length xs)) where
-  least_zero : (m : ℕ) → min 0 m ≡ 0
-  least_zero m = omega arith
-drop_least {A} (suc n) [] = ap (λ (k : ℕ). drop {A = A} k []) (least_none n) where
-  least_none : (n : ℕ) → min (suc n) 0 ≡ 0
-  least_none n = omega arith
-drop_least (suc n) (x ∷ xs) = ap (λ (k : ℕ). drop k (x ∷ xs)) (least_suc n (length xs)) ∙ drop_least n xs where
-  least_suc : (n m : ℕ) → min (suc n) (suc m) ≡ suc (min n m)
-  least_suc n m = omega arith
-
 pub got_dropped : {A : Type 0} (s : ℕ) (xs : List A) (n : ℕ) (x : A) → slice_get (drop s xs) n ≡ Some x
     → (m : ℕ) × (slice_get xs m ≡ Some x)
 got_dropped zero xs n x is = (n, is)

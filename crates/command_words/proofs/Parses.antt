@@ -234,21 +234,6 @@ parts_missing (word ∷ number ∷ []) all k among =
     absurd (subst (IsAmong k) (two_fault word number (unhyphened word p) (unhyphened number q)) among)
 parts_missing (word ∷ number ∷ other ∷ words) all k among = refl
 
--- Nor are words of which one is not plain.
-pub parts_refused : (words : List Text) → list_all is_plain_word words ≡ false → None ≡ parted words
-parts_refused [] e = refl
-parts_refused (word ∷ []) e = go (is_plain_word word) refl e where
-  go : (t : Bool) → is_plain_word word ≡ t → (t && true) ≡ false → None ≡ parted (word ∷ [])
-  go true p e = absurd (let f : ⊥ = cc (e) in f)
-  go false p e = sym (ap (λ (t : Bool). cond t (Some (word, None)) None) p)
-parts_refused (word ∷ number ∷ []) e = go (is_plain_word word) (is_plain_word number) refl refl e where
-  go : (s t : Bool) → is_plain_word word ≡ s → is_plain_word number ≡ t → (s && (t && true)) ≡ false
-      → None ≡ parted (word ∷ number ∷ [])
-  go true true p q e = absurd (let f : ⊥ = cc (e) in f)
-  go true false p q e = sym (ap₂ (λ (s t : Bool). cond (s && t) (Some (word, Some number)) None) p q)
-  go false t p q e = sym (ap₂ (λ (s u : Bool). cond (s && u) (Some (word, Some number)) None) p q)
-parts_refused (word ∷ number ∷ other ∷ words) e = refl
-
 -- ---- the two outcomes of a parse
 
 module _ (a : App) (same : a ≡ two_words) (words : List Text) (all : list_all is_plain_word words ≡ true) where

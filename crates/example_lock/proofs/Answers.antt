@@ -14,12 +14,12 @@ use Rattle.log_client.specs.declared.client.Client.{Client}
 use Rattle.log_client.specs.declared.answers.Appended.{Appended}
 use Rattle.log_client.specs.declared.answers.StampedRead.{StampedRead}
 use Rattle.log_client.specs.declared.object_fault.ObjectFault.{ObjectFault}
-use Rattle.log_client.specs.declared.object_fault.ObjectFault.TheVariants as faults
 use Rattle.log_client.specs.Appends.{AppendsAs}
 use Rattle.log_client.specs.Calls.{IsExplained}
 use Rattle.log_client.specs.Reading.{RestsOn}
 use Rattle.log_client.proofs.CallerLemmas.{explained_less}
-use Rattle.region_fold.specs.Reads.{HasNodes, IsOwn, KeepsFold, ReadsNodes, TellRefused, TellsOwn}
+use Rattle.region_fold.specs.Reads.{HasNodesRead, IsOwn, KeepsFold, ReadsNodes, TellRefused, TellsOwn}
+use Rattle.region_fold.proofs.CallerLemmas.{told_more}
 use Rattle.lock_fold.specs.declared.lock.Ticket.{Ticket}
 use Rattle.lock_fold.specs.Tickets.{tickets_after, told_behind}
 use Rattle.example_lock.specs.declared.desk.Desk.{Desk}
@@ -45,7 +45,7 @@ asks s c d stamp told other w = (
   w.3,
   explained_less s c d (TellsOwn told_behind lock_set (codes "ask") (rising lock_colours) w.2 told w.0 w.1)
       (λ log caller kept after. (stood : Kept) × AppendsAs lock_set (codes "ask") w.0 log caller kept stood
-      × HasNodes (rising lock_colours) (last_before w.2 w.0.stood.key) w.1 (λ nodes. told_of told_behind nodes w.0.stood.key ≡ Some (unwrap_or told other)) log caller stood after)
+      × HasNodesRead (rising lock_colours) (last_before w.2 w.0.stood.key) w.1 (λ nodes. told_of told_behind nodes w.0.stood.key ≡ Some (unwrap_or told other)) log caller stood after)
       (λ log caller kept after t. (t.0, t.1, (t.2.0, t.2.1, t.2.2, t.2.3, has_place t.2.2 w.0 told other t.2.4))) w.4,
 )
 
@@ -57,8 +57,8 @@ pub looks : (s : Store) (c d : Client) (last : Option Key) (read : StampedRead) 
 looks s c d last read ticket Holds so reads = (
   last,
   read,
-  explained_less s c d (HasNodes (rising lock_colours) last read Holds)
-      (HasNodes (rising lock_colours) last read (λ nodes. ticket ≡ slice_get (tickets_after nodes) 0))
+  explained_less s c d (HasNodesRead (rising lock_colours) last read Holds)
+      (HasNodesRead (rising lock_colours) last read (λ nodes. ticket ≡ slice_get (tickets_after nodes) 0))
       (λ log caller before after r. (r.0, r.1, r.2, r.3, so r.2 r.4)) reads,
 )
 
@@ -80,15 +80,9 @@ writes s c d text written told a read last set is same tells = (
 pub write_refused : (s : Store) (c d : Client) (text written : List ℕ) (fault : ObjectFault) (set : Colours) → set ≡ lock_set
     → written ≡ text → TellRefused s c d (members set) written lock_colours fault → WriteRefused s c d text fault
 write_refused s c d text written fault set is same why =
-    by fault (subst (λ (t : List ℕ). TellRefused s c d (members lock_set) t lock_colours fault) same
-    (subst (λ (x : Colours). TellRefused s c d (members x) written lock_colours fault) is why)) where
-      by : (fault : ObjectFault) → TellRefused s c d (members lock_set) text lock_colours fault → WriteRefused s c d text fault
-      by (faults.NotHome shown) why = absurd why
-      by (faults.Append fault) why = why
-      by (faults.Sync fault) why = absurd why
-      by (faults.Unread stamp fault) why = why
-      by faults.NoTx why = absurd why
-      by faults.NoMemory why = absurd why
+    told_more s c d (members lock_set) text lock_colours (λ shown. ⊥) (d ≡ c) fault
+    (subst (λ (t : List ℕ). TellRefused s c d (members lock_set) t lock_colours fault) same
+    (subst (λ (x : Colours). TellRefused s c d (members x) written lock_colours fault) is why))
 
 -- a desk whose client goes on
 pub desk_after : (s : Store) (old new : Desk) → IsDesk s old → RestsOn s old.client new.client

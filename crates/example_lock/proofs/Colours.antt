@@ -10,13 +10,13 @@ use Rattle.log_client.specs.declared.store.Store.{Store}
 use Rattle.log_client.specs.declared.client.Client.{Client}
 use Rattle.log_client.specs.Appends.{AreColoursOf}
 use Rattle.log_client.specs.Clients.{IsClient, tracks_of}
-use Rattle.log_client.specs.Objects.{AreColours}
+use Rattle.log_client.specs.Objects.{HasColoursOf}
 use Rattle.log_client.proofs.CallerLemmas.{one_of_store}
-use Rattle.region_fold.specs.Reads.{AreOwn}
+use Rattle.region_fold.specs.Reads.{AreOfObject}
 use Rattle.example_lock.specs.Desks.{lock_colours, lock_set}
 
 -- it is the client's
-pub colours_are : (s : Store) (c : Client) → IsClient s c → 0 < s.size.colours → AreColours c lock_colours
+pub colours_are : (s : Store) (c : Client) → IsClient s c → 0 < s.size.colours → HasColoursOf c lock_colours
 colours_are s c is lt = record {
   some = omega arith;
   within = All-cons (λ (k : ℕ). k < length (tracks_of c)) 0 [] (let long = is.colours in omega (arith, long, lt))
@@ -32,7 +32,7 @@ rising_is : rising lock_colours ≡ 0 ∷ []
 rising_is = refl
 
 -- and of the lock's own colours
-pub own_is : AreOwn lock_colours (members lock_set)
+pub own_is : AreOfObject lock_colours (members lock_set)
 own_is =
-    subst (λ (l : List ℕ). AreOwn lock_colours l) (sym (members-one 0 (omega arith)))
+    subst (λ (l : List ℕ). AreOfObject lock_colours l) (sym (members-one 0 (omega arith)))
     (λ colour among. subst (λ (l : List ℕ). Contains l colour) (sym rising_is) among)

@@ -12,12 +12,12 @@ use Rattle.log_client.specs.declared.client.Client.{Client}
 use Rattle.log_client.specs.declared.answers.Appended.{Appended}
 use Rattle.log_client.specs.declared.answers.StampedRead.{StampedRead}
 use Rattle.log_client.specs.declared.object_fault.ObjectFault.{ObjectFault}
-use Rattle.log_client.specs.declared.object_fault.ObjectFault.TheVariants as faults
 use Rattle.log_client.specs.Appends.{AppendsAs}
 use Rattle.log_client.specs.Calls.{IsExplained}
 use Rattle.log_client.specs.Clients.{IsClient}
 use Rattle.log_client.specs.StampedReads.{ReadRefused}
-use Rattle.region_fold.specs.Reads.{HasNodes, KeepsFold, ReadsNodes, TellRefused, TellsOwn}
+use Rattle.log_client.specs.Refusals.{RefusedBy, never}
+use Rattle.region_fold.specs.Reads.{HasNodesRead, KeepsFold, ReadsNodes, TellsOwn, tell_refusals}
 use Rattle.lock_fold.specs.declared.lock.Ticket.{Ticket}
 use Rattle.lock_fold.specs.Tickets.{HasTickets, tickets_after, told_behind}
 use Rattle.example_lock.specs.declared.desk.Desk.{Desk}
@@ -32,6 +32,7 @@ HasLock folded nodes = HasTickets folded.lock nodes
 abbrev pub lock_colours : List ℕ
 lock_colours = 0 ∷ []
 
+-- the colours of the lock as a set
 abbrev pub lock_set : Colours
 lock_set = set_of lock_colours
 
@@ -53,7 +54,8 @@ Asks s c d place =
     (a : Appended) × (read : StampedRead) × (last : Option Key) × (a.stood.key.stamp ≡ place.token)
     × IsExplained s c d (λ log caller kept after.
     (stood : Kept) × AppendsAs lock_set (codes "ask") a log caller kept stood
-    × HasNodes (rising lock_colours) last read (λ nodes. told_of told_behind nodes a.stood.key ≡ Some place.before) log caller stood after)
+    × HasNodesRead (rising lock_colours) last read (λ nodes. told_of told_behind nodes a.stood.key ≡ Some place.before)
+    log caller stood after)
 
 -- A leave stands.
 abbrev pub Leaves : Store → Client → Client → Type 0
@@ -62,22 +64,14 @@ Leaves s c d = (stamp : ℕ) × (told : Option ℕ) × Writes s c d (codes "leav
 -- The ticket is the first one that the nodes leave which were read, if one is left.
 abbrev pub Looks : Store → Client → Client → Option Ticket → Type 0
 Looks s c d ticket =
-    (last : Option Key) × (read : StampedRead) × ReadsNodes s c d lock_colours last read (λ nodes. ticket ≡ slice_get (tickets_after nodes) 0)
+    (last : Option Key) × (read : StampedRead)
+    × ReadsNodes s c d lock_colours last read (λ nodes. ticket ≡ slice_get (tickets_after nodes) 0)
 
 -- why a node with this text was refused, or was told nothing
 abbrev pub WriteRefused : Store → Client → Client → List ℕ → ObjectFault → Type 0
-WriteRefused s c d text (faults.NotHome shown) = ⊥
-WriteRefused s c d text (faults.Append fault) = TellRefused s c d (members lock_set) text lock_colours (faults.Append fault)
-WriteRefused s c d text (faults.Sync fault) = ⊥
-WriteRefused s c d text (faults.Unread stamp why) = TellRefused s c d (members lock_set) text lock_colours (faults.Unread stamp why)
-WriteRefused s c d text faults.NoTx = ⊥
-WriteRefused s c d text faults.NoMemory = d ≡ c
+WriteRefused s c d text =
+    RefusedBy (record (tell_refusals s c d (members lock_set) text lock_colours) { memory = d ≡ c })
 
 -- why a look was refused
 abbrev pub LookRefused : Store → Client → Client → ObjectFault → Type 0
-LookRefused s c d (faults.NotHome shown) = ⊥
-LookRefused s c d (faults.Append fault) = ⊥
-LookRefused s c d (faults.Sync fault) = ReadRefused s c d (rising lock_colours) fault
-LookRefused s c d (faults.Unread stamp why) = ⊥
-LookRefused s c d faults.NoTx = ⊥
-LookRefused s c d faults.NoMemory = ⊥
+LookRefused s c d = RefusedBy (record never { sync = ReadRefused s c d (rising lock_colours) })

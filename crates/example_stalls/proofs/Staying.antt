@@ -7,7 +7,7 @@ use Rattle.log_client.specs.declared.store.Store.{Store}
 use Rattle.log_client.specs.declared.client.Client.{Client}
 use Rattle.log_client.specs.Clients.{IsClient, played_of}
 use Rattle.log_client.specs.Growing.{HasGrown}
-use Rattle.log_client.specs.Appends.{AreColoursOf, FindsNoMemory}
+use Rattle.log_client.specs.Appends.{AreColoursOf, AppendFindsNoMemory}
 use Rattle.log_client.specs.Calls.{IsExplained}
 use Rattle.log_client.proofs.CallerLemmas.{one_of_store}
 use Rattle.example_stalls.specs.declared.counter.Counter.{Counter}
@@ -48,5 +48,5 @@ pub cups_are_of : (s : Store) → IsShop s → AreColoursOf s set_of_cups
 cups_are_of s shop = let one = shop.colours in one_of_store s 0 (omega (arith, one)) (omega arith)
 
 -- an append for whose text there is no memory does nothing
-pub nothing_done : (s : Store) (c : Client) (text : List ℕ) → IsExplained s c c (FindsNoMemory set_of_cups text None)
+pub nothing_done : (s : Store) (c : Client) (text : List ℕ) → IsExplained s c c (AppendFindsNoMemory set_of_cups text None)
 nothing_done s c text = λ objects kept finished keeps. (kept, keeps, λ rest fits. inl refl)

@@ -17,6 +17,7 @@ use Rattle.example_stalls.specs.declared.stall.Drink.TheVariants.{Tea, Coffee}
 abbrev pub cups : ℕ
 cups = 0
 
+-- the colour of cups, as a set
 abbrev pub set_of_cups : Colours
 set_of_cups = set_of (cups ∷ [])
 

@@ -13,7 +13,7 @@ use Rattle.log_node.specs.declared.limits.TheConstants.{MAX_COLOURS}
 use Rattle.log_node.specs.Seen.{PlacedNode}
 use Rattle.log_node.specs.Sets.{members}
 use Rattle.col_core.specs.Log.{Log}
-use Rattle.col_core.specs.Keeping.{Kept, kept_after_point, kept_after_event}
+use Rattle.col_core.specs.Keeping.{Kept, kept_after_event}
 use Rattle.script_text.specs.declared.script.What.{What}
 use Rattle.script_text.specs.declared.script.What.TheVariants as whats
 use Rattle.script_text.specs.declared.script.Command.{Command}
@@ -24,11 +24,11 @@ use Rattle.report_text.specs.declared.report.RaisePiece.{RaisePiece}
 use Rattle.report_text.specs.declared.report.ReplyLine.{ReplyLine}
 use Rattle.report_text.specs.declared.report.SyncPiece.{SyncPiece}
 use Rattle.object_fold.specs.Nodes.{shard_of}
-use Rattle.lawful_run.proofs.CallerLemmas.{kept_after_hidden, before_is, behind_is, one_shard}
+use Rattle.lawful_run.proofs.CallerLemmas.{kept_after_hidden, before_is, behind_is, one_shard, points_leave}
 use Rattle.lawful_run.specs.Callers.{Caller, node_of}
-use Rattle.lawful_run.specs.Asks.{shards, colours_of, Manner, Appending, Stopping, Syncing, Moving, Getting, Reading, Committing, Dequeuing}
+use Rattle.lawful_run.specs.Asks.{shards, colours_of_object, Manner, Appending, Stopping, Syncing, Moving, Getting, Reading, Committing, Dequeuing}
 use Rattle.lawful_run.specs.Deeds.{AsksToAppend, colours_synced, manner_of}
-use Rattle.lawful_run.specs.Appends.{Appends, AppendsUnshown, one_unshown, several_unshown, kept_after_points, HasNoStamp, none_for_one, none_for_several}
+use Rattle.lawful_run.specs.Appends.{Appends, AppendsUnshown, one_unshown, several_unshown, HasNoStamp, none_for_one, none_for_several}
 use Rattle.lawful_run.specs.Moves.{with_places, kept_after_pull}
 use Rattle.lawful_run.specs.Reads.{kept_after_place, kept_after_piece, Raises, ClearSyncs, ReadsAt, HidesSyncs, HidesRead, RefusesRead}
 use Rattle.lawful_run.specs.Refusals.{Hides, Refuses, FindsNoMemory, nothing, gone, gave, hidden, kept_before, kept_behind}
@@ -90,9 +90,9 @@ several_may caller kept (whats.Append asked given) colours text asks two =
     subst (λ (c : Colours). nat_lt 1 (length (members c)) ≡ true) asks.0
     (two_or_more (length (members colours)) two)
 several_may caller kept (whats.Put object key value) colours text asks two =
-    absurd (not_several (colours_of caller object) key (members colours) asks.0 two)
+    absurd (not_several (colours_of_object caller object) key (members colours) asks.0 two)
 several_may caller kept (whats.Del object key) colours text asks two =
-    absurd (not_several (colours_of caller object) key (members colours) asks.0 two)
+    absurd (not_several (colours_of_object caller object) key (members colours) asks.0 two)
 several_may caller kept (whats.Stop steps asked given) colours text asks two = refl
 several_may caller kept (whats.PutAll object pairs) colours text asks two = refl
 several_may caller kept (whats.Commit object pairs) colours text asks two = refl
@@ -172,10 +172,6 @@ refuses_rows log caller kept colours Committing colour shown after r =
 refuses_rows log caller kept colours Dequeuing colour shown after r = syncs_rows log caller kept colours after r.2
 
 -- APPENDS
-points_rows : (own : ℕ) (kept : Kept) (points : List PointPiece) → KeepsRows kept (kept_after_points kept own points)
-points_rows own kept [] = refl
-points_rows own kept (p ∷ points) = points_rows own (kept_after_point kept own p.colour p.at p.position) points
-
 module _ (log : Log) (caller : Caller) (kept : Kept) (what : What) (colours : Colours) (text : List ℕ)
     (asks : AsksToAppend caller kept what colours text) where
   appends_begin : (stamp : ℕ) (row : Option ℕ) (points : List PointPiece) (after : Kept)
@@ -186,7 +182,7 @@ module _ (log : Log) (caller : Caller) (kept : Kept) (what : What) (colours : Co
   appends_begin stamp (Some number) points after a =
       inr (
         several_may caller kept what colours text asks a.2.begins.several,
-        ap (λ (k : Kept). k.rows) a.3 ∙ ap (λ n. n + 1) (points_rows caller.own kept points),
+        ap (λ (k : Kept). k.rows) a.3 ∙ ap (λ n. n + 1) (points_leave caller.own kept points).rows,
       )
 
   unshown_begins : (stamp : ℕ) (after : Kept)

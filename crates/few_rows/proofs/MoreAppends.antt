@@ -1,13 +1,11 @@
 -- What an append or a stop says of a log to a client, it says too where the client may begin more rows.
 use Rattle.std.proofs.Common.{ℕ, ◌≤◌, List, [], ◌∷◌, Option, Some, None, arith}
-use Rattle.log_node.specs.declared.node.At.{At}
-use Rattle.log_node.specs.declared.node.At.TheVariants.{Event, Look}
 use Rattle.log_node.specs.declared.node.Node.{Node}
 use Rattle.col_core.specs.Log.{Log}
 use Rattle.col_core.specs.Keeping.{Kept}
 use Rattle.report_text.specs.declared.report.PointPiece.{PointPiece}
 use Rattle.lawful_run.specs.Callers.{Caller}
-use Rattle.lawful_run.specs.Appends.{AppendsOne, HadNoStamp, BeginsRow, EntersAt, StandsAt, AppendsSeveral, Appends, AppendsUnshown, one_unshown, several_unshown, IsGoneAtEnd, HasNoStamp, none_for_one, none_for_several, IsSettledIn, IsSettled, IsGoneForMemory}
+use Rattle.lawful_run.specs.Appends.{AppendsOne, HadNoStamp, BeginsRow, StandsAt, AppendsSeveral, Appends, AppendsUnshown, one_unshown, several_unshown, IsGoneAtEnd, HasNoStamp, none_for_one, none_for_several, IsGoneForMemory}
 use Rattle.lawful_run.specs.Stops.{Stops, stopped_at_once, stopped_after}
 use Rattle.few_rows.proofs.MoreFacts.{limited}
 
@@ -45,15 +43,10 @@ module _ (log : Log) (caller : Caller) (rows : ℕ) (few : rows ≤ caller.rows)
     steps = b.steps;
   }
 
-  enters_more : (node : Node) (colour : ℕ) (at : At) → EntersAt log (limited caller rows) kept node colour at
-      → EntersAt log caller kept node colour at
-  enters_more node colour (Event place) e = e
-  enters_more node colour (Look events) e = e
-
   stands_more : (node : Node) (stamp : ℕ) (point : PointPiece)
       → StandsAt log (limited caller rows) kept node stamp point → StandsAt log caller kept node stamp point
   stands_more node stamp point s = record {
-    entered = enters_more node point.colour point.at s.entered;
+    entered = s.entered;
     stands = s.stands;
     behind = s.behind;
   }
@@ -86,27 +79,13 @@ module _ (log : Log) (caller : Caller) (rows : ℕ) (few : rows ≤ caller.rows)
   unshown_more node stamp after (several_unshown places begins outcome stand above) =
       several_unshown places (begins_more node places begins) outcome stand above
 
-  settled_more : (node : Node) (colour : ℕ) → IsSettledIn log (limited caller rows) node colour
-      → IsSettledIn log caller node colour
-  settled_more node colour s = record {
-    events = s.events;
-    there = s.there;
-    not_open = s.not_open;
-    for_good = s.for_good;
-  }
-
-  all_settled_more : (node : Node) → IsSettled log (limited caller rows) node → IsSettled log caller node
-  all_settled_more node s = λ k d lt. settled_more node _ (s k d lt)
-
   at_end_more : (node : Node) (colour : ℕ) (places : ℕ → List ℕ)
       → IsGoneAtEnd log (limited caller rows) kept node colour places
       → IsGoneAtEnd log caller kept node colour places
   at_end_more node colour places g = record {
     begins = begins_more node places g.begins;
-    outcome = g.outcome;
-    fence = g.fence;
-    least = g.least;
-    settled = all_settled_more node g.settled;
+    ends = g.ends;
+    settled = g.settled;
   }
 
   pub has_no_stamp_more : (node : Node) (colour : ℕ) (after : Kept)
@@ -122,7 +101,7 @@ module _ (log : Log) (caller : Caller) (rows : ℕ) (few : rows ≤ caller.rows)
     begins = begins_more node places s.begins;
     marked = s.marked;
     decided = s.decided;
-    settled = λ k colour at within. settled_more node colour (s.settled k colour at within);
+    settled = s.settled;
     no_later = s.no_later;
   })
 
@@ -131,5 +110,5 @@ module _ (log : Log) (caller : Caller) (rows : ℕ) (few : rows ≤ caller.rows)
   for_memory_more node places g = record {
     begins = begins_more node places g.begins;
     outcome = g.outcome;
-    settled = all_settled_more node g.settled;
+    settled = g.settled;
   }

@@ -8,8 +8,8 @@ use Rattle.script_text.specs.declared.uses.Use.{Use}
 use Rattle.script_text.specs.declared.uses.Use.TheVariants.{OfLog, OfObject}
 use Rattle.script_text.specs.Uses.{use_of}
 use Rattle.lawful_run.specs.Callers.{Caller}
-use Rattle.lawful_run.specs.Asks.{object_colours, object_home, kind_in, home_asked}
-use Rattle.lawful_run.specs.Deeds.{colours_reached, deed_of, colours_synced, saying_of, found_by, Says, AsksToAppend}
+use Rattle.lawful_run.specs.Asks.{object_colours, object_home, kind_used, home_asked}
+use Rattle.lawful_run.specs.Deeds.{colours_reached, deed_of, colours_synced, saying_of, found_by, SaysNode, AsksToAppend}
 use Rattle.lawful_run.specs.Refusals.{IsAway}
 
 -- the client, where it may begin so many rows
@@ -17,7 +17,7 @@ abbrev pub limited : Caller → ℕ → Caller
 limited caller rows = record caller { rows = rows }
 
 module _ (caller : Caller) (rows : ℕ) where
-  kind_same : (u : Use) → kind_in (limited caller rows) u ≡ kind_in caller u
+  kind_same : (u : Use) → kind_used (limited caller rows) u ≡ kind_used caller u
   kind_same (OfLog stops) = refl
   kind_same (OfObject object read) = refl
 
@@ -31,7 +31,7 @@ module _ (caller : Caller) (rows : ℕ) where
   pub asks_more : (kept : Kept) (what : What) (colours : Colours) (text : List ℕ)
       → AsksToAppend (limited caller rows) kept what colours text → AsksToAppend caller kept what colours text
   asks_more kept what colours text =
-      subst (λ (k : Option Kind). Says (object_colours k) (saying_of k (found_by (use_of what) kept) what) colours
+      subst (λ (k : Option Kind). SaysNode (object_colours k) (saying_of k (found_by (use_of what) kept) what) colours
       text) (kind_same (use_of what))
 
   away_from : (home : Option ℕ) → IsAway caller home → IsAway (limited caller rows) home

@@ -14,7 +14,7 @@ use Rattle.report_text.specs.declared.report.RaisePiece.{RaisePiece}
 use Rattle.report_text.specs.declared.report.SyncPiece.{SyncPiece}
 use Rattle.lawful_run.specs.Callers.{Caller}
 use Rattle.lawful_run.specs.Asks.{Manner, Appending, Stopping, Syncing, Moving, Getting, Reading, Committing, Dequeuing}
-use Rattle.lawful_run.specs.Reads.{Syncs, ShowsNode, ShowsPlayed, kept_after_piece, IsTrimmed, RaisesAt, kept_after_place, Raises, ClearSyncs, ReadsAt, HidesSync, not_played, played, HidesSyncs, HidesRead, RefusesRead}
+use Rattle.lawful_run.specs.Reads.{Syncs, ShowsNode, ShowsPlayed, kept_after_piece, IsTrimmed, RaisesClock, kept_after_place, Raises, ClearSyncs, ReadsAt, HidesSync, not_played, played, HidesSyncs, HidesRead, RefusesRead}
 use Rattle.lawful_run.specs.Refusals.{Hides, Refuses}
 use Rattle.few_rows.proofs.MoreFacts.{limited}
 use Rattle.log_node.proofs.CallerLemmas.{all_zip_of}
@@ -59,8 +59,8 @@ module _ (log : Log) (caller : Caller) (rows : ℕ) where
     below = t.below;
   }
 
-  raise_more : (kept : Kept) (stamp colour : ℕ) (at : At) → RaisesAt log (limited caller rows) kept stamp colour at
-      → RaisesAt log caller kept stamp colour at
+  raise_more : (kept : Kept) (stamp colour : ℕ) (at : At) → RaisesClock log (limited caller rows) kept stamp colour at
+      → RaisesClock log caller kept stamp colour at
   raise_more kept stamp colour (Event place) r = r
   raise_more kept stamp colour (Look events) r = r
 

@@ -23,13 +23,13 @@ use Rattle.report_text.specs.declared.report.ReplyLine.{ReplyLine}
 use Rattle.report_text.specs.declared.report.SyncPiece.{SyncPiece}
 use Rattle.lawful_run.specs.Callers.{Caller, node_of}
 use Rattle.lawful_run.specs.Deeds.{AsksToAppend, colours_synced, manner_of}
-use Rattle.lawful_run.specs.Appends.{IsFull}
+use Rattle.lawful_run.specs.Appends.{HasNoRowLeft}
 use Rattle.lawful_run.specs.Reads.{ReadsAt}
-use Rattle.lawful_run.specs.Moves.{CarriesAt, Pulls, OnlyGives, Trims}
-use Rattle.lawful_run.specs.Objects.{GetsValue, GetsValues, Takes}
+use Rattle.lawful_run.specs.Moves.{CarriesNodes, Pulls, OnlyGives, Trims}
+use Rattle.lawful_run.specs.Objects.{GetsValue, GetsValues, TakesFront}
 use Rattle.lawful_run.specs.Shapes.{TellsBehind, TellsRead}
 use Rattle.lawful_run.specs.Refusals.{Hides, Refuses, FindsNoMemory, nothing, gone, gave, hidden, kept_before}
-use Rattle.lawful_run.specs.Explains.{Explains, Answers, Explained, ShowsKeys, ShowsVerdict, start, next}
+use Rattle.lawful_run.specs.Explains.{Explains, Answers, Explained, AnswersKeys, ShowsVerdict, start, next}
 use Rattle.script_beside.specs.Begins.{may_begin, begins_in}
 use Rattle.few_rows.proofs.Begins.{several_may, before_rows, one_that_begins, no_fewer, begun_rows}
 use Rattle.few_rows.proofs.MoreFacts.{limited, home_same, synced_same, asks_more, away_fewer}
@@ -38,8 +38,8 @@ use Rattle.few_rows.proofs.MoreAppends.{append_more, unshown_more, has_no_stamp_
 
 module _ (log : Log) (caller : Caller) (rows : ℕ) (few : rows ≤ caller.rows) where
   carries_more : (kept : Kept) (region colour nodes : ℕ) (at : At)
-      → CarriesAt log (limited caller rows) kept region colour nodes at
-      → CarriesAt log caller kept region colour nodes at
+      → CarriesNodes log (limited caller rows) kept region colour nodes at
+      → CarriesNodes log caller kept region colour nodes at
   carries_more kept region colour nodes (Event place) c = c
   carries_more kept region colour nodes (Look events) c = c
 
@@ -82,15 +82,15 @@ module _ (log : Log) (caller : Caller) (rows : ℕ) (few : rows ≤ caller.rows)
       → GetsValues log (limited caller rows) sync key values → GetsValues log caller sync key values
   gets_values_more sync key values g = record { nodes = g.nodes; played = g.played; answer = g.answer }
 
-  takes_more : (point : PointPiece) (value : Value) → Takes log (limited caller rows) point value
-      → Takes log caller point value
+  takes_more : (point : PointPiece) (value : Value) → TakesFront log (limited caller rows) point value
+      → TakesFront log caller point value
   takes_more point value t = record { nodes = t.nodes; before = t.before; value_is = t.value_is }
 
   -- ANSWERS
   -- where a row is left for what may begin one, no append finds that all are begun
   never_full : (kept : Kept) (what : What) (colours : Colours) (text : List ℕ) (used : ℕ)
       → (may_begin what ≡ true → kept.rows < rows) → AsksToAppend (limited caller rows) kept what colours text
-      → IsFull (limited caller rows) kept colours used → ⊥
+      → HasNoRowLeft (limited caller rows) kept colours used → ⊥
   never_full kept what colours text used left asks full =
       let l = left (several_may (limited caller rows) kept what colours text asks full.several) in
       let all = full.all in
@@ -233,7 +233,7 @@ module _ (log : Log) (caller : Caller) (rows : ℕ) (few : rows ≤ caller.rows)
     e.7,
   )
   explains_more kept what (answers.GotKeys stamp shown raises syncs) nodes after left e =
-      (e.0, e.1, tells_read_more kept what stamp raises syncs (ShowsKeys caller what shown e.1 after) e.1 e.2)
+      (e.0, e.1, tells_read_more kept what stamp raises syncs (AnswersKeys caller what shown e.1 after) e.1 e.2)
   explains_more kept what (answers.Ruled conflict stamp row points read_stamp raises syncs) nodes after left e =
       (e.0, tells_behind_more kept what row points read_stamp raises syncs (ShowsVerdict conflict stamp) after e.1)
   explains_more kept what answers.NoTx nodes after left e = e

@@ -8,7 +8,7 @@ use Rattle.report_text.specs.declared.report.ColumnReport.{ColumnReport}
 use Rattle.report_text.specs.declared.report.RowReport.{RowReport}
 use Rattle.report_text.specs.declared.report.Report.{Report}
 use Rattle.lawful_run.specs.Callers.{caller_of, commands_of}
-use Rattle.lawful_run.specs.Columns.{IsColumnReport, AreColumns, AreRows}
+use Rattle.lawful_run.specs.Columns.{IsColumnReport, AreColumns, AreRowReports}
 use Rattle.lawful_run.specs.Lawful.{IsClientRun, LeavesOpen, LawfulRun}
 use Rattle.script_beside.specs.Begins.{begins_in}
 use Rattle.few_rows.specs.Needs.{with_rows, AreEnough}
@@ -42,8 +42,8 @@ module _ (script : Script) (rows : ℕ) where
       → AreColumns log script columns
   columns_more log columns c = record { all = c.all; each = λ k d lt. column_more log _ (c.each k d lt) }
 
-  rows_more : (log : Log) (reports : List RowReport) → AreRows log (with_rows script rows) reports
-      → AreRows log script reports
+  rows_more : (log : Log) (reports : List RowReport) → AreRowReports log (with_rows script rows) reports
+      → AreRowReports log script reports
   rows_more log reports r = record {
     all = r.all;
     by_client = r.by_client;

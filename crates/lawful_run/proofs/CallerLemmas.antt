@@ -1,4 +1,5 @@
 -- What callers may cite of this crate's proofs; all else there is private.
+pub use Rattle.lawful_run.proofs.AppendFacts.{enters_after, enters_within, enters_lower, past_within, PointsLeave, points_leave, settled_by_now, unshown_too}
 pub use Rattle.lawful_run.proofs.HiddenReads.{kept_after_hidden, hides_more, hides_one_more, hides_none}
 pub use Rattle.lawful_run.proofs.HiddenReads.{hides_without}
 pub use Rattle.lawful_run.proofs.Later.{explained_later}
@@ -9,4 +10,5 @@ pub use Rattle.lawful_run.proofs.Prefixes.{get-append, get_within, prefix_get, p
 pub use Rattle.lawful_run.proofs.ObjectAnswers.{explains_append, explains_get, explains_values, explains_get_trimmed, explains_get_without}
 pub use Rattle.lawful_run.proofs.ObjectAnswers.{explains_take, explains_unread, explains_unread_without, explains_away, one_shard}
 pub use Rattle.lawful_run.proofs.ObjectAnswers.{explains_read, explains_verdict, explains_unruled, explains_unruled_without, explains_no_read}
+pub use Rattle.lawful_run.proofs.Places.{more_places, range_more, same_places}
 pub use Rattle.lawful_run.proofs.ReadsKept.{explained_ids, explained_keeps, reads_keep}

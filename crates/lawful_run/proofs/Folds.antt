@@ -33,7 +33,7 @@ use Rattle.report_text.specs.declared.report.ClientReport.{ClientReport}
 use Rattle.report_text.specs.declared.report.Report.{Report}
 use Rattle.lawful_run.specs.Callers.{caller_of, commands_of, node_of}
 use Rattle.lawful_run.specs.Deeds.{AsksToAppend}
-use Rattle.lawful_run.specs.Reads.{Syncs, ShowsKey, ReadsAt, AreRead}
+use Rattle.lawful_run.specs.Reads.{Syncs, ShowsKey, ReadsAt, AreKeysRead}
 use Rattle.lawful_run.specs.Objects.{IsObjectNode, AreObjectNodes, own_played, shown_verdict}
 use Rattle.lawful_run.specs.Refusals.{kept_before}
 use Rattle.lawful_run.specs.Explains.{Explains}
@@ -202,7 +202,7 @@ module _ (script : Script) (report : Report) (fits : IsFitting script) (run : La
   -- the order of a stamped read is that of the closing lines
   read_order : (client : ℕ) (kept : Kept) (colours : List ℕ) (stamp : ℕ) (raises : List RaisePiece)
       (syncs : List SyncPiece) (after : Kept) (keys : List Key)
-      → ReadsAt run.log (caller_of script client) kept colours stamp raises syncs after → AreRead run.log
+      → ReadsAt run.log (caller_of script client) kept colours stamp raises syncs after → AreKeysRead run.log
       (caller_of script client) stamp syncs keys
       → (lines : List (List Key)) → AreClosing report (caller_of script client).own syncs lines
       → IsRegionOrder lines stamp keys

@@ -30,19 +30,19 @@ use Rattle.lawful_run.specs.Callers.{Caller, node_of}
 use Rattle.lawful_run.specs.Deeds.{colours_synced, manner_of}
 use Rattle.lawful_run.specs.Appends.{Appends}
 use Rattle.lawful_run.specs.Reads.{ShowsKey, events_until}
-use Rattle.lawful_run.specs.Moves.{GivesAt, AsksFor, GivesHeld, GivesTooLow, CarriesAt, Pulls, OnlyGives, Trims}
-use Rattle.lawful_run.specs.Objects.{AreObjectNodes, own_played, GetsValue, Takes, places_within, IsChainNode, GetsValues}
+use Rattle.lawful_run.specs.Moves.{GivesFrom, AsksFor, GivesHeld, GivesTooLow, CarriesNodes, Pulls, OnlyGives, Trims}
+use Rattle.lawful_run.specs.Objects.{AreObjectNodes, own_played, GetsValue, TakesFront, places_within, IsChainNode, GetsValues}
 use Rattle.lawful_run.specs.Shapes.{TellsBehind, TellsRead}
 use Rattle.lawful_run.specs.Refusals.{FindsNoMemory, nothing, gone, gave, hidden, kept_before}
-use Rattle.lawful_run.specs.Explains.{Explains, Answers, Explained, ShowsKeys, ShowsVerdict, start, next}
+use Rattle.lawful_run.specs.Explains.{Explains, Answers, Explained, AnswersKeys, ShowsVerdict, start, next}
 use Rattle.lawful_run.proofs.Prefixes.{prefix_take, get_within}
 use Rattle.lawful_run.proofs.LaterFacts.{all_zip_of, all_of, first_same, taken_same, still_there, entry_later, place_there, text_later, objects_later}
 use Rattle.lawful_run.proofs.LaterAppends.{append_later, unshown_later, has_no_stamp_later, stops_later, for_memory_later}
 use Rattle.lawful_run.proofs.LaterReads.{syncs_later, played_later, piece_same, read_later, keys_later, shows_key_later, hides_later, refuses_later}
 
 module _ (old new : Log) (later : IsLater old new) (caller : Caller) where
-  gives_later : (region colour place from : ℕ) → GivesAt old caller region colour place from
-      → GivesAt new caller region colour place from
+  gives_later : (region colour place from : ℕ) → GivesFrom old caller region colour place from
+      → GivesFrom new caller region colour place from
   gives_later region colour place from g = entry_later old new later region colour place _ g
 
   asks_later : (region colour seen until place from : ℕ) → place ≤ length (old.histories region colour)
@@ -84,14 +84,14 @@ module _ (old new : Log) (later : IsLater old new) (caller : Caller) where
       )
 
   carries_later : (kept : Kept) (region colour nodes : ℕ) (at : At)
-      → CarriesAt old caller kept region colour nodes at → CarriesAt new caller kept region colour nodes at
+      → CarriesNodes old caller kept region colour nodes at → CarriesNodes new caller kept region colour nodes at
   carries_later kept region colour nodes (Event place) c =
       (c.0, c.1, c.2, entry_later old new later caller.own colour place _ c.3, c.4)
   carries_later kept region colour nodes (Look events) c =
       (c.0, still_there old new later caller.own colour events c.1, c.2)
 
   -- what a carry looked at, and what it has seen, were there
-  carry_there : (kept : Kept) (region colour nodes : ℕ) (at : At) → CarriesAt old caller kept region colour nodes at
+  carry_there : (kept : Kept) (region colour nodes : ℕ) (at : At) → CarriesNodes old caller kept region colour nodes at
       → (events_until at ≤ length (old.histories caller.own colour))
       × (seen_after at ≤ length (old.histories caller.own colour))
   carry_there kept region colour nodes (Event place) c =
@@ -186,8 +186,8 @@ module _ (old new : Log) (later : IsLater old new) (caller : Caller) where
   }
 
   takes_later : (point : PointPiece) (value : Value)
-      → point.position ≤ length (line (old.histories caller.own point.colour)) → Takes old caller point value
-      → Takes new caller point value
+      → point.position ≤ length (line (old.histories caller.own point.colour)) → TakesFront old caller point value
+      → TakesFront new caller point value
   takes_later point value there t = record {
     nodes = t.nodes;
     before = subst (λ (keys : List Key). AreObjectNodes new keys t.nodes)
@@ -319,7 +319,7 @@ module _ (old new : Log) (later : IsLater old new) (caller : Caller) where
     e.7 ∙ sym (piece_same old new later caller kept sync e.5.there),
   )
   explains_later kept what (answers.GotKeys stamp shown raises syncs) nodes after e =
-      (e.0, e.1, tells_read_later kept what stamp raises syncs (ShowsKeys caller what shown e.1 after) e.1 e.2)
+      (e.0, e.1, tells_read_later kept what stamp raises syncs (AnswersKeys caller what shown e.1 after) e.1 e.2)
   explains_later kept what (answers.Ruled conflict stamp row points read_stamp raises syncs) nodes after e =
       (e.0, tells_behind_later kept what row points read_stamp raises syncs (ShowsVerdict conflict stamp) after e.1)
   explains_later kept what answers.NoTx nodes after e = e

@@ -1,5 +1,5 @@
 -- What an append or a stop says of a log, a later log says as well.
-use Rattle.std.proofs.Common.{◌≡◌, ℕ, List, [], ◌∷◌, take, Option, Some, None, sym, subst, ◌∙◌, inl, inr, ◌⊎◌}
+use Rattle.std.proofs.Common.{ℕ, List, [], ◌∷◌, take, Option, Some, None, sym, subst, ◌∙◌, inl, inr, ◌⊎◌}
 use Rattle.std.specs.Prelude.{IsTrue}
 use Rattle.log_node.specs.declared.node.At.{At}
 use Rattle.log_node.specs.declared.node.At.TheVariants.{Event, Look}
@@ -8,16 +8,16 @@ use Rattle.log_node.specs.Sets.{members}
 use Rattle.log_node.specs.declared.marks.Why.{Why}
 use Rattle.log_node.specs.declared.marks.Why.TheVariants.{Memory, StampEnd}
 use Rattle.log_node.specs.declared.marks.Mark.TheVariants as marks
-use Rattle.log_node.specs.Standings.{open_entry}
 use Rattle.log_node.specs.declared.marks.Outcome.TheVariants.{Gone}
 use Rattle.col_core.specs.declared.Entry.{Entry}
-use Rattle.col_core.specs.History.{IsAtEnd, entries, has_entered}
+use Rattle.col_core.specs.History.{IsAtEnd, has_entered}
 use Rattle.col_core.specs.Log.{Log, IsLater, HasMark}
+use Rattle.col_core.specs.Appending.{EntersBehind, IsClosedFor}
 use Rattle.col_core.specs.Keeping.{Kept}
 use Rattle.report_text.specs.declared.report.PointPiece.{PointPiece}
 use Rattle.col_core.proofs.CallerLemmas.{mark_stays, outcome_stays}
 use Rattle.lawful_run.specs.Callers.{Caller}
-use Rattle.lawful_run.specs.Appends.{AppendsOne, HadNoStamp, AreSteps, BeginsRow, EntersAt, StandsAt, AppendsSeveral, Appends, AppendsUnshown, one_unshown, several_unshown, IsGoneAtEnd, HasNoStamp, none_for_one, none_for_several, IsSettledIn, IsSettled, IsGoneForMemory}
+use Rattle.lawful_run.specs.Appends.{AppendsOne, HadNoStamp, AreSteps, BeginsRow, StandsAt, AppendsSeveral, Appends, AppendsUnshown, one_unshown, several_unshown, IsGoneAtEnd, HasNoStamp, none_for_one, none_for_several, IsSettledIn, IsSettled, IsGoneForMemory}
 use Rattle.lawful_run.specs.Stops.{Stops, stopped_at_once, stopped_after}
 use Rattle.lawful_run.proofs.Prefixes.{prefix_get}
 use Rattle.lawful_run.proofs.LaterFacts.{all_of, taken_same, still_there, entry_later, line_later, final_later}
@@ -61,17 +61,18 @@ module _ (old new : Log) (later : IsLater old new) (caller : Caller) (kept : Kep
     steps = steps_later node places b.steps;
   }
 
-  pub enters_later : (node : Node) (colour : ℕ) (at : At) → EntersAt old caller kept node colour at
-      → EntersAt new caller kept node colour at
-  enters_later node colour (Event place) e =
+  pub enters_later : (unseen : ℕ) (node : Node) (colour : ℕ) (at : At)
+      → EntersBehind unseen (old.histories caller.own colour) caller.client node colour at
+      → EntersBehind unseen (new.histories caller.own colour) caller.client node colour at
+  enters_later unseen node colour (Event place) e =
       (e.0, e.1, entry_later old new later caller.own colour place e.1 e.2, e.3, e.4)
-  enters_later node colour (Look events) e =
+  enters_later unseen node colour (Look events) e =
       (e.0, still_there old new later caller.own colour events e.1, e.2, e.3, e.4, entry_later old new later caller.own colour e.2 e.4 e.5, e.6, e.7)
 
   pub stands_later : (node : Node) (stamp : ℕ) (point : PointPiece) → StandsAt old caller kept node stamp point
       → StandsAt new caller kept node stamp point
   stands_later node stamp point s = record {
-    entered = enters_later node point.colour point.at s.entered;
+    entered = enters_later (kept.seen caller.own point.colour) node point.colour point.at s.entered;
     stands = line_later old new later caller.own point.colour point.position _ s.stands;
     behind = s.behind;
   }
@@ -106,20 +107,19 @@ module _ (old new : Log) (later : IsLater old new) (caller : Caller) (kept : Kep
 
   pub settled_later : (node : Node) (colour : ℕ) → IsSettledIn old caller node colour
       → IsSettledIn new caller node colour
-  settled_later node colour s = record {
-    events = s.events;
-    there = still_there old new later caller.own colour s.events s.there;
-    not_open = subst (λ (events : List Entry). open_entry node.id (entries events) ≡ None)
-        (sym (taken_same old new later caller.own colour s.events s.there)) s.not_open;
-    for_good = good s.for_good;
-  } where
+  settled_later node colour s = (
+    s.0,
+    still_there old new later caller.own colour s.0 s.1,
+    subst (λ (history : List Entry). IsClosedFor new history node colour)
+        (sym (taken_same old new later caller.own colour s.0 s.1))
+        (record { not_open = s.2.not_open; for_good = good s.2.for_good }),
+  ) where
     good : ((why : Why) × HasMark old node colour (marks.Fenced why))
-        ⊎ IsTrue (has_entered node.id (take s.events (old.histories caller.own colour)))
+        ⊎ IsTrue (has_entered node.id (take s.0 (old.histories caller.own colour)))
         → ((why : Why) × HasMark new node colour (marks.Fenced why))
-        ⊎ IsTrue (has_entered node.id (take s.events (new.histories caller.own colour)))
+        ⊎ IsTrue (has_entered node.id (take s.0 (old.histories caller.own colour)))
     good (inl m) = inl (m.0, mark_stays old new later node colour (marks.Fenced m.0) (λ e. absurd cc) m.1)
-    good (inr e) = inr (subst (λ (events : List Entry). IsTrue (has_entered node.id events))
-        (sym (taken_same old new later caller.own colour s.events s.there)) e)
+    good (inr e) = inr e
 
   pub all_settled_later : (node : Node) → IsSettled old caller node → IsSettled new caller node
   all_settled_later node s = all_of (IsSettledIn old caller node) (IsSettledIn new caller node) (settled_later node)
@@ -129,10 +129,12 @@ module _ (old new : Log) (later : IsLater old new) (caller : Caller) (kept : Kep
       → IsGoneAtEnd old caller kept node colour places → IsGoneAtEnd new caller kept node colour places
   at_end_later node colour places g = record {
     begins = begins_later node places g.begins;
-    outcome = outcome_stays old new later node (Gone StampEnd) (λ e. absurd cc) g.outcome;
-    fence = mark_stays old new later node colour (marks.Fenced StampEnd) (λ e. absurd cc) g.fence;
-    least = λ k d lt below. let l = g.least k d lt below in
-        (l.0, l.1, l.2, mark_stays old new later node _ l.0 l.1 l.3);
+    ends = record {
+      outcome = outcome_stays old new later node (Gone StampEnd) (λ e. absurd cc) g.ends.outcome;
+      fence = mark_stays old new later node colour (marks.Fenced StampEnd) (λ e. absurd cc) g.ends.fence;
+      least = λ k d lt below. let l = g.ends.least k d lt below in
+          (l.0, l.1, l.2, mark_stays old new later node _ l.0 l.1 l.3);
+    };
     settled = all_settled_later node g.settled;
   }
 

@@ -20,7 +20,7 @@ use Rattle.report_text.specs.declared.report.SyncPiece.{SyncPiece}
 use Rattle.col_core.specs.RegionOrder.{IsRegionOrder, IsClearUpTo}
 use Rattle.lawful_run.specs.Callers.{Caller}
 use Rattle.lawful_run.specs.Asks.{Manner, Appending, Stopping, Syncing, Moving, Getting, Reading, Committing, Dequeuing}
-use Rattle.lawful_run.specs.Reads.{Syncs, ShowsNode, ShowsPlayed, played_stamp, kept_after_piece, IsTrimmed, RaisesAt, kept_after_place, Raises, ClearSyncs, events_until, IsReadStamp, IsAboveClocks, ReadsAt, lines_read, AreRead, ShowsKey, HidesSync, not_played, played, HidesSyncs, HidesRead, RefusesRead}
+use Rattle.lawful_run.specs.Reads.{Syncs, ShowsNode, ShowsPlayed, greatest_played, kept_after_piece, IsTrimmed, RaisesClock, kept_after_place, Raises, ClearSyncs, events_until, IsReadStamp, IsAboveClocks, ReadsAt, lines_read, AreKeysRead, ShowsKey, HidesSync, not_played, played, HidesSyncs, HidesRead, RefusesRead}
 use Rattle.lawful_run.specs.Refusals.{Hides, Refuses}
 use Rattle.lawful_run.proofs.LaterFacts.{all_zip_of, first_same, taken_same, still_there, entry_later, place_there, text_later}
 
@@ -61,7 +61,7 @@ module _ (old new : Log) (later : IsLater old new) (caller : Caller) where
 
   pub stamp_same : (kept : Kept) (colour events : ℕ) (snapshot : Counts)
       → events ≤ length (old.histories caller.own colour)
-      → played_stamp new caller kept colour events snapshot ≡ played_stamp old caller kept colour events snapshot
+      → greatest_played new caller kept colour events snapshot ≡ greatest_played old caller kept colour events snapshot
   stamp_same kept colour events snapshot there = ap
       (λ (h : List Dated). greatest_between (chain caller.own h) (kept.starts colour) snapshot)
       (first_same old new later caller.own colour events there)
@@ -82,8 +82,8 @@ module _ (old new : Log) (later : IsLater old new) (caller : Caller) where
     below = t.below;
   }
 
-  pub raise_later : (kept : Kept) (stamp colour : ℕ) (at : At) → RaisesAt old caller kept stamp colour at
-      → RaisesAt new caller kept stamp colour at
+  pub raise_later : (kept : Kept) (stamp colour : ℕ) (at : At) → RaisesClock old caller kept stamp colour at
+      → RaisesClock new caller kept stamp colour at
   raise_later kept stamp colour (Event place) r =
       let l = place_there old new later caller.own colour place _ r.2 in (
         r.0,
@@ -113,7 +113,7 @@ module _ (old new : Log) (later : IsLater old new) (caller : Caller) where
   )
 
   -- the events before a raise were there
-  pub raise_there : (kept : Kept) (stamp colour : ℕ) (at : At) → RaisesAt old caller kept stamp colour at
+  pub raise_there : (kept : Kept) (stamp colour : ℕ) (at : At) → RaisesClock old caller kept stamp colour at
       → events_until at ≤ length (old.histories caller.own colour)
   raise_there kept stamp colour (Event place) r = let l =
       place_there old new later caller.own colour place _ r.2 in omega (arith, l)
@@ -195,7 +195,7 @@ module _ (old new : Log) (later : IsLater old new) (caller : Caller) where
 
   pub keys_later : (kept : Kept) (colours : List ℕ) (stamp : ℕ) (raises : List RaisePiece) (syncs : List SyncPiece)
       (after : Kept) (keys : List Key) → ReadsAt old caller kept colours stamp raises syncs after
-      → AreRead old caller stamp syncs keys → AreRead new caller stamp syncs keys
+      → AreKeysRead old caller stamp syncs keys → AreKeysRead new caller stamp syncs keys
   keys_later kept colours stamp raises syncs after keys r a =
       subst (λ (ls : List (List Key)). IsRegionOrder ls stamp keys)
       (sym (lines_same stamp r.raised syncs r.synced r.syncing)) a

@@ -14,8 +14,8 @@ use Rattle.script_text.specs.declared.uses.Use.{Use}
 use Rattle.script_text.specs.declared.uses.Use.TheVariants.{OfObject}
 use Rattle.script_text.specs.Uses.{use_of}
 use Rattle.lawful_run.specs.Callers.{Caller}
-use Rattle.lawful_run.specs.Asks.{object_colours, colours_of, kind_asked, keys_of, shards}
-use Rattle.lawful_run.specs.Deeds.{saying_of, found_by, Says, AsksToAppend}
+use Rattle.lawful_run.specs.Asks.{object_colours, colours_of_object, kind_asked, keys_of_pairs, shards}
+use Rattle.lawful_run.specs.Deeds.{saying_of, found_by, SaysNode, AsksToAppend}
 use Rattle.lawful_run.specs.Refusals.{before_by, behind_by, kept_before, kept_behind}
 
 pub before_is : (P : Kept → Type 0) (what : What) (kept : Kept) → P kept →
@@ -38,7 +38,7 @@ behind_is P what kept p r = by (use_of what) where
 pub asks_before : (caller : Caller) (what : What) (kept : Kept) (colours : Colours) (text : List ℕ)
     → AsksToAppend caller (kept_before what kept) what colours text → AsksToAppend caller kept what colours text
 asks_before caller what kept colours text =
-    subst (λ (found : Option (List Version)). Says (object_colours (kind_asked caller what))
+    subst (λ (found : Option (List Version)). SaysNode (object_colours (kind_asked caller what))
     (saying_of (kind_asked caller what) found what) colours text) (by (use_of what)) where
       by : (u : Use) → found_by u (before_by u kept) ≡ found_by u kept
       by (OfObject object Takes) = refl
@@ -48,10 +48,10 @@ asks_before caller what kept colours text =
 -- what a commit asks, over what the last read of its object found
 pub commit_asks : (caller : Caller) (kept : Kept) (object : ℕ) (pairs : List Pair) (versions : List Version)
     (colours : Colours) (text : List ℕ) → kept.reads object ≡ Some versions
-    → members colours ≡ shards (colours_of caller object) (map (λ (v : Version). v.key) versions ++ keys_of pairs)
+    → members colours ≡ shards (colours_of_object caller object) (map (λ (v : Version). v.key) versions ++ keys_of_pairs pairs)
     → text ≡ form_text (forms.Transaction versions pairs)
     → AsksToAppend caller kept (whats.Commit object pairs) colours text
 commit_asks caller kept object pairs versions colours text found shown said =
-    subst (λ (f : Option (List Version)). Says (colours_of caller object)
+    subst (λ (f : Option (List Version)). SaysNode (colours_of_object caller object)
     (saying_of (kind_asked caller (whats.Commit object pairs)) f (whats.Commit object pairs)) colours text)
     (sym found) (shown, said)

@@ -1,5 +1,6 @@
 mod Prefixes
 mod LaterFacts
+mod AppendFacts
 mod LaterAppends
 mod LaterReads
 mod HiddenReads
@@ -26,4 +27,5 @@ mod Folds
 mod CausalGets
 mod ReadsKept
 mod ObjectAnswers
+mod Places
 pub mod CallerLemmas

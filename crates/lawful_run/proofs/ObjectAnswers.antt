@@ -25,11 +25,11 @@ use Rattle.report_text.specs.declared.report.PointPiece.{PointPiece}
 use Rattle.report_text.specs.declared.report.RaisePiece.{RaisePiece}
 use Rattle.report_text.specs.declared.report.SyncPiece.{SyncPiece}
 use Rattle.lawful_run.specs.Callers.{Caller, node_of}
-use Rattle.lawful_run.specs.Asks.{kind_of, object_colours, colours_of, home_of, home_asked, rising, shards, Appending, Getting, Committing, Dequeuing, Manner}
+use Rattle.lawful_run.specs.Asks.{kind_of_object, object_colours, colours_of_object, home_of_object, home_asked, rising, shards, Appending, Getting, Committing, Dequeuing, Manner}
 use Rattle.lawful_run.specs.Deeds.{colours_synced, AsksToAppend, manner_of}
 use Rattle.lawful_run.specs.Appends.{Appends, AppendsUnshown}
-use Rattle.lawful_run.specs.Reads.{Syncs, IsTrimmed, HidesSyncs, kept_after_piece, ReadsAt, AreRead, HidesRead, RefusesRead}
-use Rattle.lawful_run.specs.Objects.{AreObjectNodes, AreAnswers, IsChainNode, GetsValue, GetsValues, Takes, own_played, places_within, shown_verdict}
+use Rattle.lawful_run.specs.Reads.{Syncs, IsTrimmed, HidesSyncs, kept_after_piece, ReadsAt, AreKeysRead, HidesRead, RefusesRead}
+use Rattle.lawful_run.specs.Objects.{AreObjectNodes, AreAnswers, IsChainNode, GetsValue, GetsValues, TakesFront, own_played, places_within, shown_verdict}
 use Rattle.lawful_run.specs.Refusals.{Hides, Refuses, hidden}
 use Rattle.lawful_run.specs.Explains.{Explains}
 
@@ -51,7 +51,7 @@ module _ (log : Log) (caller : Caller) (kept : Kept) where
 
   -- A get of a map is explained by a sync of the key's shard, and the fold of the own nodes that its snapshot counts.
   pub explains_get : (object home : ℕ) (colours key : List ℕ) (sync : SyncPiece) (nodes : List ObjectNode)
-      → kind_of caller object ≡ Some (kinds.Map home colours) → shard_of colours key < MAX_COLOURS
+      → kind_of_object caller object ≡ Some (kinds.Map home colours) → shard_of colours key < MAX_COLOURS
       → sync.colour ≡ shard_of colours key → Syncs log caller kept sync.colour sync.events sync.counts
       → AreObjectNodes log (own_played log caller sync) nodes
       → Explains log caller kept (whats.Get object key)
@@ -72,7 +72,7 @@ module _ (log : Log) (caller : Caller) (kept : Kept) where
 
   -- A get of a causal map is explained by a sync of its colour, and the answer over all nodes that its snapshot counts.
   pub explains_values : (object : ℕ) (key : List ℕ) (sync : SyncPiece) (nodes : List ChainNode)
-      (values : List (List ℕ)) → kind_of caller object ≡ Some (kinds.Causal sync.colour)
+      (values : List (List ℕ)) → kind_of_object caller object ≡ Some (kinds.Causal sync.colour)
       → Syncs log caller kept sync.colour sync.events sync.counts
       → AllZip (IsChainNode log (chain caller.own (first log caller.own sync.colour sync.events)))
       (places_within sync.counts) nodes
@@ -108,7 +108,7 @@ module _ (log : Log) (caller : Caller) (kept : Kept) where
       (sync : SyncPiece) (value : Value) (stood : Kept) → manner_of what ≡ Dequeuing → sync.colour ≡ point.colour
       → AsksToAppend caller kept what colours text
       → Appends log caller kept (node_of caller kept colours text) stamp None (point ∷ []) stood
-      → Syncs log caller stood sync.colour sync.events sync.counts → Takes log caller point value
+      → Syncs log caller stood sync.colour sync.events sync.counts → TakesFront log caller point value
       → Explains log caller kept what (answers.Took value point sync) [] (kept_after_piece log caller stood sync)
   explains_take what colours text stamp point sync value stood dequeuing same asks appends syncs takes =
       (refl, dequeuing, same, (colours, text, asks, (stamp, stood, appends, syncs, takes, refl)))
@@ -159,8 +159,8 @@ module _ (log : Log) (caller : Caller) (kept : Kept) where
   -- A read of a transactional map is explained by its stamped read, and the fold of the nodes that were read.
   pub explains_read : (object : ℕ) (asked : List (List ℕ)) (stamp : ℕ) (shown : List KeyAnswer)
       (raises : List RaisePiece) (syncs : List SyncPiece) (read : Kept) (keys : List Key) (objects : List ObjectNode)
-      → ReadsAt log caller kept (rising (colours_of caller object)) stamp raises syncs read
-      → AreRead log caller stamp syncs keys → AreObjectNodes log keys objects
+      → ReadsAt log caller kept (rising (colours_of_object caller object)) stamp raises syncs read
+      → AreKeysRead log caller stamp syncs keys → AreObjectNodes log keys objects
       → AreAnswers asked (values_after objects asked) shown
       → Explains log caller kept (whats.Read object asked) (answers.GotKeys stamp shown raises syncs) []
       (with_read read object (Some (versions_after objects asked)))
@@ -174,7 +174,7 @@ module _ (log : Log) (caller : Caller) (kept : Kept) where
       → manner_of what ≡ Committing → AsksToAppend caller kept what colours text
       → Appends log caller kept (node_of caller kept colours text) own row points stood
       → ReadsAt log caller stood (colours_synced caller what) read_stamp raises syncs after
-      → AreRead log caller read_stamp syncs keys → AreObjectNodes log keys objects
+      → AreKeysRead log caller read_stamp syncs keys → AreObjectNodes log keys objects
       → verdict_of objects (entry_key own (node_of caller kept colours text).id) ≡ Some (shown_verdict verdict stamp)
       → Explains log caller kept what (answers.Ruled verdict stamp row points read_stamp raises syncs) [] after
   explains_verdict what colours text own stood verdict stamp row points read_stamp raises syncs after keys objects
@@ -224,7 +224,7 @@ module _ (log : Log) (caller : Caller) (kept : Kept) where
   )
 
   -- A commit whose client keeps no read of the object is refused.
-  pub explains_no_read : (object : ℕ) (pairs : List Pair) → home_of caller object ≡ Some caller.own
+  pub explains_no_read : (object : ℕ) (pairs : List Pair) → home_of_object caller object ≡ Some caller.own
       → kept.reads object ≡ None → Explains log caller kept (whats.Commit object pairs) answers.NoTx [] kept
   explains_no_read object pairs home none = (refl, refl, object, pairs, refl, home, none)
 

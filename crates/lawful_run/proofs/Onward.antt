@@ -27,10 +27,11 @@ use Rattle.report_text.specs.declared.report.ReplyLine.{ReplyLine}
 use Rattle.lawful_run.specs.Callers.{Caller, node_of}
 use Rattle.lawful_run.specs.Asks.{Manner, Appending, Stopping, Syncing, Moving, Getting, Reading, Committing, Dequeuing}
 use Rattle.lawful_run.specs.Deeds.{colours_synced, manner_of}
-use Rattle.lawful_run.specs.Appends.{EntersAt, StandsAt, Appends, AppendsUnshown, one_unshown, several_unshown, kept_after_points, HasNoStamp, none_for_one, none_for_several}
+use Rattle.lawful_run.specs.Appends.{StandsAt, Appends, AppendsUnshown, one_unshown, several_unshown, kept_after_points, HasNoStamp, none_for_one, none_for_several}
 use Rattle.lawful_run.specs.Stops.{Stops, stopped_at_once, stopped_after}
-use Rattle.lawful_run.specs.Reads.{Syncs, kept_after_piece, RaisesAt, kept_after_place, Raises, ClearSyncs, ReadsAt, HidesSync, not_played, played, HidesSyncs, HidesRead, RefusesRead}
-use Rattle.lawful_run.specs.Moves.{CarriesAt, Pulls, with_places, kept_after_pull}
+use Rattle.lawful_run.proofs.AppendFacts.{enters_after}
+use Rattle.lawful_run.specs.Reads.{Syncs, kept_after_piece, RaisesClock, kept_after_place, Raises, ClearSyncs, ReadsAt, HidesSync, not_played, played, HidesSyncs, HidesRead, RefusesRead}
+use Rattle.lawful_run.specs.Moves.{CarriesNodes, Pulls, with_places, kept_after_pull}
 use Rattle.lawful_run.specs.Refusals.{Hides, Refuses, FindsNoMemory, nothing, gone, gave, hidden, kept_before}
 use Rattle.lawful_run.specs.Explains.{Explains, Answers}
 use Rattle.lawful_run.proofs.Replies.{contains_at}
@@ -160,7 +161,7 @@ module _ (log : Log) (caller : Caller) (colour : ℕ)
       then_on (synced kept sync.colour sync.events _ sync.counts c.0)
       (pieces stamp (kept_after_piece log caller kept sync) syncs after c.2)
 
-  raise : (kept : Kept) (stamp c : ℕ) (place : At) → RaisesAt log caller kept stamp c place → Onward kept
+  raise : (kept : Kept) (stamp c : ℕ) (place : At) → RaisesClock log caller kept stamp c place → Onward kept
       (kept_after_place kept caller.own c place)
   raise kept stamp c (ats.Event place) r = event kept caller.own c place (λ _. r.0)
   raise kept stamp c (ats.Look events) r = look kept c events r.0
@@ -235,11 +236,6 @@ module _ (log : Log) (caller : Caller) (colour : ℕ)
   refuses kept colours Dequeuing c shown after r = hidden_syncs kept colours after r.2
 
   -- appends
-  enters : (kept : Kept) (node : Node) (c : ℕ) (place : At) → EntersAt log caller kept node c place
-      → kept.seen caller.own c ≤ seen_after place
-  enters kept node c (ats.Event place) e = let l = e.0 in omega (arith, l)
-  enters kept node c (ats.Look events) e = e.0
-
   pointed : (kept : Kept) (node : Node) (stamp : ℕ) (middle : Kept) (points : List PointPiece) →
       ((p : PointPiece) (k : ℕ) → slice_get points k ≡ Some p → StandsAt log caller kept node stamp p)
       → kept.seen caller.own colour ≤ middle.seen caller.own colour → middle.starts ≡ kept.starts
@@ -252,7 +248,8 @@ module _ (log : Log) (caller : Caller) (colour : ℕ)
       (at_new_at (λ n. kept.seen caller.own colour ≤ n) middle.seen caller.own p.colour
       (seen_after p.at) caller.own colour
       (λ e f. subst (λ d. kept.seen caller.own d ≤ seen_after p.at) (sym f)
-      (enters kept node p.colour p.at (each p zero refl).entered)) more) starts
+      (enters_after (kept.seen caller.own p.colour) (log.histories caller.own p.colour) caller.client node p.colour p.at
+      (each p zero refl).entered)) more) starts
 
   appended : (kept : Kept) (node : Node) (stamp : ℕ) (row : Option ℕ) (points : List PointPiece) (after : Kept)
       → Appends log caller kept node stamp row points after → Onward kept after
@@ -293,7 +290,7 @@ module _ (log : Log) (caller : Caller) (colour : ℕ)
   stops kept node steps after (stopped_after n places s) = begun kept places
 
   -- pulls
-  carried : (kept middle : Kept) (region c nodes : ℕ) (place : At) → CarriesAt log caller kept region c nodes place
+  carried : (kept middle : Kept) (region c nodes : ℕ) (place : At) → CarriesNodes log caller kept region c nodes place
       → middle.seen caller.own c ≡ kept.seen caller.own c → Onward middle (kept_after_place middle caller.own c place)
   carried kept middle region c nodes (ats.Event place) r is = event middle caller.own c place
       (λ _. let l = r.0 in omega (arith, l, is))

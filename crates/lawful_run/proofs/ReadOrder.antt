@@ -19,7 +19,7 @@ use Rattle.col_core.proofs.CallerLemmas as pasts
 use Rattle.report_text.specs.declared.report.RaisePiece.{RaisePiece}
 use Rattle.report_text.specs.declared.report.SyncPiece.{SyncPiece}
 use Rattle.lawful_run.specs.Callers.{Caller}
-use Rattle.lawful_run.specs.Reads.{RaisesAt, kept_after_place, Raises, ClearSyncs, kept_after_piece, ReadsAt, lines_read, AreRead}
+use Rattle.lawful_run.specs.Reads.{RaisesClock, kept_after_place, Raises, ClearSyncs, kept_after_piece, ReadsAt, lines_read, AreKeysRead}
 use Rattle.lawful_run.proofs.Prefixes.{get_within}
 use Rattle.lawful_run.proofs.Listed.{to_in, from_in, in_map, in_map_back}
 use Rattle.lawful_run.proofs.ReadItems.{clock_later, read_items_stay}
@@ -54,7 +54,7 @@ module _ (log : Log) (caller : Caller) (stamp : ℕ) where
   }
 
   -- a raise brings it there
-  raised : (kept : Kept) (colour : ℕ) (place : At) → RaisesAt log caller kept stamp colour place → AtStamp
+  raised : (kept : Kept) (colour : ℕ) (place : At) → RaisesClock log caller kept stamp colour place → AtStamp
       (kept_after_place kept caller.own colour place) colour
   raised kept colour (ats.Event place) r =
       let h = log.histories caller.own colour in
@@ -68,7 +68,7 @@ module _ (log : Log) (caller : Caller) (stamp : ℕ) where
       record { events = events; seen = omega (arith, s); there = r.1; at = r.3 }
 
   -- and it stays there
-  sees : (kept : Kept) (c : ℕ) (place : At) → RaisesAt log caller kept stamp c place → (colour : ℕ)
+  sees : (kept : Kept) (c : ℕ) (place : At) → RaisesClock log caller kept stamp c place → (colour : ℕ)
       → kept.seen caller.own colour ≤ (kept_after_place kept caller.own c place).seen caller.own colour
   sees kept c (ats.Event place) r colour =
       at_new_at (λ n. kept.seen caller.own colour ≤ n) kept.seen caller.own c (place + 1) caller.own colour
@@ -116,7 +116,7 @@ module _ (log : Log) (caller : Caller) (stamp : ℕ) where
 
   pub closing_order : (kept : Kept) (colours : List ℕ) (raises : List RaisePiece) (syncs : List SyncPiece)
       (after : Kept) (keys : List Key)
-      → ReadsAt log caller kept colours stamp raises syncs after → AreRead log caller stamp syncs keys
+      → ReadsAt log caller kept colours stamp raises syncs after → AreKeysRead log caller stamp syncs keys
       → ((s : SyncPiece) → In s syncs → IsColumnHistory caller.own caller.regions
       (dated caller.own (log.histories caller.own s.colour)))
       → ((s : SyncPiece) (key : Key) → In s syncs → In key (line (take s.events (log.histories caller.own s.colour)))

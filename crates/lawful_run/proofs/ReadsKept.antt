@@ -9,7 +9,7 @@ use Rattle.log_node.specs.declared.node.Node.{Node}
 use Rattle.log_node.specs.Seen.{PlacedNode}
 use Rattle.log_node.specs.Sets.{members}
 use Rattle.col_core.specs.Log.{Log}
-use Rattle.col_core.specs.Keeping.{Kept, kept_after_point, kept_after_event}
+use Rattle.col_core.specs.Keeping.{Kept, kept_after_event}
 use Rattle.script_text.specs.declared.script.What.{What}
 use Rattle.script_text.specs.declared.script.What.TheVariants as whats
 use Rattle.script_text.specs.declared.script.Command.{Command}
@@ -23,12 +23,13 @@ use Rattle.report_text.specs.declared.report.SyncPiece.{SyncPiece}
 use Rattle.lawful_run.specs.Callers.{Caller, node_of}
 use Rattle.lawful_run.specs.Asks.{Manner, Appending, Stopping, Syncing, Moving, Getting, Reading, Committing, Dequeuing}
 use Rattle.lawful_run.specs.Deeds.{colours_synced, manner_of}
-use Rattle.lawful_run.specs.Appends.{Appends, AppendsUnshown, one_unshown, several_unshown, kept_after_points, HasNoStamp, none_for_one, none_for_several}
+use Rattle.lawful_run.specs.Appends.{Appends, AppendsUnshown, one_unshown, several_unshown, HasNoStamp, none_for_one, none_for_several}
 use Rattle.lawful_run.specs.Moves.{with_places, kept_after_pull}
 use Rattle.lawful_run.specs.Reads.{kept_after_place, kept_after_piece, Raises, ClearSyncs, ReadsAt, HidesSyncs, HidesRead, RefusesRead}
 use Rattle.lawful_run.specs.Refusals.{Hides, Refuses, FindsNoMemory, nothing, gone, gave, hidden}
 use Rattle.lawful_run.specs.Stops.{Stops, stopped_at_once, stopped_after}
 use Rattle.lawful_run.specs.Explains.{Explains, Explained, start, next}
+use Rattle.lawful_run.proofs.AppendFacts.{points_leave}
 use Rattle.lawful_run.proofs.HiddenReads.{kept_after_hidden}
 use Rattle.lawful_run.proofs.Used.{answer_use}
 
@@ -113,10 +114,6 @@ refuses_keep log caller kept colours Committing colour shown after r =
     refused_keeps log caller kept colours colour shown after r
 refuses_keep log caller kept colours Dequeuing colour shown after r = syncs_keep log caller kept colours after r.2
 
-points_keep : (own : ℕ) (kept : Kept) (points : List PointPiece) → KeepsReads kept (kept_after_points kept own points)
-points_keep own kept [] = refl
-points_keep own kept (p ∷ points) = points_keep own (kept_after_point kept own p.colour p.at p.position) points
-
 module _ (log : Log) (caller : Caller) (kept : Kept) where
   appends_keep : (node : Node) (stamp : ℕ) (row : Option ℕ) (points : List PointPiece) (after : Kept)
       → Appends log caller kept node stamp row points after → KeepsReads kept after
@@ -124,7 +121,7 @@ module _ (log : Log) (caller : Caller) (kept : Kept) where
   appends_keep node stamp None (p ∷ []) after a = so_kept kept _ after a.4 refl
   appends_keep node stamp None (p ∷ q ∷ points) after a = absurd a
   appends_keep node stamp (Some number) points after a =
-      so_kept kept _ after a.3 (points_keep caller.own kept points)
+      so_kept kept _ after a.3 (points_leave caller.own kept points).reads
 
   unshown_keeps : (node : Node) (stamp : ℕ) (after : Kept) → AppendsUnshown log caller kept node stamp after
       → KeepsReads kept after

@@ -9,6 +9,7 @@ use Rattle.log_node.specs.declared.ids.Colours.{Colours}
 use Rattle.log_node.specs.Seen.{PlacedNode}
 use Rattle.log_node.specs.Sets.{members}
 use Rattle.col_core.specs.History.{line, entry_key}
+use Rattle.col_core.specs.Appending.{StandsUnder}
 use Rattle.col_core.specs.Keeping.{Kept}
 use Rattle.script_text.specs.declared.script.What.{What}
 use Rattle.script_text.specs.declared.script.What.TheVariants as whats
@@ -21,7 +22,7 @@ use Rattle.report_text.specs.declared.report.ClientReport.{ClientReport}
 use Rattle.report_text.specs.declared.report.Report.{Report}
 use Rattle.lawful_run.specs.Callers.{Caller, caller_of, node_of}
 use Rattle.lawful_run.specs.Deeds.{AsksToAppend}
-use Rattle.lawful_run.specs.Appends.{Appends, AppendsUnshown, one_unshown, several_unshown, StandsUnder, StandsAt}
+use Rattle.lawful_run.specs.Appends.{Appends, AppendsUnshown, one_unshown, several_unshown, StandsAt}
 use Rattle.lawful_run.specs.Columns.{IsColumnReport}
 use Rattle.lawful_run.specs.Refusals.{kept_before}
 use Rattle.lawful_run.specs.Explains.{Explains}
@@ -79,8 +80,8 @@ module _ (script : Script) (report : Report) (run : LawfulRun script report) (cl
         (closing colour position (entry_key stamp id) a.stands),
   )
   unshown colours text stamp after (several_unshown places begins outcome stand above) c there =
-      let s = All-contains (λ colour. (position : ℕ) × StandsUnder run.log caller
-      (node_of caller kept colours text) stamp colour position)
+      let s = All-contains (λ colour. (position : ℕ) × StandsUnder (run.log.histories caller.own colour)
+      (node_of caller kept colours text) stamp position)
       (members colours) c stand there in
       (s.0, closing c s.0 (entry_key stamp id) s.1)
 

@@ -23,8 +23,8 @@ use Rattle.lawful_run.specs.Asks.{Manner, Appending, Stopping, Syncing, Moving, 
 use Rattle.col_core.specs.Ids.{IsStepOf}
 use Rattle.lawful_run.specs.Appends.{AreSteps}
 use Rattle.lawful_run.specs.Refusals.{Hides, Refuses}
-use Rattle.lawful_run.specs.Reads.{kept_after_piece, RaisesAt, kept_after_place, Raises, ClearSyncs, events_until, ReadsAt, HidesSyncs, HidesRead, RefusesRead}
-use Rattle.lawful_run.specs.Moves.{GivesAt, GivesHeld, GivesTooLow, CarriesAt, Pulls, with_places}
+use Rattle.lawful_run.specs.Reads.{kept_after_piece, RaisesClock, kept_after_place, Raises, ClearSyncs, events_until, ReadsAt, HidesSyncs, HidesRead, RefusesRead}
+use Rattle.lawful_run.specs.Moves.{GivesFrom, GivesHeld, GivesTooLow, CarriesNodes, Pulls, with_places}
 pub use Rattle.log_node.proofs.CallerLemmas.{contains_none as in_none}
 
 -- a single of the id stands at the place
@@ -181,7 +181,7 @@ module _ (log : Log) (caller : Caller) where
       let q = pieces stamp (kept_after_piece log caller kept sync) syncs after c.2 in
       record { ids = q.ids; made = q.made }
 
-  raise : (kept : Kept) (stamp colour : ℕ) (at : At) → RaisesAt log caller kept stamp colour at
+  raise : (kept : Kept) (stamp colour : ℕ) (at : At) → RaisesClock log caller kept stamp colour at
       → Quiet log kept (kept_after_place kept caller.own colour at)
   raise kept stamp colour (ats.Event place) r = an_event log kept caller.own colour place _ r.2 tt
   raise kept stamp colour (ats.Look events) r = record { ids = refl; made = λ region colour place id s c. c }
@@ -213,7 +213,7 @@ module _ (log : Log) (caller : Caller) where
     none : (colour place : ℕ) (id : Id) → Contains (h.places colour) place → IsSingleAt log caller.own colour place id
         → ⊥
     none colour place id i =
-        let r = All-contains (λ (p : ℕ). Contains colours colour × RaisesAt log caller kept h.stamp colour
+        let r = All-contains (λ (p : ℕ). Contains colours colour × RaisesClock log caller kept h.stamp colour
         (ats.Event p))
         (h.places colour) place (h.raises colour) i in
         no_single log caller.own colour place id _ r.1.2 tt
@@ -260,10 +260,10 @@ module _ (log : Log) (caller : Caller) where
 
   -- PULLS
   gives : (kept : Kept) (region colour : ℕ) (places : List ℕ) → All
-      (λ place. (from : ℕ) × GivesAt log caller region colour place from) places
+      (λ place. (from : ℕ) × GivesFrom log caller region colour place from) places
       → Quiet log kept (with_places kept region colour places)
   gives kept region colour places all = more_places log kept region colour places (λ place id i s.
-      let g = All-contains (λ (p : ℕ). (from : ℕ) × GivesAt log caller region colour p from) places place all i in
+      let g = All-contains (λ (p : ℕ). (from : ℕ) × GivesFrom log caller region colour p from) places place all i in
       no_single log region colour place id _ g.1 tt s)
 
   pub held_gives : (kept : Kept) (region colour seen until : ℕ) (places : List ℕ) → All
@@ -279,7 +279,7 @@ module _ (log : Log) (caller : Caller) where
       (λ k d lt. let g = all k d lt in (g.0, g.1))
 
   carry : (kept : Kept) (region colour nodes : ℕ) (at : At) (held : Kept)
-      → CarriesAt log caller held region colour nodes at
+      → CarriesNodes log caller held region colour nodes at
       → Quiet log kept (kept_after_place kept caller.own colour at)
   carry kept region colour nodes (ats.Event place) held c = an_event log kept caller.own colour place _ c.3 tt
   carry kept region colour nodes (ats.Look events) held c =

@@ -18,7 +18,7 @@ use Rattle.lawful_run.specs.Callers.{Caller}
 use Rattle.lawful_run.specs.Deeds.{AsksToAppend, colours_synced}
 use Rattle.lawful_run.specs.Refusals.{before_by, kept_before, kept_behind}
 use Rattle.lawful_run.specs.Explains.{Explains, Answers}
-use Rattle.lawful_run.specs.Readings.{Told, Nowhere, told}
+use Rattle.lawful_run.specs.Readings.{NodeTold, Nowhere, told}
 use Rattle.lawful_run.proofs.Traces.{Quiet, quiet_self, quiet_then, quiet_is, quiet_to, an_event, read, hides, refuses, pulls}
 use Rattle.lawful_run.proofs.LettingGo.{before_is, behind_is, asks_before}
 use Rattle.lawful_run.proofs.Uses.{Leaves, uses_then, appends_use, unshown_use, no_stamp_use, stop_use, memory_use, quiet_same}
@@ -90,7 +90,7 @@ explained_use log caller kept what (answers.NotHome home) nodes after e =
     inl (quiet_is e.1, refl)
 
 -- a read that lets an earlier one go uses no id
-before_use : (log : Log) (caller : Caller) (what : What) (kept : Kept) (tells : Told) (after : Kept)
+before_use : (log : Log) (caller : Caller) (what : What) (kept : Kept) (tells : NodeTold) (after : Kept)
     → Leaves log caller (kept_before what kept) what tells after → Leaves log caller kept what tells after
 before_use log caller what kept tells after =
     by (use_of what) (λ colours text. asks_before caller what kept colours text) where

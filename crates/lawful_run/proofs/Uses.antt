@@ -15,7 +15,7 @@ use Rattle.log_node.specs.declared.marks.Outcome.TheVariants.{Gone}
 use Rattle.col_core.specs.declared.Event.TheVariants as events
 use Rattle.col_core.specs.declared.Entry.{Entry}
 use Rattle.col_core.specs.Log.{Log, HasOutcome}
-use Rattle.col_core.specs.Keeping.{Kept, kept_after_point, kept_after_single, with_made, with_floor, with_row}
+use Rattle.col_core.specs.Keeping.{Kept, kept_after_single, with_made, with_floor, with_row}
 use Rattle.col_core.proofs.CallerLemmas.{choice}
 use Rattle.script_text.specs.declared.script.What.{What}
 use Rattle.report_text.specs.declared.report.PointPiece.{PointPiece}
@@ -25,7 +25,8 @@ use Rattle.lawful_run.specs.Appends.{BeginsRow, AppendsOne, Appends, AppendsUnsh
 use Rattle.lawful_run.specs.Moves.{with_places}
 use Rattle.lawful_run.specs.Stops.{Stops, stopped_at_once, stopped_after}
 use Rattle.lawful_run.specs.Refusals.{FindsNoMemory, nothing, gone, gave, hidden}
-use Rattle.lawful_run.specs.Readings.{Told, Nowhere}
+use Rattle.lawful_run.specs.Readings.{NodeTold, Nowhere}
+use Rattle.lawful_run.proofs.AppendFacts.{points_leave}
 use Rattle.lawful_run.proofs.Traces.{IsSingleAt, one_of, in_none, at_updated, at_updated_at, Made, Quiet, quiet_self, quiet_then, more_made, steps_are_none, hides, held_gives, too_low_gives}
 
 -- what is made afterwards of singles is old, or the single of the node in this colour
@@ -35,11 +36,11 @@ MadeOne log caller kept colour own after =
     → Contains (kept.made region c) place ⊎ ((region ≡ caller.own) × (c ≡ colour) × (id ≡ own))
 
 -- the node stands, or its row is gone
-abbrev pub Fate : Log → Told → Node → Type 0
+abbrev pub Fate : Log → NodeTold → Node → Type 0
 Fate log tells node = (tells ≢ Nowhere) ⊎ ((why : Why) × HasOutcome log node (Gone why))
 
 -- an id was used for the next node, on one colour, with a single, or on several, with none
-pub record Uses (log : Log) (caller : Caller) (kept : Kept) (what : What) (tells : Told) (after : Kept) : Type 0 where
+pub record Uses (log : Log) (caller : Caller) (kept : Kept) (what : What) (tells : NodeTold) (after : Kept) : Type 0 where
   pub colours : Colours
   pub text : List ℕ
   pub asks : AsksToAppend caller kept what colours text
@@ -50,11 +51,11 @@ pub record Uses (log : Log) (caller : Caller) (kept : Kept) (what : What) (tells
       × MadeOne log caller kept colour (node_of caller kept colours text).id after)
 
 -- no id was used, and the answer tells of no node; or one was
-abbrev pub Leaves : Log → Caller → Kept → What → Told → Kept → Type 0
+abbrev pub Leaves : Log → Caller → Kept → What → NodeTold → Kept → Type 0
 Leaves log caller kept what tells after =
     (Quiet log kept after × (tells ≡ Nowhere)) ⊎ Uses log caller kept what tells after
 
-pub uses_then : {log : Log} {caller : Caller} {kept middle after : Kept} {what : What} {tells : Told}
+pub uses_then : {log : Log} {caller : Caller} {kept middle after : Kept} {what : What} {tells : NodeTold}
     → Uses log caller kept what tells middle
     → Quiet log middle after → Uses log caller kept what tells after
 uses_then {log} {caller} {kept} {middle} {after} {what} {tells} u q = record {
@@ -90,12 +91,6 @@ single_id log region colour place id other e floor wants there is s =
     (ap (λ (x : Entry). x.event) same ∙ is) in
     cc (f)
 
--- the places of the points leave what was made
-points_same : (own : ℕ) (kept : Kept) (points : List PointPiece) → ((kept_after_points kept own points).ids ≡ kept.ids)
-    × ((kept_after_points kept own points).made ≡ kept.made)
-points_same own kept [] = (refl, refl)
-points_same own kept (p ∷ ps) = points_same own (kept_after_point kept own p.colour p.at p.position) ps
-
 module _ (log : Log) (caller : Caller) (kept : Kept) (what : What) (colours : Colours) (text : List ℕ)
     (asks : AsksToAppend caller kept what colours text) where
   abbrev node : Node
@@ -119,7 +114,7 @@ module _ (log : Log) (caller : Caller) (kept : Kept) (what : What) (colours : Co
               (subst (λ x. IsSingleAt log caller.own x p id) f (subst (λ x. IsSingleAt log x c p id) e s))),
         )
 
-  uses_one : (tells : Told) (colour stamp place position : ℕ) → tells ≢ Nowhere → members colours ≡ colour ∷ []
+  uses_one : (tells : NodeTold) (colour stamp place position : ℕ) → tells ≢ Nowhere → members colours ≡ colour ∷ []
       → AppendsOne log caller kept node colour stamp place position
       → Uses log caller kept what tells (kept_after_single kept caller.own colour place stamp position)
   uses_one tells colour stamp place position stands only a = record {
@@ -145,7 +140,7 @@ module _ (log : Log) (caller : Caller) (kept : Kept) (what : What) (colours : Co
     turn region c p id s (inr i) = inl i
 
   -- a row was begun
-  uses_row : (tells : Told) (places : ℕ → List ℕ) (middle : Kept) → middle.ids ≡ kept.ids + 1 → middle.made ≡ kept.made
+  uses_row : (tells : NodeTold) (places : ℕ → List ℕ) (middle : Kept) → middle.ids ≡ kept.ids + 1 → middle.made ≡ kept.made
       → Fate log tells node
       → BeginsRow log caller kept node places → Uses log caller kept what tells (with_made middle caller.own places)
   uses_row tells places middle ids same fate b = record {
@@ -160,7 +155,7 @@ module _ (log : Log) (caller : Caller) (kept : Kept) (what : What) (colours : Co
         (steps_are_none log caller kept node places b.steps)).made region colour place id s i));
   }
 
-  pub appends_use : (tells : Told) (stamp : ℕ) (row : Option ℕ) (points : List PointPiece) (after : Kept)
+  pub appends_use : (tells : NodeTold) (stamp : ℕ) (row : Option ℕ) (points : List PointPiece) (after : Kept)
       → tells ≢ Nowhere
       → Appends log caller kept node stamp row points after → Uses log caller kept what tells after
   appends_use tells stamp None [] after stands a = absurd a
@@ -169,12 +164,12 @@ module _ (log : Log) (caller : Caller) (kept : Kept) (what : What) (colours : Co
       (uses_one tells p.colour stamp a.1 p.position stands a.0 a.3)
   appends_use tells stamp None (p ∷ q ∷ points) after stands a = absurd a
   appends_use tells stamp (Some number) points after stands a =
-      let same = points_same caller.own kept points in
+      let same = points_leave caller.own kept points in
       subst (λ (k : Kept). Uses log caller kept what tells k) (sym a.3)
       (uses_row tells a.1 (with_row (with_floor (kept_after_points kept caller.own points) stamp))
-      (ap (λ n. n + 1) same.0) same.1 (inl stands) a.2.begins)
+      (ap (λ n. n + 1) same.ids) same.made (inl stands) a.2.begins)
 
-  pub unshown_use : (tells : Told) (stamp : ℕ) (after : Kept) → tells ≢ Nowhere
+  pub unshown_use : (tells : NodeTold) (stamp : ℕ) (after : Kept) → tells ≢ Nowhere
       → AppendsUnshown log caller kept node stamp after → Uses log caller kept what tells after
   unshown_use tells stamp after stands (one_unshown colour place position only a) = record {
     colours = colours;
@@ -219,14 +214,14 @@ module _ (log : Log) (caller : Caller) (kept : Kept) (what : What) (colours : Co
   unshown_use tells stamp after stands (several_unshown places begins outcome stand above) =
       uses_row tells places (with_row (with_floor kept stamp)) refl refl (inl stands) begins
 
-  pub no_stamp_use : (tells : Told) → tells ≡ Nowhere → (colour : ℕ) (after : Kept)
+  pub no_stamp_use : (tells : NodeTold) → tells ≡ Nowhere → (colour : ℕ) (after : Kept)
       → HasNoStamp log caller kept node colour after
       → Leaves log caller kept what tells after
   no_stamp_use tells none colour after (none_for_one only h) = inl (quiet_self log kept, none)
   no_stamp_use tells none colour after (none_for_several places g) =
-      inr (uses_row tells places (with_row kept) refl refl (inr (StampEnd, g.outcome)) g.begins)
+      inr (uses_row tells places (with_row kept) refl refl (inr (StampEnd, g.ends.outcome)) g.begins)
 
-  pub stop_use : (tells : Told) (steps : ℕ) (after : Kept) → (steps ≡ 0 → tells ≡ Nowhere) →
+  pub stop_use : (tells : NodeTold) (steps : ℕ) (after : Kept) → (steps ≡ 0 → tells ≡ Nowhere) →
       (0 < steps → tells ≢ Nowhere)
       → Stops log caller kept node steps after → Leaves log caller kept what tells after
   stop_use tells steps after none stands stopped_at_once = inl (quiet_self log kept, none refl)

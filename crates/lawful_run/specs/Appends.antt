@@ -1,23 +1,20 @@
--- What the answer to an append says of the log.
-use Rattle.std.specs.Prelude.{◌≡◌, ◌≢◌, ◌⊎◌, IsTrue, ℕ, ◌==◌, ◌<◌, ◌≤◌, List, [], ◌∷◌, length, take, map, Option, Some, None, slice_get, if◌then◌else◌}
+-- Appends, over the log: what an answer says of it. Over what a client has seen: client_law (`Sees..`); over holds:
+-- append_core (`Hold..`).
+use Rattle.std.specs.Prelude.{◌≡◌, ℕ, ◌==◌, ◌<◌, ◌≤◌, List, [], ◌∷◌, length, take, map, Option, Some, None, slice_get, if◌then◌else◌}
 use Rattle.std.specs.List.{All, fold}
 use Rattle.log_node.specs.declared.ids.Colours.{Colours}
-use Rattle.log_node.specs.declared.node.At.{At}
-use Rattle.log_node.specs.declared.node.At.TheVariants.{Event, Look}
+use Rattle.log_node.specs.declared.node.At.TheVariants.{Event}
 use Rattle.log_node.specs.declared.node.Node.{Node}
 use Rattle.log_node.specs.Sets.{members}
-use Rattle.log_node.specs.declared.marks.Why.{Why}
-use Rattle.log_node.specs.declared.marks.Why.TheVariants.{Memory, StampEnd}
-use Rattle.log_node.specs.declared.marks.Mark.{Mark}
-use Rattle.log_node.specs.declared.marks.Mark.TheVariants as marks
+use Rattle.log_node.specs.declared.marks.Why.TheVariants.{Memory}
 use Rattle.log_node.specs.declared.marks.Outcome.TheVariants.{Gone, Final}
-use Rattle.log_node.specs.Standings.{open_entry}
-use Rattle.col_core.specs.declared.Event.TheVariants.{Single, Propose}
+use Rattle.col_core.specs.declared.Event.TheVariants.{Single}
 use Rattle.col_core.specs.declared.Entry.{Entry}
-use Rattle.col_core.specs.History.{IsAtEnd, entries, line, entry_key, has_entered}
+use Rattle.col_core.specs.History.{IsAtEnd}
 use Rattle.col_core.specs.Ids.{IsStepOf}
-use Rattle.col_core.specs.Rows.{BegunRow, node_wants}
-use Rattle.col_core.specs.Log.{Log, IsBegunFor, HasMark, HasOutcome}
+use Rattle.col_core.specs.Rows.{BegunRow}
+use Rattle.col_core.specs.Log.{Log, IsBegunFor, HasOutcome}
+use Rattle.col_core.specs.Appending.{EntersBehind, StandsUnder, IsClosedFor, EndsAtColour}
 use Rattle.col_core.specs.Keeping.{Kept, kept_after_single, kept_after_point, with_made, with_floor, with_node, with_row}
 use Rattle.report_text.specs.declared.report.PointPiece.{PointPiece}
 use Rattle.lawful_run.specs.Callers.{Caller}
@@ -31,7 +28,7 @@ pub record AppendsOne (log : Log) (caller : Caller) (kept : Kept) (node : Node)
   pub entered : slice_get (log.histories caller.own colour) place
       ≡ Some (record { by = caller.client; event = Single node.id kept.floor (kept.starts colour); stamp = stamp })
   pub unseen : kept.seen caller.own colour ≤ place
-  pub stands : slice_get (line (log.histories caller.own colour)) position ≡ Some (entry_key stamp node.id)
+  pub stands : StandsUnder (log.histories caller.own colour) node stamp position
   pub behind : kept.known colour ≤ position
   pub above : kept.floor < stamp
 
@@ -59,29 +56,12 @@ pub record BeginsRow (log : Log) (caller : Caller) (kept : Kept) (node : Node) (
   pub begun : IsBegunFor log node row
   pub steps : AreSteps log caller kept node places
 
--- The node entered a colour where the point says: by the client's own proposal, which was not seen before, or by
--- another client's, before a look of the client's.
-abbrev pub EntersAt : Log → Caller → Kept → Node → ℕ → At → Type 0
-EntersAt log caller kept node colour (Event place) =
-    (kept.seen caller.own colour ≤ place)
-    × (e : Entry) × (slice_get (log.histories caller.own colour) place ≡ Some e) × (e.by ≡ caller.client)
-    × (e.event ≡ Propose node.id node.floor (node_wants node colour))
-EntersAt log caller kept node colour (Look events) =
-    (kept.seen caller.own colour ≤ events) × (events ≤ length (log.histories caller.own colour))
-    × (place : ℕ) × (place < events)
-    × (e : Entry) × (slice_get (log.histories caller.own colour) place ≡ Some e) × (e.by ≢ caller.client)
-    × (e.event ≡ Propose node.id node.floor (node_wants node colour))
-
--- the node stands under the stamp in the line of the colour, at this position
-abbrev pub StandsUnder : Log → Caller → Node → ℕ → ℕ → ℕ → Type 0
-StandsUnder log caller node stamp colour position =
-    slice_get (line (log.histories caller.own colour)) position ≡ Some (entry_key stamp node.id)
-
 -- a point of an append to several colours: where the node entered, and where it stands
 pub record StandsAt (log : Log) (caller : Caller) (kept : Kept) (node : Node) (stamp : ℕ)
     (point : PointPiece) : Type 0 where
-  pub entered : EntersAt log caller kept node point.colour point.at
-  pub stands : StandsUnder log caller node stamp point.colour point.position
+  pub entered : EntersBehind (kept.seen caller.own point.colour) (log.histories caller.own point.colour) caller.client
+      node point.colour point.at
+  pub stands : StandsUnder (log.histories caller.own point.colour) node stamp point.position
   pub behind : kept.known point.colour ≤ point.position
 
 -- An append to several colours: its row is final under the stamp, and the node stands at each of the points, one for
@@ -119,32 +99,26 @@ pub data AppendsUnshown (log : Log) (caller : Caller) (kept : Kept) (node : Node
       → AppendsUnshown log caller kept node stamp
       (with_made (with_node (with_floor kept stamp)) caller.own (λ c. if c == colour then place ∷ [] else []))
   several_unshown : (places : ℕ → List ℕ) → BeginsRow log caller kept node places → HasOutcome log node (Final stamp)
-      → All (λ colour. (position : ℕ) × StandsUnder log caller node stamp colour position) (members node.colours)
+      → All (λ colour. (position : ℕ) × StandsUnder (log.histories caller.own colour) node stamp position)
+      (members node.colours)
       → kept.floor < stamp
       → AppendsUnshown log caller kept node stamp (with_made (with_row (with_floor kept stamp)) caller.own places)
 
--- the node is open in a colour no more: it never entered there, being fenced, or it has entered and is settled
-pub record IsSettledIn (log : Log) (caller : Caller) (node : Node) (colour : ℕ) : Type 0 where
-  pub events : ℕ
-  pub there : events ≤ length (log.histories caller.own colour)
-  pub not_open : open_entry node.id (entries (take events (log.histories caller.own colour))) ≡ None
-  pub for_good : ((why : Why) × HasMark log node colour (marks.Fenced why))
-      ⊎ IsTrue (has_entered node.id (take events (log.histories caller.own colour)))
+-- after some number of events the node is closed for good in the colour
+abbrev pub IsSettledIn : Log → Caller → Node → ℕ → Type 0
+IsSettledIn log caller node colour =
+    (events : ℕ) × (events ≤ length (log.histories caller.own colour))
+    × IsClosedFor log (take events (log.histories caller.own colour)) node colour
 
 -- the node is open in none of its colours any more
 abbrev pub IsSettled : Log → Caller → Node → Type 0
 IsSettled log caller node = All (IsSettledIn log caller node) (members node.colours)
 
--- The row of an append to several colours is gone, since the colour had no stamp left, which is the least such colour;
--- and the node is open nowhere.
+-- An append to several colours is gone, since the colour is the least that had no stamp left; its node is open nowhere.
 pub record IsGoneAtEnd (log : Log) (caller : Caller) (kept : Kept) (node : Node) (colour : ℕ)
     (places : ℕ → List ℕ) : Type 0 where
   pub begins : BeginsRow log caller kept node places
-  pub outcome : HasOutcome log node (Gone StampEnd)
-  pub fence : HasMark log node colour (marks.Fenced StampEnd)
-  pub least : All (λ other. other < colour
-      → (mark : Mark) × (mark ≢ marks.None) × (mark ≢ marks.Fenced StampEnd) × HasMark log node other mark)
-      (members node.colours)
+  pub ends : EndsAtColour log node colour
   pub settled : IsSettled log caller node
 
 -- No stamp was left for the append in this colour; and what the client then keeps.
@@ -155,7 +129,7 @@ pub data HasNoStamp (log : Log) (caller : Caller) (kept : Kept) (node : Node) (c
       → HasNoStamp log caller kept node colour (with_made (with_row kept) caller.own places)
 
 -- an append to several colours of a client that has begun as many rows as it may
-pub record IsFull (caller : Caller) (kept : Kept) (colours : Colours) (used : ℕ) : Type 0 where
+pub record HasNoRowLeft (caller : Caller) (kept : Kept) (colours : Colours) (used : ℕ) : Type 0 where
   pub several : 2 ≤ length (members colours)
   pub shown : used ≡ kept.rows
   pub all : kept.rows ≡ caller.rows

@@ -22,8 +22,8 @@ use Rattle.script_text.specs.Uses.{use_of}
 use Rattle.lawful_run.specs.Callers.{Caller}
 
 -- the kind of an object, by its number
-abbrev pub kind_of : Caller → ℕ → Option Kind
-kind_of caller object = option_map (λ (o : Object). o.kind) (slice_get caller.objects object)
+abbrev pub kind_of_object : Caller → ℕ → Option Kind
+kind_of_object caller object = option_map (λ (o : Object). o.kind) (slice_get caller.objects object)
 
 -- the colours of an object, in their order
 abbrev pub object_colours : Option Kind → List ℕ
@@ -34,8 +34,8 @@ object_colours (Some (kinds.Causal colour)) = colour ∷ []
 object_colours (Some (kinds.Queue home colour)) = colour ∷ []
 
 -- the colours of the object with this number
-abbrev pub colours_of : Caller → ℕ → List ℕ
-colours_of caller object = object_colours (kind_of caller object)
+abbrev pub colours_of_object : Caller → ℕ → List ℕ
+colours_of_object caller object = object_colours (kind_of_object caller object)
 
 -- the region whose clients alone may use an object; a causal map has none
 abbrev pub object_home : Option Kind → Option ℕ
@@ -46,17 +46,17 @@ object_home (Some (kinds.Causal colour)) = None
 object_home (Some (kinds.Queue home colour)) = Some home
 
 -- the home of the object with this number, where it has one
-abbrev pub home_of : Caller → ℕ → Option ℕ
-home_of caller object = object_home (kind_of caller object)
+abbrev pub home_of_object : Caller → ℕ → Option ℕ
+home_of_object caller object = object_home (kind_of_object caller object)
 
 -- the kind of the object that a command is of
-abbrev pub kind_in : Caller → Use → Option Kind
-kind_in caller (OfLog stops) = None
-kind_in caller (OfObject object read) = kind_of caller object
+abbrev pub kind_used : Caller → Use → Option Kind
+kind_used caller (OfLog stops) = None
+kind_used caller (OfObject object read) = kind_of_object caller object
 
 -- the kind of the object that a command names, if it names one
 abbrev pub kind_asked : Caller → What → Option Kind
-kind_asked caller what = kind_in caller (use_of what)
+kind_asked caller what = kind_used caller (use_of what)
 
 -- the home of the object that a command is of
 abbrev pub home_asked : Caller → What → Option ℕ
@@ -105,8 +105,8 @@ abbrev pub rising : List ℕ → List ℕ
 rising colours = colours_where (λ c. list_any (λ d. d == c) colours)
 
 -- the keys of pairs, in their order
-abbrev pub keys_of : List Pair → List (List ℕ)
-keys_of pairs = map (λ (p : Pair). p.key) pairs
+abbrev pub keys_of_pairs : List Pair → List (List ℕ)
+keys_of_pairs pairs = map (λ (p : Pair). p.key) pairs
 
 -- what a put on an object of a kind writes
 abbrev pub put_form : Option Kind → List ℕ → List ℕ → Form

@@ -33,8 +33,8 @@ abbrev pub commands_of : Script → ℕ → List Command
 commands_of script client = filter (λ (c : Command). c.client == client) script.commands
 
 -- the row that a node on these colours takes, where there are several
-abbrev pub row_of : ℕ → ℕ → List ℕ → Option Row
-row_of client rows colours =
+abbrev pub row_taken : ℕ → ℕ → List ℕ → Option Row
+row_taken client rows colours =
     if nat_lt 1 (length colours) then Some (record { client = client; number = rows }) else None
 
 -- the node that a client appends over what it keeps
@@ -46,5 +46,5 @@ node_of caller kept colours text = record {
   text = text;
   floor = kept.floor;
   wants = map kept.starts (members colours);
-  row = row_of caller.client kept.rows (members colours);
+  row = row_taken caller.client kept.rows (members colours);
 }

@@ -57,7 +57,7 @@ IsClientIn script region client =
     (client < length script.shape.homes) × (slice_index script.shape.homes client ≡ region)
 
 -- all begun rows are there, lawful beside the histories
-pub record AreRows (log : Log) (script : Script) (reports : List RowReport) : Type 0 where
+pub record AreRowReports (log : Log) (script : Script) (reports : List RowReport) : Type 0 where
   pub all : reports ≡ flat_map (λ region. map (row_report region) (log.rows region))
       (range_with_len 0 script.shape.regions)
   pub by_client : (region : ℕ) → region < script.shape.regions
@@ -69,6 +69,6 @@ pub record AreRows (log : Log) (script : Script) (reports : List RowReport) : Ty
       → AreLawfulRows region script.shape.colours (log.histories region) (log.rows region)
 
 -- what each region holds of another's chain is a true copy
-abbrev pub AreCopies : Log → Script → Type 0
-AreCopies log script = (colour : ℕ) → colour < script.shape.colours
+abbrev pub HoldsTrueCopies : Log → Script → Type 0
+HoldsTrueCopies log script = (colour : ℕ) → colour < script.shape.colours
     → AreTrueCopies script.shape.regions (λ region. dated region (log.histories region colour))

@@ -15,7 +15,7 @@ use Rattle.script_text.specs.declared.uses.Use.{Use}
 use Rattle.script_text.specs.declared.uses.Use.TheVariants.{OfObject}
 use Rattle.script_text.specs.Uses.{use_of}
 use Rattle.lawful_run.specs.Callers.{Caller}
-use Rattle.lawful_run.specs.Asks.{Manner, Appending, Stopping, Syncing, Moving, Getting, Reading, Committing, Dequeuing, object_colours, kind_asked, shards, rising, keys_of, put_form}
+use Rattle.lawful_run.specs.Asks.{Manner, Appending, Stopping, Syncing, Moving, Getting, Reading, Committing, Dequeuing, object_colours, kind_asked, shards, rising, keys_of_pairs, put_form}
 
 -- which colours a command is of
 pub data Reach : Type 0 where
@@ -87,10 +87,10 @@ saying_of kind found (whats.Append colours text) = says (Named colours) text
 saying_of kind found (whats.Stop steps colours text) = says (Named colours) text
 saying_of kind found (whats.Put object key value) = says (ShardsOf (key ∷ [])) (form_text (put_form kind key value))
 saying_of kind found (whats.Del object key) = says (ShardsOf (key ∷ [])) (form_text (forms.Delete key))
-saying_of kind found (whats.PutAll object pairs) = says (ShardsOf (keys_of pairs)) (form_text (forms.PutAll pairs))
+saying_of kind found (whats.PutAll object pairs) = says (ShardsOf (keys_of_pairs pairs)) (form_text (forms.PutAll pairs))
 saying_of kind found (whats.Commit object pairs) =
     option_map (λ (versions : List Version). record {
-      reach = ShardsOf (map (λ (v : Version). v.key) versions ++ keys_of pairs);
+      reach = ShardsOf (map (λ (v : Version). v.key) versions ++ keys_of_pairs pairs);
       text = form_text (forms.Transaction versions pairs);
     }) found
 saying_of kind found (whats.Enq object value) = says Listed (form_text (forms.Enqueue value))
@@ -108,12 +108,12 @@ Reaches own (Named asked) colours = colours ≡ asked
 Reaches own reach colours = members colours ≡ colours_reached own reach
 
 -- the node is one that is said, of an object with its own colours
-abbrev pub Says : List ℕ → Option Saying → Colours → List ℕ → Type 0
-Says own None colours text = ⊥
-Says own (Some saying) colours text = Reaches own saying.reach colours × (text ≡ saying.text)
+abbrev pub SaysNode : List ℕ → Option Saying → Colours → List ℕ → Type 0
+SaysNode own None colours text = ⊥
+SaysNode own (Some saying) colours text = Reaches own saying.reach colours × (text ≡ saying.text)
 
 -- The command, of a client that keeps this, appends a node with these colours and this text.
 abbrev pub AsksToAppend : Caller → Kept → What → Colours → List ℕ → Type 0
 AsksToAppend caller kept what colours text =
-    Says (object_colours (kind_asked caller what))
+    SaysNode (object_colours (kind_asked caller what))
     (saying_of (kind_asked caller what) (found_by (use_of what) kept) what) colours text

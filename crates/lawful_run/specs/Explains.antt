@@ -22,14 +22,14 @@ use Rattle.report_text.specs.declared.report.Answer.TheVariants as answers
 use Rattle.report_text.specs.declared.report.KeyAnswer.{KeyAnswer}
 use Rattle.report_text.specs.declared.report.ReplyLine.{ReplyLine}
 use Rattle.lawful_run.specs.Callers.{Caller, node_of}
-use Rattle.lawful_run.specs.Asks.{kind_of, home_of, colours_of, home_asked, Appending, Stopping, Committing, Dequeuing, Syncing, Getting, Reading}
+use Rattle.lawful_run.specs.Asks.{kind_of_object, home_of_object, colours_of_object, home_asked, Appending, Stopping, Committing, Dequeuing, Syncing, Getting, Reading}
 use Rattle.lawful_run.specs.Deeds.{AsksToAppend, colours_synced, manner_of}
-use Rattle.lawful_run.specs.Appends.{Appends, AppendsUnshown, HasNoStamp, IsFull}
+use Rattle.lawful_run.specs.Appends.{Appends, AppendsUnshown, HasNoStamp, HasNoRowLeft}
 use Rattle.lawful_run.specs.Shapes.{AppendsBy, TellsBehind, TellsRead}
 use Rattle.lawful_run.specs.Stops.{Stops}
-use Rattle.lawful_run.specs.Reads.{Syncs, ShowsPlayed, greatest_stamp, kept_after_piece, ReadsAt, AreRead, ShowsKey}
+use Rattle.lawful_run.specs.Reads.{Syncs, ShowsPlayed, greatest_stamp, kept_after_piece, ReadsAt, AreKeysRead, ShowsKey}
 use Rattle.lawful_run.specs.Moves.{Pulls, kept_after_pull, Trims}
-use Rattle.lawful_run.specs.Objects.{AreObjectNodes, GetsValue, GetsValues, AreAnswers, Takes, shown_verdict}
+use Rattle.lawful_run.specs.Objects.{AreObjectNodes, GetsValue, GetsValues, AreAnswers, TakesFront, shown_verdict}
 use Rattle.lawful_run.specs.Refusals.{FindsNoMemory, Hides, Refuses, IsAway, IsHomeRefusal, kept_before, kept_behind}
 
 -- the command is no stop before the first step, which is answered before anything is tried
@@ -37,10 +37,10 @@ abbrev pub IsNoStopAtOnce : What → Type 0
 IsNoStopAtOnce what = (colours : Colours) (text : List ℕ) → what ≢ whats.Stop 0 colours text
 
 -- By the nodes read these are the values of the keys that were asked for, and so much is kept behind them.
-abbrev pub ShowsKeys : Caller → What → List KeyAnswer → Kept → Kept → List ObjectNode → Type 0
-ShowsKeys caller what shown read after objects =
+abbrev pub AnswersKeys : Caller → What → List KeyAnswer → Kept → Kept → List ObjectNode → Type 0
+AnswersKeys caller what shown read after objects =
     ((object : ℕ) × (asked : List (List ℕ)) × (what ≡ whats.GetAll object asked)
-    × AreAnswers asked (values_among (colours_of caller object) objects asked) shown × (after ≡ read))
+    × AreAnswers asked (values_among (colours_of_object caller object) objects asked) shown × (after ≡ read))
     ⊎ ((object : ℕ) × (asked : List (List ℕ)) × (what ≡ whats.Read object asked)
     × AreAnswers asked (values_after objects asked) shown
     × (after ≡ with_read read object (Some (versions_after objects asked))))
@@ -63,7 +63,7 @@ Explains log caller kept what (answers.StampEnd colour) nodes after =
     HasNoStamp log caller kept (node_of caller kept colours text) colour after)
 Explains log caller kept what (answers.Full used) nodes after =
     (nodes ≡ []) × IsNoStopAtOnce what × (after ≡ kept)
-    × AppendsBy caller kept what (λ colours text. IsFull caller kept colours used)
+    × AppendsBy caller kept what (λ colours text. HasNoRowLeft caller kept colours used)
 Explains log caller kept what (answers.Stopped steps) nodes after =
     (nodes ≡ []) × (colours : Colours) × (text : List ℕ) × (what ≡ whats.Stop steps colours text)
     × Stops log caller kept (node_of caller kept colours text) steps after
@@ -75,7 +75,7 @@ Explains log caller kept what (answers.Synced sync plays) nodes after =
 Explains log caller kept what (answers.Scanned stamp count raises syncs) nodes after =
     (colours : Colours) × (what ≡ whats.Scan colours) × (count ≡ length nodes)
     × ReadsAt log caller kept (members colours) stamp raises syncs after
-    × (keys : List Key) × AreRead log caller stamp syncs keys × AllZip (ShowsKey log) keys nodes
+    × (keys : List Key) × AreKeysRead log caller stamp syncs keys × AllZip (ShowsKey log) keys nodes
 Explains log caller kept what (answers.Pulled count give carry) nodes after =
     (nodes ≡ []) × (region : ℕ) × (colour : ℕ) × (what ≡ whats.Pull region colour)
     × (place : ℕ) × (give ≡ Event place) × (too_low : List ℕ)
@@ -88,30 +88,30 @@ Explains log caller kept what (answers.Based at base) nodes after =
     × Trims log caller kept colour place base × (after ≡ kept_after_event kept caller.own colour place)
 Explains log caller kept what (answers.Got value sync) nodes after =
     (nodes ≡ []) × (object : ℕ) × (key : List ℕ) × (what ≡ whats.Get object key)
-    × (home : ℕ) × (colours : List ℕ) × (kind_of caller object ≡ Some (kinds.Map home colours))
+    × (home : ℕ) × (colours : List ℕ) × (kind_of_object caller object ≡ Some (kinds.Map home colours))
     × (colours_synced caller what ≡ sync.colour ∷ [])
     × Syncs log caller kept sync.colour sync.events sync.counts
     × GetsValue log caller colours sync key value
     × (after ≡ kept_after_piece log caller kept sync)
 Explains log caller kept what (answers.GotMany values sync) nodes after =
     (nodes ≡ []) × (object : ℕ) × (key : List ℕ) × (what ≡ whats.Get object key)
-    × (kind_of caller object ≡ Some (kinds.Causal sync.colour))
+    × (kind_of_object caller object ≡ Some (kinds.Causal sync.colour))
     × Syncs log caller kept sync.colour sync.events sync.counts
     × GetsValues log caller sync key values
     × (after ≡ kept_after_piece log caller kept sync)
 Explains log caller kept what (answers.GotKeys stamp shown raises syncs) nodes after =
-    (nodes ≡ []) × (read : Kept) × TellsRead log caller kept what stamp raises syncs (ShowsKeys caller what shown read after) read
+    (nodes ≡ []) × (read : Kept) × TellsRead log caller kept what stamp raises syncs (AnswersKeys caller what shown read after) read
 Explains log caller kept what (answers.Ruled conflict stamp row points read_stamp raises syncs) nodes after =
     (nodes ≡ []) × TellsBehind log caller kept what row points read_stamp raises syncs (ShowsVerdict conflict stamp) after
 Explains log caller kept what answers.NoTx nodes after =
     (nodes ≡ []) × (after ≡ kept) × (object : ℕ) × (pairs : _) × (what ≡ whats.Commit object pairs)
-    × (home_of caller object ≡ Some caller.own) × (kept.reads object ≡ None)
+    × (home_of_object caller object ≡ Some caller.own) × (kept.reads object ≡ None)
 Explains log caller kept what (answers.Took value point sync) nodes after =
     (nodes ≡ []) × (manner_of what ≡ Dequeuing) × (sync.colour ≡ point.colour)
     × AppendsBy caller kept what (λ colours text. (own : ℕ) × (stood : Kept)
     × Appends log caller kept (node_of caller kept colours text) own None (point ∷ []) stood
     × Syncs log caller stood sync.colour sync.events sync.counts
-    × Takes log caller point value
+    × TakesFront log caller point value
     × (after ≡ kept_after_piece log caller stood sync))
 Explains log caller kept what (answers.UnreadTrimmed stamp colour base) nodes after =
     (nodes ≡ []) × ((manner_of what ≡ Committing) ⊎ (manner_of what ≡ Dequeuing))

@@ -20,7 +20,7 @@ use Rattle.lawful_run.specs.Callers.{caller_of, commands_of}
 use Rattle.lawful_run.specs.Asks.{may_help}
 use Rattle.lawful_run.specs.Deeds.{manner_of}
 use Rattle.col_core.specs.Ids.{IsStepOf}
-use Rattle.lawful_run.specs.Columns.{AreColumns, AreRows, AreCopies}
+use Rattle.lawful_run.specs.Columns.{AreColumns, AreRowReports, HoldsTrueCopies}
 use Rattle.lawful_run.specs.Explains.{Explained}
 
 -- A client's replies are explained by the log. Its own steps stand just where its commands made them, in their order,
@@ -82,8 +82,8 @@ pub record LawfulRun (script : Script) (report : Report) : Type 0 where
   pub names : map (λ (c : ClientReport). c.name) report.clients ≡ script.clients
   pub clients : (n : ℕ) (c : ClientReport) → slice_get report.clients n ≡ Some c → IsClientRun log script n c.replies
   pub columns : AreColumns log script report.columns
-  pub begun : AreRows log script report.rows
-  pub copies : AreCopies log script
+  pub begun : AreRowReports log script report.rows
+  pub copies : HoldsTrueCopies log script
   -- who helps has a command that may help, and is of the column's region
   pub helpers : (region colour : ℕ) (e : Entry) → region < script.shape.regions → colour < script.shape.colours
       → Contains (log.histories region colour) e → IsHelp e.by e.event

@@ -15,8 +15,8 @@ use Rattle.lawful_run.specs.Callers.{Caller}
 use Rattle.lawful_run.specs.Reads.{kept_after_place, events_until}
 
 -- the client gave, at the place, the other region's line from this number on to its own region
-abbrev pub GivesAt : Log → Caller → ℕ → ℕ → ℕ → ℕ → Type 0
-GivesAt log caller region colour place from =
+abbrev pub GivesFrom : Log → Caller → ℕ → ℕ → ℕ → ℕ → Type 0
+GivesFrom log caller region colour place from =
     slice_get (log.histories region colour) place
     ≡ Some (record { by = caller.client; event = events.Give caller.own from; stamp = 0 })
 
@@ -31,26 +31,26 @@ AsksFor log caller region colour seen until place from =
 -- a give of what was held at a look at so many events or more of the client's own column, and at most so many
 abbrev pub GivesHeld : Log → Caller → ℕ → ℕ → ℕ → ℕ → ℕ → Type 0
 GivesHeld log caller region colour seen until place =
-    (from : ℕ) × GivesAt log caller region colour place from
+    (from : ℕ) × GivesFrom log caller region colour place from
     × AsksFor log caller region colour seen until place from
 
 -- a give of a pull that was made again, since what it asked for was trimmed: its number was below the base by then
 abbrev pub GivesTooLow : Log → Caller → ℕ → ℕ → ℕ → ℕ → ℕ → Type 0
 GivesTooLow log caller region colour seen until place =
-    (from : ℕ) × GivesAt log caller region colour place from
+    (from : ℕ) × GivesFrom log caller region colour place from
     × AsksFor log caller region colour seen until place from
     × (from < at (base region caller.regions (first log region colour place)) region)
 
 -- The client carried so many nodes of the other region, by an event at a place that was not seen before; or none, when
 -- it had looked at so many events.
-abbrev pub CarriesAt : Log → Caller → Kept → ℕ → ℕ → ℕ → At → Type 0
-CarriesAt log caller kept region colour nodes (Event place) =
+abbrev pub CarriesNodes : Log → Caller → Kept → ℕ → ℕ → ℕ → At → Type 0
+CarriesNodes log caller kept region colour nodes (Event place) =
     (kept.seen caller.own colour ≤ place)
     × (start : ℕ) × (heads : List Head)
     × (slice_get (log.histories caller.own colour) place
     ≡ Some (record { by = caller.client; event = events.Carry region start heads; stamp = 0 }))
     × (nodes ≡ length heads)
-CarriesAt log caller kept region colour nodes (Look events) =
+CarriesNodes log caller kept region colour nodes (Look events) =
     (kept.seen caller.own colour ≤ events) × (events ≤ length (log.histories caller.own colour)) × (nodes ≡ 0)
 
 -- A pull: a give at a place that was not seen before, from what was held at a look between what the client had seen and
@@ -61,9 +61,9 @@ pub record Pulls (log : Log) (caller : Caller) (kept : Kept) (region colour node
   pub made_again : All (GivesTooLow log caller region colour (kept.seen caller.own colour) (events_until carry)) too_low
   pub unseen : kept.seen region colour ≤ place
   pub from : ℕ
-  pub gives : GivesAt log caller region colour place from
+  pub gives : GivesFrom log caller region colour place from
   pub asks : AsksFor log caller region colour (kept.seen caller.own colour) (events_until carry) place from
-  pub carries : CarriesAt log caller kept region colour nodes carry
+  pub carries : CarriesNodes log caller kept region colour nodes carry
   pub holds : length (line (take place (log.histories region colour)))
       ≤ length (chain caller.own (first log caller.own colour (seen_after carry)) region)
 

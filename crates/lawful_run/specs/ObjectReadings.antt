@@ -30,7 +30,7 @@ use Rattle.report_text.specs.declared.report.ReplyLine.{ReplyLine}
 use Rattle.report_text.specs.declared.report.ColumnReport.{ColumnReport}
 use Rattle.report_text.specs.declared.report.Report.{Report}
 use Rattle.lawful_run.specs.Callers.{caller_of, commands_of}
-use Rattle.lawful_run.specs.Asks.{kind_of, colours_of}
+use Rattle.lawful_run.specs.Asks.{kind_of_object, colours_of_object}
 use Rattle.lawful_run.specs.Objects.{AreAnswers, places_within, shown_verdict}
 use Rattle.lawful_run.specs.Lawful.{LawfulRun}
 use Rattle.lawful_run.specs.Readings.{HasReply, IsAppend, StandsAtEnd, StandsAtPoints, Nowhere, told}
@@ -83,7 +83,7 @@ GetsAreFolds =
     → (value : Value) (sync : SyncPiece) → reply.answer ≡ answers.Got value sync
     → (line : List Key) → IsClosing report (caller_of script client).own sync.colour line
     → (object : ℕ) × (key : List ℕ) × Commands script client n (whats.Get object key)
-    × (home : ℕ) × (colours : List ℕ) × (kind_of (caller_of script client) object ≡ Some (kinds.Map home colours))
+    × (home : ℕ) × (colours : List ℕ) × (kind_of_object (caller_of script client) object ≡ Some (kinds.Map home colours))
     × (nodes : List ObjectNode) × AreNodesOf run (take (at sync.counts (caller_of script client).own) line) nodes
     × (value ≡ shard_value colours sync.colour nodes key)
 
@@ -108,7 +108,7 @@ CausalGetsAreFolds =
     → (values : List (List ℕ)) (sync : SyncPiece) → reply.answer ≡ answers.GotMany values sync
     → (line : List Key) → IsClosing report (caller_of script client).own sync.colour line
     → (object : ℕ) × (key : List ℕ) × Commands script client n (whats.Get object key)
-    × (kind_of (caller_of script client) object ≡ Some (kinds.Causal sync.colour))
+    × (kind_of_object (caller_of script client) object ≡ Some (kinds.Causal sync.colour))
     × (nodes : List ChainNode) × AllZip (IsChainNodeOf run sync.colour) (places_within sync.counts) nodes
     × IsCausalAnswer nodes key values
 
@@ -132,7 +132,7 @@ ReadsAreFolds =
     → (keys : List Key) × IsRegionOrder lines stamp keys × (nodes : List ObjectNode) × AreNodesOf run keys nodes
     × (object : ℕ) × (asked : List (List ℕ))
     × ((Commands script client n (whats.GetAll object asked)
-    × AreAnswers asked (values_among (colours_of (caller_of script client) object) nodes asked) shown)
+    × AreAnswers asked (values_among (colours_of_object (caller_of script client) object) nodes asked) shown)
     ⊎ (Commands script client n (whats.Read object asked) × AreAnswers asked (values_after nodes asked) shown))
 
 -- A verdict is that of its transaction's node, where this stands, over all nodes up to the read's stamp that the closing

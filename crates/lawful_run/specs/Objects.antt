@@ -53,7 +53,7 @@ pub record AreAnswers (keys : List (List ℕ)) (values : List Value) (answers : 
   pub values_are : map (λ (k : KeyAnswer). k.value) answers ≡ values
 
 -- what the node of a dequeue takes: it answers by the nodes before it in its line
-pub record Takes (log : Log) (caller : Caller) (point : PointPiece) (value : Value) : Type 0 where
+pub record TakesFront (log : Log) (caller : Caller) (point : PointPiece) (value : Value) : Type 0 where
   pub nodes : List ObjectNode
   pub before : AreObjectNodes log (take point.position (line (log.histories caller.own point.colour))) nodes
   pub value_is : value ≡ front_after nodes

@@ -59,20 +59,20 @@ pub record IsAppend {script : Script} {report : Report} (run : LawfulRun script 
   pub id_is : id ≡ record { client = client; count = (kept_of run client k).ids }
 
 -- what an answer tells of a node that its command appended
-pub data Told : Type 0 where
+pub data NodeTold : Type 0 where
   -- there is none in any line
-  Nowhere : Told
+  Nowhere : NodeTold
   -- it stands under the stamp at these points
-  UnderAt : (stamp : ℕ) → List PointPiece → Told
+  UnderAt : (stamp : ℕ) → List PointPiece → NodeTold
   -- it stands at these points
-  StoodAt : List PointPiece → Told
+  StoodAt : List PointPiece → NodeTold
   -- it stands under the stamp
-  Under : (stamp : ℕ) → Told
+  Under : (stamp : ℕ) → NodeTold
   -- others may complete it
-  Perhaps : Told
+  Perhaps : NodeTold
 
 -- what each answer tells of its command's node
-abbrev pub told : Answer → Told
+abbrev pub told : Answer → NodeTold
 told (answers.Stood stamp row points) = UnderAt stamp points
 told (answers.Ruled conflict stamp row points read_stamp raises syncs) = StoodAt points
 told (answers.Took value point sync) = StoodAt (point ∷ [])
@@ -109,7 +109,7 @@ pub record StandsAtPoints (report : Report) (region : ℕ) (id : Id) (colours : 
       → StandsAtEnd report region point.colour point.position (entry_key stamp id)
 
 -- the id stands in the region's closing lines of these colours as it was told
-abbrev pub StandsAs : Report → ℕ → Id → Colours → Told → Type 0
+abbrev pub StandsAs : Report → ℕ → Id → Colours → NodeTold → Type 0
 StandsAs report region id colours Nowhere = ⊥
 StandsAs report region id colours (UnderAt stamp points) = StandsAtPoints report region id colours stamp points
 StandsAs report region id colours (StoodAt points) = (stamp : ℕ) × StandsAtPoints report region id colours stamp points

@@ -50,15 +50,15 @@ abbrev pub greatest_stamp : List PlacedNode → ℕ
 greatest_stamp nodes = greatest (map (λ (item : PlacedNode). item.head.key.stamp) nodes)
 
 -- the greatest stamp of the nodes that a sync plays, which shows none of them
-abbrev pub played_stamp : Log → Caller → Kept → ℕ → ℕ → Counts → ℕ
-played_stamp log caller kept colour events snapshot =
+abbrev pub greatest_played : Log → Caller → Kept → ℕ → ℕ → Counts → ℕ
+greatest_played log caller kept colour events snapshot =
     greatest_between (chain caller.own (first log caller.own colour events)) (kept.starts colour) snapshot
 
 -- what a client keeps after a sync within another command
 abbrev pub kept_after_piece : Log → Caller → Kept → SyncPiece → Kept
 kept_after_piece log caller kept sync =
     kept_after_sync kept caller.own sync.colour sync.events sync.counts
-    (played_stamp log caller kept sync.colour sync.events sync.counts)
+    (greatest_played log caller kept sync.colour sync.events sync.counts)
 
 -- The base of the colour's column, after some number of events from what was seen, is this one, and the client's start
 -- is below it: it lacks nodes that are trimmed.
@@ -71,13 +71,13 @@ pub record IsTrimmed (log : Log) (caller : Caller) (kept : Kept) (colour : ℕ) 
 
 -- A raise to a stamp is the client's own event at the place, which was not seen before; or after so many events, no
 -- fewer than were seen, the clock is at the stamp already. The nodes that the client knew to stand there stand by then.
-abbrev pub RaisesAt : Log → Caller → Kept → ℕ → ℕ → At → Type 0
-RaisesAt log caller kept stamp colour (Event place) =
+abbrev pub RaisesClock : Log → Caller → Kept → ℕ → ℕ → At → Type 0
+RaisesClock log caller kept stamp colour (Event place) =
     (kept.seen caller.own colour ≤ place)
     × (kept.known colour ≤ length (line (take place (log.histories caller.own colour))))
     × (slice_get (log.histories caller.own colour) place
     ≡ Some (record { by = caller.client; event = Raise stamp; stamp = 0 }))
-RaisesAt log caller kept stamp colour (Look events) =
+RaisesClock log caller kept stamp colour (Look events) =
     (kept.seen caller.own colour ≤ events) × (events ≤ length (log.histories caller.own colour))
     × (kept.known colour ≤ length (line (take events (log.histories caller.own colour))))
     × (stamp ≤ clock (take events (log.histories caller.own colour)))
@@ -91,7 +91,7 @@ kept_after_place kept region colour (Look events) = kept_after_look kept region 
 abbrev pub Raises : Log → Caller → ℕ → Kept → List RaisePiece → Kept → Type 0
 Raises log caller stamp kept [] after = after ≡ kept
 Raises log caller stamp kept (raise ∷ raises) after =
-    RaisesAt log caller kept stamp raise.colour raise.at
+    RaisesClock log caller kept stamp raise.colour raise.at
     × Raises log caller stamp (kept_after_place kept caller.own raise.colour raise.at) raises after
 
 -- the syncs of a stamped read, one after another: no open entry up to the stamp is left
@@ -144,8 +144,8 @@ lines_read log caller syncs =
     map (λ (s : SyncPiece). line (take s.events (log.histories caller.own s.colour))) syncs
 
 -- these are the keys of a stamped read: those in the lines of its colours up to its stamp, in the order of the region
-abbrev pub AreRead : Log → Caller → ℕ → List SyncPiece → List Key → Type 0
-AreRead log caller stamp syncs keys = IsRegionOrder (lines_read log caller syncs) stamp keys
+abbrev pub AreKeysRead : Log → Caller → ℕ → List SyncPiece → List Key → Type 0
+AreKeysRead log caller stamp syncs keys = IsRegionOrder (lines_read log caller syncs) stamp keys
 
 -- a node line of a scan shows this key and the text of its node
 abbrev pub ShowsKey : Log → Key → PlacedNode → Type 0
@@ -156,7 +156,7 @@ ShowsKey log key item = (item.head.key ≡ key) × HasText log key.id item.node.
 pub data HidesSync (log : Log) (caller : Caller) (kept : Kept) (colour : ℕ) : Counts → ℕ → Type 0 where
   not_played : HidesSync log caller kept colour (kept.starts colour) 0
   played : (events : ℕ) (snapshot : Counts) → Syncs log caller kept colour events snapshot
-      → HidesSync log caller kept colour snapshot (played_stamp log caller kept colour events snapshot)
+      → HidesSync log caller kept colour snapshot (greatest_played log caller kept colour events snapshot)
 
 -- the same of several colours, one after another; and what the client then keeps
 abbrev pub HidesSyncs : Log → Caller → Kept → List ℕ → Kept → Type 0
@@ -173,7 +173,7 @@ pub record HidesRead (log : Log) (caller : Caller) (kept : Kept) (colours : List
   -- the places of the raises, by colour
   pub places : ℕ → List ℕ
   pub raises : (colour : ℕ) → All (λ place. Contains colours colour
-      × RaisesAt log caller kept stamp colour (Event place))
+      × RaisesClock log caller kept stamp colour (Event place))
       (places colour)
   pub above_floor : kept.floor ≤ stamp
   pub above_clocks : IsAboveClocks log caller kept colours stamp

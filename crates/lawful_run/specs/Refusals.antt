@@ -18,7 +18,7 @@ use Rattle.lawful_run.specs.Asks.{Manner, Appending, Stopping, Syncing, Moving, 
 use Rattle.lawful_run.specs.Deeds.{AsksToAppend, colours_synced, manner_of}
 use Rattle.lawful_run.specs.Appends.{IsGoneForMemory}
 use Rattle.lawful_run.specs.Reads.{HidesSyncs, HidesRead, IsTrimmed, RefusesRead}
-use Rattle.lawful_run.specs.Moves.{OnlyGives, kept_after_giving, GivesAt, GivesTooLow, with_places}
+use Rattle.lawful_run.specs.Moves.{OnlyGives, kept_after_giving, GivesFrom, GivesTooLow, with_places}
 
 -- What a command of this manner may have done in its syncs of these colours that its answer does not show, as where it
 -- found no memory; and what its client then keeps.

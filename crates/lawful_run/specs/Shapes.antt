@@ -14,7 +14,7 @@ use Rattle.lawful_run.specs.Callers.{Caller, node_of}
 use Rattle.lawful_run.specs.Asks.{Committing}
 use Rattle.lawful_run.specs.Deeds.{AsksToAppend, colours_synced, manner_of}
 use Rattle.lawful_run.specs.Appends.{Appends}
-use Rattle.lawful_run.specs.Reads.{ReadsAt, AreRead}
+use Rattle.lawful_run.specs.Reads.{ReadsAt, AreKeysRead}
 use Rattle.lawful_run.specs.Objects.{AreObjectNodes}
 
 -- the command appends this over what the client keeps
@@ -27,7 +27,7 @@ abbrev pub TellsRead : Log → Caller → Kept → What → ℕ → List RaisePi
     → Type 0
 TellsRead log caller kept what stamp raises syncs Says after =
     ReadsAt log caller kept (colours_synced caller what) stamp raises syncs after
-    × (keys : List Key) × AreRead log caller stamp syncs keys
+    × (keys : List Key) × AreKeysRead log caller stamp syncs keys
     × (nodes : List ObjectNode) × AreObjectNodes log keys nodes × Says nodes
 
 -- The command's node stands, a stamped read of the command's colours was made behind it, and this is so of the own key and of

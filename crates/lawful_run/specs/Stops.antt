@@ -1,38 +1,14 @@
--- What a stop within an append says of the log.
-use Rattle.std.specs.Prelude.{◌≡◌, ◌≢◌, ℕ, ◌+◌, ◌<◌, ◌≤◌, List, length, Some, slice_get}
+-- A stop within an append, over the log. Over what a client has seen: client_law; over holds: append_core.
+use Rattle.std.specs.Prelude.{◌≡◌, ℕ, ◌+◌, ◌<◌, ◌≤◌, List, length, Some, slice_get}
 use Rattle.std.specs.List.{All}
 use Rattle.log_node.specs.declared.node.Node.{Node}
 use Rattle.log_node.specs.Sets.{members}
-use Rattle.log_node.specs.declared.marks.Mark.{Mark}
-use Rattle.log_node.specs.declared.marks.Mark.TheVariants as marks
-use Rattle.log_node.specs.declared.marks.Outcome.{Outcome}
-use Rattle.log_node.specs.declared.marks.Outcome.TheVariants.{Open}
-use Rattle.col_core.specs.declared.Event as events
-use Rattle.col_core.specs.declared.Event.TheVariants.{Single, Propose, Settle, Raise, Give, Carry, Trim}
 use Rattle.col_core.specs.declared.Entry.{Entry}
-use Rattle.col_core.specs.Log.{Log, HasMark, HasOutcome}
+use Rattle.col_core.specs.Log.{Log}
+use Rattle.col_core.specs.Appending.{IsMarked, IsDecided, IsStepWithin}
 use Rattle.col_core.specs.Keeping.{Kept, with_made, with_row}
 use Rattle.lawful_run.specs.Callers.{Caller}
 use Rattle.lawful_run.specs.Appends.{BeginsRow, IsSettledIn}
-
--- a colour of the node's row has a mark
-abbrev pub IsMarked : Log → Node → ℕ → Type 0
-IsMarked log node colour = (mark : Mark) × (mark ≢ marks.None) × HasMark log node colour mark
-
--- the node's row keeps an outcome
-abbrev pub IsDecided : Log → Node → Type 0
-IsDecided log node = (outcome : Outcome) × (outcome ≢ Open) × HasOutcome log node outcome
-
--- The n-th colour of k has its proposal among so many first steps of the append (after the beginning of the row), and
--- its settling too (after all proposals and the decision).
-abbrev pub IsStepWithin : ℕ → ℕ → ℕ → events.Event → Type 0
-IsStepWithin n k steps (Single id floor wants) = ⊥
-IsStepWithin n k steps (Propose id floor wants) = n + 1 < steps
-IsStepWithin n k steps (Settle id outcome) = n + k + 2 < steps
-IsStepWithin n k steps (Raise to) = ⊥
-IsStepWithin n k steps (Give region from) = ⊥
-IsStepWithin n k steps (Carry region start heads) = ⊥
-IsStepWithin n k steps (Trim counts) = ⊥
 
 -- An append of several colours has stopped after so many steps, one or more: it has begun its row, then marked its
 -- colours in their order, then decided, then settled its colours in their order; and the client took no later step.

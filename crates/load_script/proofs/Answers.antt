@@ -17,7 +17,7 @@ use Rattle.report_text.specs.declared.report.ReplyLine.{ReplyLine}
 use Rattle.lawful_run.specs.Callers.{Caller, node_of}
 use Rattle.lawful_run.specs.Asks.{home_asked, Manner, Appending, Stopping, Syncing, Moving, Getting, Reading, Committing, Dequeuing}
 use Rattle.lawful_run.specs.Deeds.{AsksToAppend, colours_synced, manner_of}
-use Rattle.lawful_run.specs.Appends.{Appends, HasNoStamp, IsFull}
+use Rattle.lawful_run.specs.Appends.{Appends, HasNoStamp, HasNoRowLeft}
 use Rattle.lawful_run.specs.Reads.{Syncs, ShowsPlayed, greatest_stamp}
 use Rattle.lawful_run.specs.Moves.{Pulls, kept_after_pull}
 use Rattle.lawful_run.specs.Refusals.{Refuses, kept_before, kept_behind}
@@ -47,7 +47,7 @@ pub data Comes (log : Log) (caller : Caller) (kept : Kept) (what : What) (answer
       → HasNoStamp log caller kept (node_of caller kept colours text) colour after
       → Comes log caller kept what answer after
   full : (colours : Colours) (text : List ℕ) (used : ℕ) → what ≡ whats.Append colours text → after ≡ kept
-      → IsFull caller kept colours used → Comes log caller kept what answer after
+      → HasNoRowLeft caller kept colours used → Comes log caller kept what answer after
   synced : (colour events : ℕ) (snapshot : Counts) (nodes : List PlacedNode) → what ≡ whats.Sync colour
       → tells_node (told answer) ≡ false
       → Syncs log caller kept colour events snapshot → ShowsPlayed log caller kept colour events snapshot nodes

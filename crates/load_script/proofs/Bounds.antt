@@ -33,10 +33,11 @@ use Rattle.lawful_run.specs.Moves.{with_places}
 use Rattle.lawful_run.specs.Reads.{kept_after_place}
 use Rattle.lawful_run.specs.Explains.{Explained, start, next}
 use Rattle.lawful_run.specs.Lawful.{LawfulRun}
-use Rattle.load_script.specs.Plain.{IsPlainWhat, IsPlain, IsUnwanting}
+use Rattle.lawful_run.proofs.CallerLemmas.{points_leave}
+use Rattle.load_script.specs.Plain.{IsPlainWhat, IsPlainScript, IsUnwanting}
 use Rattle.load_script.proofs.Counts.{Distinct, few, pairs, in_pairs, length_pairs, two, four, eight, length_range, in_range}
 use Rattle.load_script.proofs.Answers.{Comes, stood, without_stamp, full, synced, pulled, unchanged, answer_comes}
-use Rattle.load_script.proofs.Traces.{either, points_same}
+use Rattle.load_script.proofs.Traces.{either}
 use Rattle.load_script.proofs.Stamps.{Given, Has, IsFine, client_shown, commands_plain, replies_unwanting, legal, fine, stamped, clock_stamped}
 use Rattle.col_core.proofs.CallerLemmas.{any_in}
 pub use Rattle.log_node.proofs.CallerLemmas.{get_map_back}
@@ -60,7 +61,7 @@ ids_step log caller kept what answer after (stood set text stamp row points is t
   of None (p ∷ q ∷ points) a = absurd a
   of (Some number) points a =
       let e = ap (λ (k : Kept). k.ids) a.3 in
-      let s = (points_same caller.own kept points).0 in
+      let s = (points_leave caller.own kept points).ids in
       omega (arith, e, s)
 ids_step log caller kept what answer after (without_stamp set text colour is h) = of after h where
   of : (after : Kept) → HasNoStamp log caller kept (node_of caller kept set text) colour after → after.ids ≤ kept.ids
@@ -189,7 +190,7 @@ pub record IsLoadSized (script : Script) : Type 0 where
 abbrev Slot : Type 0
 Slot = ℕ × (ℕ × (ℕ × ℕ))
 
-module _ (script : Script) (report : Report) (fits : IsFitting script) (plain : IsPlain script)
+module _ (script : Script) (report : Report) (fits : IsFitting script) (plain : IsPlainScript script)
     (sized : IsLoadSized script) (run : LawfulRun script report)
     (unwanting : IsUnwanting report) where
   abbrev log : Log

@@ -9,7 +9,7 @@ use Rattle.script_text.specs.declared.script.What.TheVariants as whats
 use Rattle.script_text.specs.declared.script.Command.{Command}
 use Rattle.load_script.specs.declared.script.TheConstants.{CLIENTS}
 use Rattle.load_script.specs.declared.summary.Summary.{Summary}
-use Rattle.load_script.specs.Generated.{home_of, sets, asked_by, choice_of, command_of, round_of, rounds_of}
+use Rattle.load_script.specs.Generated.{home_by_turns, sets, asked_by, choice_of, command_of, round_of, rounds_of}
 use Rattle.load_script.specs.Summing.{appended, is_node, is_of_colour, is_of_row}
 use Rattle.load_script.specs.Laws.{LoadsOfEights}
 use Rattle.load_script.proofs.Sums.{filter-append, filter_same}
@@ -18,7 +18,7 @@ appended_by : (o : Option Colours) (choice client round : ℕ) → appended (ask
 appended_by (Some set) choice' client round = refl
 appended_by None choice' client round =
     choice (λ (w : What). appended w ≡ None) (choice' == 6) (whats.Sync (round % 4))
-    (whats.Pull (home_of (client + 1)) (round % 4))
+    (whats.Pull (home_by_turns (client + 1)) (round % 4))
     (λ _. refl) (λ _. refl)
 
 module _ (t : ℕ → Option Colours → Bool) where
@@ -137,7 +137,7 @@ module _ (t : ℕ → Option Colours → Bool) where
 
 -- the tests that the summary counts
 abbrev to_column : ℕ → ℕ → ℕ → Option Colours → Bool
-to_column region colour client o = (home_of client == region) && is_of_colour colour o
+to_column region colour client o = (home_by_turns client == region) && is_of_colour colour o
 
 abbrev a_node : ℕ → Option Colours → Bool
 a_node client o = is_node o

@@ -32,11 +32,12 @@ use Rattle.lawful_run.specs.Explains.{Explained, start, next}
 use Rattle.lawful_run.specs.Lawful.{LawfulRun}
 use Rattle.lawful_run.specs.Moves.{with_places}
 use Rattle.lawful_run.specs.Readings.{told}
-use Rattle.load_script.specs.Plain.{IsPlain, IsUnwanting}
+use Rattle.lawful_run.proofs.CallerLemmas.{points_leave}
+use Rattle.load_script.specs.Plain.{IsPlainScript, IsUnwanting}
 use Rattle.load_script.specs.Summing.{appended, is_node, is_of_row, appends, begins_row, tells_node}
 use Rattle.load_script.proofs.Counts.{in_map}
 use Rattle.load_script.proofs.Answers.{Comes, stood, without_stamp, full, synced, pulled, unchanged, answer_comes}
-use Rattle.load_script.proofs.Traces.{trace, points_same}
+use Rattle.load_script.proofs.Traces.{trace}
 use Rattle.load_script.proofs.Stamps.{Has, home_within, commands_plain, stamped, clock_stamped}
 use Rattle.load_script.proofs.Bounds.{IsLoadSized, bounded, filtered, place_same}
 
@@ -62,7 +63,7 @@ length_filter_push p (y ∷ ys) x = at (p y) (length_filter_push p ys x) where
 abbrev pub tells : ReplyLine → Bool
 tells reply = tells_node (told reply.answer)
 
-module _ (script : Script) (report : Report) (fits : IsFitting script) (plain : IsPlain script)
+module _ (script : Script) (report : Report) (fits : IsFitting script) (plain : IsPlainScript script)
     (sized : IsLoadSized script) (run : LawfulRun script report)
     (unwanting : IsUnwanting report) (n : ℕ) (lt : n < length script.shape.homes) where
   abbrev log : Log
@@ -91,19 +92,19 @@ module _ (script : Script) (report : Report) (fits : IsFitting script) (plain : 
         kept.floor floor had.ended
     has_stamps set text below colour _ (none_for_several places g) =
         let node = node_of caller kept set text in
-        let r = g.fence.0 in
-        let begun = g.fence.1 in
+        let r = g.ends.fence.0 in
+        let begun = g.ends.fence.1 in
         let law = run.begun.lawful caller.own (home_within script report fits plain run unwanting n lt) in
         let m : ColourMark = record { colour = colour; mark = marks.Fenced StampEnd } in
         let all = All-contains (λ (x : BegunRow). All (λ (m : ColourMark). IsMarkOf
         (log.histories caller.own m.colour) x.node m.mark) x.marks)
         (log.rows caller.own) r law.marks begun.begun in
         let is = All-contains (λ (m : ColourMark). IsMarkOf (log.histories caller.own m.colour) r.node m.mark)
-        r.marks m all g.fence.2 in
+        r.marks m all g.ends.fence.2 in
         let fit = All-contains (FitsRow caller.own) (log.rows caller.own) r law.fit begun.begun in
         let among : In colour (members r.node.colours) =
         subst (λ (l : List ℕ). In colour l) fit.a_mark_each
-        (in_map (λ (x : ColourMark). x.colour) r.marks m (in_contains r.marks m g.fence.2)) in
+        (in_map (λ (x : ColourMark). x.colour) r.marks m (in_contains r.marks m g.ends.fence.2)) in
         let here : In colour (members set) = subst (λ (x : Node). In colour (members x.colours)) begun.of_node among in
         let lc = All-contains (λ c. c < script.shape.colours) (members set) colour below
         (contains_in (members set) colour here) in
@@ -123,7 +124,7 @@ module _ (script : Script) (report : Report) (fits : IsFitting script) (plain : 
     stood_rows set text stamp None (p ∷ q ∷ points) after a = absurd a
     stood_rows set text stamp (Some number) points after a =
         let e = ap (λ (k : Kept). k.rows) a.3 in
-        let s = (points_same caller.own kept points).3 in
+        let s = (points_leave caller.own kept points).rows in
         let b = ap one_if (lt-ltb 1 (length (members set)) a.2.begins.several) in
         omega (arith, e, s, b)
 

@@ -28,9 +28,9 @@ use Rattle.report_text.specs.declared.report.Report.{Report}
 use Rattle.lawful_run.specs.Callers.{caller_of, commands_of}
 use Rattle.lawful_run.specs.Columns.{row_report}
 use Rattle.lawful_run.specs.Lawful.{LawfulRun}
-use Rattle.lawful_run.specs.Readings.{kept_of, HasReply, IsAppend, Told, Nowhere, UnderAt, StoodAt, Under, Perhaps, told, StandsAtEnd, StandsAs, ReturnedAppendsStand, OneCommand, ClosingLinesRise, OneKey, NothingElseStands}
-use Rattle.load_script.specs.Generated.{home_of}
-use Rattle.load_script.specs.Plain.{IsPlain, IsUnwanting}
+use Rattle.lawful_run.specs.Readings.{kept_of, HasReply, IsAppend, NodeTold, Nowhere, UnderAt, StoodAt, Under, Perhaps, told, StandsAtEnd, StandsAs, ReturnedAppendsStand, OneCommand, ClosingLinesRise, OneKey, NothingElseStands}
+use Rattle.load_script.specs.Generated.{home_by_turns}
+use Rattle.load_script.specs.Plain.{IsPlainScript, IsUnwanting}
 use Rattle.load_script.specs.Summing.{appended, appends, begins_row, is_node, is_of_colour, goes_to, length_of, tells_node, nodes_told}
 use Rattle.load_script.proofs.Counts.{Distinct, as_many, in_map, in_map_back, in_range, range_in, length_range, total, total_same, total_one, by_client, passes, all_pass}
 use Rattle.load_script.proofs.Places.{places, length_places, in_places, places_in, distinct_places, distinct_filter, distinct_map, distinct_at}
@@ -48,7 +48,7 @@ within_there (y ∷ xs) zero x e = omega arith
 within_there (y ∷ xs) (suc k) x e = let l = within_there xs k x e in omega (arith, l)
 
 -- where a node stands of which an answer tells
-stands_in : (report : Report) (region : ℕ) (id : Id) (colours : Colours) (t : Told) → tells_node t ≡ true
+stands_in : (report : Report) (region : ℕ) (id : Id) (colours : Colours) (t : NodeTold) → tells_node t ≡ true
     → StandsAs report region id colours t → (colour : ℕ) → In colour (members colours)
     → (stamp : ℕ) × (position : ℕ) × StandsAtEnd report region colour position (entry_key stamp id)
 stands_in report region id colours Nowhere tell s colour i = absurd s
@@ -72,13 +72,13 @@ stands_in report region id colours (Under stamp) tell s colour i =
     let p = s colour (contains_in (members colours) colour i) in (stamp, p.0, p.1)
 stands_in report region id colours Perhaps tell s colour i = absurd (true≢false (sym tell))
 
-of_told : (t : Told) → tells_node t ≡ true → t ≢ Nowhere
+of_told : (t : NodeTold) → tells_node t ≡ true → t ≢ Nowhere
 of_told t e n = true≢false (sym e ∙ ap tells_node n)
 
-module _ (script : Script) (report : Report) (fits : IsFitting script) (plain : IsPlain script)
+module _ (script : Script) (report : Report) (fits : IsFitting script) (plain : IsPlainScript script)
     (sized : IsLoadSized script) (run : LawfulRun script report)
     (unwanting : IsUnwanting report)
-    (homes : (n : ℕ) → n < length script.shape.homes → slice_index script.shape.homes n ≡ home_of n)
+    (homes : (n : ℕ) → n < length script.shape.homes → slice_index script.shape.homes n ≡ home_by_turns n)
     (returned : ReturnedAppendsStand) (one_command : OneCommand) (rising : ClosingLinesRise) (one_key : OneKey)
     (nothing_else : NothingElseStands) where
   abbrev log : Log
@@ -135,14 +135,14 @@ module _ (script : Script) (report : Report) (fits : IsFitting script) (plain : 
         let lt : key.id.client < length script.shape.homes =
         let l = within_there report.clients key.id.client a.replied.0 a.replied.1 in let m = clients_many in omega
         (arith, l, m) in
-        let home : home_of a.command.client ≡ column.region = ap home_of client ∙
+        let home : home_by_turns a.command.client ≡ column.region = ap home_by_turns client ∙
         (sym (homes key.id.client lt) ∙ s.7) in
         let colour : is_of_colour column.colour (appended a.command.what) ≡ true =
         ap (λ (x : What). is_of_colour column.colour (appended x)) what
         ∙ (in_filter (has s.2) column.colour (range_with_len 0 MAX_COLOURS) (in_contains (members s.2) column.colour s.6)).1 in
         let g : goes_to column.region column.colour a.command ≡ true =
-        and_from (home_of a.command.client == column.region) (is_of_colour column.colour (appended a.command.what))
-        (eq-eqb (home_of a.command.client) column.region home) colour in
+        and_from (home_by_turns a.command.client == column.region) (is_of_colour column.colour (appended a.command.what))
+        (eq-eqb (home_by_turns a.command.client) column.region home) colour in
         let placed = places_in (goes_to column.region column.colour) 0 (commands_of script key.id.client) s.0
         a.command a.asked g in
         let count : number key.id.client (0 + s.0) ≡ key.id.count =
@@ -178,7 +178,7 @@ module _ (script : Script) (report : Report) (fits : IsFitting script) (plain : 
         let b = get_map_back tells c.0.replies k (appends p.2)
         (subst (λ (l : List Bool). slice_get l k ≡ Some (appends p.2)) (sym f)
         (get_map appends (commands_of script n) k p.2 asked)) in
-        let g = and_parts (home_of p.2.client == column.region) (is_of_colour column.colour (appended p.2.what)) p.4
+        let g = and_parts (home_by_turns p.2.client == column.region) (is_of_colour column.colour (appended p.2.what)) p.4
         in record {
           reply = b.0;
           replied = (c.0, c.1, b.1);
@@ -201,12 +201,12 @@ module _ (script : Script) (report : Report) (fits : IsFitting script) (plain : 
         (subst (λ (x : Command). In x (commands_of script n)) (sym same) here) in
         let what = asks_append (caller_of script n) (kept_of run n k) a.command.what s.1 s.2
         (is_plain a.command.what p.0) a.asks in
-        let q = and_parts (home_of g.command.client == column.region)
+        let q = and_parts (home_by_turns g.command.client == column.region)
         (is_of_colour column.colour (appended g.command.what)) g.going in
         let client = eqb-true g.command.client n (in_filter (λ (x : Command). x.client == n) g.command
         script.commands here).1 in
         let own : slice_index script.shape.homes n ≡ column.region =
-        homes n lt ∙ (ap home_of (sym client) ∙ eqb-true (home_of g.command.client) column.region q.0) in
+        homes n lt ∙ (ap home_by_turns (sym client) ∙ eqb-true (home_by_turns g.command.client) column.region q.0) in
         let colour : has s.1 column.colour ≡ true =
         sym (ap (λ (x : What). is_of_colour column.colour (appended x)) what)
         ∙ (ap (λ (x : Command). is_of_colour column.colour (appended x.what)) same ∙ q.1) in

@@ -21,8 +21,8 @@ use Rattle.lawful_run.specs.Lawful.{LawfulRun}
 use Rattle.lawful_run.specs.Readings.{HasReply, told, ReturnedAppendsStand, OneCommand, ClosingLinesRise, OneKey, NothingElseStands}
 use Rattle.load_script.specs.declared.script.TheConstants.{MAX_LOAD, CLIENTS}
 use Rattle.load_script.specs.declared.summary.Summary.{Summary}
-use Rattle.load_script.specs.Generated.{home_of, sets, asked_by, choice_of, command_of, round_of, rounds_of, load_script}
-use Rattle.load_script.specs.Plain.{IsPlainWhat, IsPlain, IsUnwanting}
+use Rattle.load_script.specs.Generated.{home_by_turns, sets, asked_by, choice_of, command_of, round_of, rounds_of, load_script}
+use Rattle.load_script.specs.Plain.{IsPlainWhat, IsPlainScript, IsUnwanting}
 use Rattle.load_script.specs.Summing.{appended, appends, is_node, length_of, tells_node, load_summary, shown_summary}
 use Rattle.load_script.specs.Laws.{EachAppendStands, LoadsComeToTheirSummary}
 use Rattle.load_script.proofs.Bounds.{IsLoadSized}
@@ -75,7 +75,7 @@ asks : (o : Option Colours) (choice client round : ℕ) → ((set : Colours) →
     (asked_by o choice client round)
 asks (Some set) choice' client round among = (tt, sets_fit set (among set refl), tt)
 asks None choice' client round among =
-    choice Asks (choice' == 6) (whats.Sync (round % 4)) (whats.Pull (home_of (client + 1)) (round % 4))
+    choice Asks (choice' == 6) (whats.Sync (round % 4)) (whats.Pull (home_by_turns (client + 1)) (round % 4))
     (λ _. (tt, (remains round).0, tt)) (λ _. (tt, ((remains (client + 1)).1, (remains round).0), tt))
 
 -- what holds of each command of a load
@@ -150,8 +150,8 @@ module _ (count : ℕ) (small : count ≤ MAX_LOAD) where
       few_colours = omega arith;
       a_client = omega arith;
       few_clients = omega arith;
-      homes = all_of (λ home. home < 2) (map home_of (range_with_len 0 CLIENTS)) (λ home i.
-          let b = in_map_back home_of (range_with_len 0 CLIENTS) home i in subst (λ n. n < 2) b.2 (remains b.0).1);
+      homes = all_of (λ home. home < 2) (map home_by_turns (range_with_len 0 CLIENTS)) (λ home i.
+          let b = in_map_back home_by_turns (range_with_len 0 CLIENTS) home i in subst (λ n. n < 2) b.2 (remains b.0).1);
     };
     regions = refl;
     colours = refl;
@@ -163,7 +163,7 @@ module _ (count : ℕ) (small : count ≤ MAX_LOAD) where
     few = let l = length_rounds count 0 count in omega (arith, l, small);
   }
 
-  pub load_plain : IsPlain (load_script count)
+  pub load_plain : IsPlainScript (load_script count)
   load_plain = record {
     plain = all_of (λ (c : Command). IsPlainWhat c.what) (rounds_of count count) (λ c i. (command_is c i).asked.0);
     rows = λ client. let f = few_each count client 0 count in omega (arith, f, small);
@@ -172,8 +172,8 @@ module _ (count : ℕ) (small : count ≤ MAX_LOAD) where
   load_sized : IsLoadSized (load_script count)
   load_sized = record { regions = omega arith; colours = omega arith; clients = omega arith }
 
-  homes_are : (n : ℕ) → n < 8 → slice_index (map home_of (range_with_len 0 CLIENTS)) n ≡ home_of n
-  homes_are n lt = index_range home_of 0 CLIENTS n (omega (arith, lt)) ∙ ap home_of
+  homes_are : (n : ℕ) → n < 8 → slice_index (map home_by_turns (range_with_len 0 CLIENTS)) n ≡ home_by_turns n
+  homes_are n lt = index_range home_by_turns 0 CLIENTS n (omega (arith, lt)) ∙ ap home_by_turns
       (let e : 0 + n ≡ n = omega arith in e)
 
   module _ (returned : ReturnedAppendsStand) (one_command : OneCommand) (rising : ClosingLinesRise) (one_key : OneKey)

@@ -37,7 +37,7 @@ use Rattle.report_text.specs.declared.report.Report.{Report}
 use Rattle.lawful_run.specs.Callers.{caller_of, commands_of}
 use Rattle.lawful_run.specs.Columns.{IsColumnReport, IsClientIn, column_numbers}
 use Rattle.lawful_run.specs.Lawful.{LawfulRun}
-use Rattle.load_script.specs.Plain.{IsPlainWhat, IsPlain, IsUnwanting, wants_memory, is_unwanting, found_all}
+use Rattle.load_script.specs.Plain.{IsPlainWhat, IsPlainScript, IsUnwanting, wants_memory, is_unwanting, found_all}
 use Rattle.load_script.proofs.Counts.{in_map, in_map_back, in_range}
 use Rattle.load_script.proofs.Traces.{MadeBy, Trace, Holds, trace, of_greatest}
 use Rattle.load_script.proofs.Heads.{to_flat_map, in_take, chain_stamps, clock_is}
@@ -105,7 +105,7 @@ IsFine F clients ids (Give region from) = Unit {0}
 IsFine F clients ids (Carry region start heads) = Unit {0}
 IsFine F clients ids (Trim counts) = Unit {0}
 
-module _ (script : Script) (report : Report) (fits : IsFitting script) (plain : IsPlain script)
+module _ (script : Script) (report : Report) (fits : IsFitting script) (plain : IsPlainScript script)
     (run : LawfulRun script report)
     (unwanting : IsUnwanting report) where
   abbrev log : Log

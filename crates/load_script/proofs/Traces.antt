@@ -21,7 +21,7 @@ use Rattle.col_core.specs.declared.Event.TheVariants.{Single, Propose, Settle, R
 use Rattle.col_core.specs.declared.Entry.{Entry}
 use Rattle.col_core.specs.Cuts.{chain}
 use Rattle.col_core.specs.Ids.{IsStepOf}
-use Rattle.col_core.specs.Keeping.{Kept, updated, updated_at, kept_after_event, kept_after_point, with_made, with_row, with_floor}
+use Rattle.col_core.specs.Keeping.{Kept, updated, updated_at, kept_after_event, with_made, with_row, with_floor}
 use Rattle.col_core.specs.Log.{Log, first, HasOutcome}
 use Rattle.col_core.specs.PlayOrder.{Place, Stands}
 use Rattle.col_core.proofs.CallerLemmas.{In, in_append, in_left, in_right, contains_in, choice}
@@ -35,8 +35,9 @@ use Rattle.report_text.specs.declared.report.ReplyLine.{ReplyLine}
 use Rattle.lawful_run.specs.Callers.{Caller, node_of}
 use Rattle.lawful_run.specs.Appends.{Appends, kept_after_points, BeginsRow, HasNoStamp, none_for_one, none_for_several}
 use Rattle.lawful_run.specs.Reads.{ShowsNode, ShowsPlayed, greatest_stamp, kept_after_place, events_until}
-use Rattle.lawful_run.specs.Moves.{GivesTooLow, CarriesAt, with_places}
+use Rattle.lawful_run.specs.Moves.{GivesTooLow, CarriesNodes, with_places}
 use Rattle.lawful_run.specs.Explains.{Explained, start, next}
+use Rattle.lawful_run.proofs.CallerLemmas.{points_leave}
 use Rattle.load_script.specs.Plain.{IsPlainWhat}
 use Rattle.load_script.proofs.Answers.{Comes, stood, without_stamp, full, synced, pulled, unchanged, answer_comes}
 
@@ -66,13 +67,6 @@ made_own f a g b m place =
       split : b ≡ a → In place (f a m) ⊎ In place (g m) → In place (f b m) ⊎ ((b ≡ a) × In place (g m))
       split e (inl i) = inl (subst (λ c. In place (f c m)) (sym e) i)
       split e (inr i) = inr (e, i)
-
-pub points_same : (own : ℕ) (kept : Kept) (points : List PointPiece) →
-    ((kept_after_points kept own points).ids ≡ kept.ids)
-    × ((kept_after_points kept own points).made ≡ kept.made) × ((kept_after_points kept own points).floor ≡ kept.floor)
-    × ((kept_after_points kept own points).rows ≡ kept.rows)
-points_same own kept [] = (refl, refl, refl, refl)
-points_same own kept (p ∷ ps) = points_same own (kept_after_point kept own p.colour p.at p.position) ps
 
 -- the greater of two numbers is one of them
 pub either : (F : ℕ → Type 0) (a b : ℕ) → F a → F b → F (max a b)
@@ -246,12 +240,12 @@ module _ (F : ℕ → Type 0) (colours : ℕ) (log : Log) (caller : Caller) (hol
           ]
     stood_later stamp None (p ∷ q ∷ points) after a = absurd a
     stood_later stamp (Some number) points after a =
-        let same = points_same caller.own kept points in
+        let same = points_leave caller.own kept points in
         subst (λ (k : Kept). Trace F colours log caller k) (sym a.3)
         (row_later (with_row (with_floor (kept_after_points kept caller.own points) stamp)) a.1
-        (either F (kept_after_points kept caller.own points).floor stamp (subst F (sym same.2) t.floor)
+        (either F (kept_after_points kept caller.own points).floor stamp (subst F (sym same.floor) t.floor)
         (holds.final node stamp refl below a.2.outcome))
-        (ap (λ n. n + 1) same.0) same.1 a.2.begins)
+        (ap (λ n. n + 1) same.ids) same.made a.2.begins)
 
     stampless_later : (colour : ℕ) (after : Kept) → HasNoStamp log caller kept node colour after → Trace F colours
         log caller after
@@ -323,7 +317,7 @@ module _ (F : ℕ → Type 0) (colours : ℕ) (log : Log) (caller : Caller) (hol
         ]
 
   carry_later : (kept held : Kept) → Trace F colours log caller kept → (region colour nodes : ℕ) (at : At)
-      → CarriesAt log caller held region colour nodes at → Trace F colours log caller
+      → CarriesNodes log caller held region colour nodes at → Trace F colours log caller
       (kept_after_place kept caller.own colour at)
   carry_later kept held t region colour nodes (ats.Event place) c = event_later kept t caller.own colour place _ c.3 tt
   carry_later kept held t region colour nodes (ats.Look events) c =

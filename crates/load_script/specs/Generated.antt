@@ -10,8 +10,8 @@ use Rattle.script_text.specs.declared.script.Script.{Script}
 use Rattle.load_script.specs.declared.script.TheConstants.{CLIENTS, FIRST_LINE}
 
 -- even clients are in the first region, the others in the second
-abbrev pub home_of : ℕ → ℕ
-home_of client = client % 2
+abbrev pub home_by_turns : ℕ → ℕ
+home_by_turns client = client % 2
 
 -- the number by which a client's command of a round is chosen, in a load of so many rounds
 abbrev pub choice_of : ℕ → ℕ → ℕ → ℕ
@@ -29,8 +29,9 @@ node_text client round = codes "t" ++ decimal client ++ codes "-" ++ decimal rou
 abbrev pub asked_by : Option Colours → ℕ → ℕ → ℕ → What
 asked_by (Some set) choice client round = whats.Append set (node_text client round)
 asked_by None choice client round =
-    if choice == 6 then whats.Sync (round % 4) else whats.Pull (home_of (client + 1)) (round % 4)
+    if choice == 6 then whats.Sync (round % 4) else whats.Pull (home_by_turns (client + 1)) (round % 4)
 
+-- what a client asks in a round, by the number of its choice
 abbrev pub what_asked : ℕ → ℕ → ℕ → What
 what_asked choice client round = asked_by (slice_get sets choice) choice client round
 
@@ -57,7 +58,7 @@ numbered letter count = map (λ n. letter ∷ (48 + n) ∷ []) (range_with_len 0
 -- a load's script: as many rounds as its number says
 abbrev pub load_script : ℕ → Script
 load_script count = record {
-  shape = record { regions = 2; colours = 4; homes = map home_of (range_with_len 0 CLIENTS); rows = 4096 };
+  shape = record { regions = 2; colours = 4; homes = map home_by_turns (range_with_len 0 CLIENTS); rows = 4096 };
   regions = codes "east" ∷ codes "west" ∷ [];
   colours = numbered 99 4;
   clients = numbered 107 CLIENTS;

@@ -9,12 +9,12 @@ use Rattle.lawful_run.specs.Lawful.{LawfulRun}
 use Rattle.lawful_run.specs.Readings.{HasReply, told}
 use Rattle.load_script.specs.declared.script.TheConstants.{MAX_LOAD}
 use Rattle.load_script.specs.Generated.{load_script}
-use Rattle.load_script.specs.Plain.{IsPlain, IsUnwanting}
+use Rattle.load_script.specs.Plain.{IsPlainScript, IsUnwanting}
 use Rattle.load_script.specs.Summing.{appended, is_node, tells_node, load_summary, shown_summary, summary_text}
 
 -- The script of a load fits, and only appends, syncs and pulls.
 abbrev pub LoadsFit : Type 0
-LoadsFit = (count : ℕ) → count ≤ MAX_LOAD → IsFitting (load_script count) × IsPlain (load_script count)
+LoadsFit = (count : ℕ) → count ≤ MAX_LOAD → IsFitting (load_script count) × IsPlainScript (load_script count)
 
 -- In each lawful run of a load, in which no command found want of memory, just the appends are answered with a node that
 -- stands: none is refused, for no row being left or for the stamps' end.

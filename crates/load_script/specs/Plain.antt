@@ -20,7 +20,7 @@ IsPlainWhat (whats.Pull region colour) = Unit {0}
 IsPlainWhat _ = ⊥
 
 -- The script only appends, syncs and pulls, and no client has more commands than rows.
-pub record IsPlain (script : Script) : Type 0 where
+pub record IsPlainScript (script : Script) : Type 0 where
   pub plain : All (λ (c : Command). IsPlainWhat c.what) script.commands
   pub rows : (client : ℕ) → length (commands_of script client) ≤ script.shape.rows
 
@@ -59,5 +59,6 @@ found_all client = list_all is_unwanting client.replies
 abbrev pub found_memory : Report → Bool
 found_memory report = list_all found_all report.clients
 
+-- no reply tells of want of memory
 abbrev pub IsUnwanting : Report → Type 0
 IsUnwanting report = found_memory report ≡ true

@@ -11,9 +11,9 @@ use Rattle.report_text.specs.declared.report.ClientReport.{ClientReport}
 use Rattle.report_text.specs.declared.report.ColumnReport.{ColumnReport}
 use Rattle.report_text.specs.declared.report.Report.{Report}
 use Rattle.lawful_run.specs.Columns.{column_numbers}
-use Rattle.lawful_run.specs.Readings.{Told, Nowhere, UnderAt, StoodAt, Under, Perhaps, told}
+use Rattle.lawful_run.specs.Readings.{NodeTold, Nowhere, UnderAt, StoodAt, Under, Perhaps, told}
 use Rattle.load_script.specs.declared.summary.Summary.{Summary}
-use Rattle.load_script.specs.Generated.{home_of, rounds_of}
+use Rattle.load_script.specs.Generated.{home_by_turns, rounds_of}
 
 -- the colours to which a command appends a node, where it is a plain append
 abbrev pub appended : What → Option Colours
@@ -45,7 +45,7 @@ begins_row command = is_of_row (appended command.what)
 
 -- a client of the region appends to the colour
 abbrev pub goes_to : ℕ → ℕ → Command → Bool
-goes_to region colour command = (home_of command.client == region) && is_of_colour colour (appended command.what)
+goes_to region colour command = (home_by_turns command.client == region) && is_of_colour colour (appended command.what)
 
 -- how many commands append to the colour in the region
 abbrev pub length_of : List Command → ℕ × ℕ → ℕ
@@ -86,7 +86,7 @@ abbrev pub load_summary : ℕ → Summary
 load_summary count = summary_of count (rounds_of count count)
 
 -- an answer tells that a node stands
-abbrev pub tells_node : Told → Bool
+abbrev pub tells_node : NodeTold → Bool
 tells_node Nowhere = false
 tells_node (UnderAt stamp points) = true
 tells_node (StoodAt points) = true

@@ -1,7 +1,7 @@
 // The script of a load.
 ghost use Rattle.std.specs.Prelude.{◌≡◌, ◌≤◌, ◌<◌, [], ◌∷◌, ◌++◌, IfOk, OnOk, map, codes};
 ghost use Rattle.std.specs.List.{range_with_len};
-ghost use Rattle.load_script.specs.Generated.{home_of, numbered, round_of, rounds_of, load_script};
+ghost use Rattle.load_script.specs.Generated.{home_by_turns, numbered, round_of, rounds_of, load_script};
 
 use crate::commands::command;
 use log_node::{Homes, ListOf, Names, Shape, Text};
@@ -19,7 +19,7 @@ pub const CLIENTS: u8 = 8;
 pub const FIRST_LINE: u32 = 13;
 
 fn homes(alloc: Global) -> Result<Homes, AllocError>
-    ensures { IfOk result (λ homes. homes ≡ map home_of (range_with_len 0 CLIENTS)) }
+    ensures { IfOk result (λ homes. homes ≡ map home_by_turns (range_with_len 0 CLIENTS)) }
 {
     let mut homes = Homes::with_capacity(alloc, CLIENTS as usize)?;
     for client in 0..CLIENTS {

@@ -14,9 +14,11 @@ abbrev pub Rise : List ℕ → Type 0
 Rise [] = Unit {0}
 Rise (x ∷ xs) = IsBelowAll x xs × Rise xs
 
+-- the stamps of nodes
 abbrev pub stamps : List ObjectNode → List ℕ
 stamps nodes = map (λ (n : ObjectNode). n.key.stamp) nodes
 
+-- the tokens of those who wait
 abbrev pub tokens : List Ticket → List ℕ
 tokens waiting = map (λ (t : Ticket). t.token) waiting
 

@@ -21,11 +21,11 @@ use Rattle.log_client.specs.declared.store.Store.{Store}
 use Rattle.log_client.specs.declared.client.Client.{Client}
 use Rattle.log_client.specs.declared.track.Track.{Track}
 use Rattle.log_client.specs.Fits.{entries_by}
-use Rattle.log_client.specs.Clients.{holds_of, seen_of, rows_of, tracks_of, counts_in, caller_of, IsTrack, IsClient, Keeps, Finished}
-use Rattle.log_client.specs.Opening.{AreFreshTracks, IsFresh, AreFreshClients, HaveNoHolds, Got, Dealt, HasNewHolds, HaveNewHolds, IsNewClient}
+use Rattle.log_client.specs.Clients.{holds_of, seen_of, nodes_of_rows, tracks_of, counts_in, caller_of, IsTrack, IsClient, Keeps, Finished}
+use Rattle.log_client.specs.Opening.{AreFreshTracks, IsFresh, AreClientsOfHomes, HaveNoHolds, GotHold, DealtHolds, HasNewHolds, HaveNewHolds, IsNewClient}
 use Rattle.log_client.proofs.Lists.{got, got_end}
-use Rattle.log_client.proofs.AtHome.{set_elsewhere, set_long}
-use Rattle.log_client.proofs.Forgetting.{fresh_is_track}
+use Rattle.log_client.proofs.Going.AtHome.{set_elsewhere, set_long}
+use Rattle.log_client.proofs.Going.Forgetting.{fresh_is_track}
 
 -- ONE CLIENT MORE GOT ITS HOLD
 
@@ -41,10 +41,10 @@ set_here (x ∷ xs) (suc m) (suc n) d b e = elim (set_here xs m n d b e) [
 ]
 
 pub dealt_one : (old now : List Client) (hs : List Hold) (i z m : ℕ) → z ≡ m → (c d : Client) (h : Hold)
-    → Dealt old now hs i → i ≡ m + 1 → slice_get hs m ≡ Some h → slice_get now z ≡ Some c → Got c d h
-    → Dealt old (slice_set now z d) hs m
+    → DealtHolds old now hs i → i ≡ m + 1 → slice_get hs m ≡ Some h → slice_get now z ≡ Some c → GotHold c d h
+    → DealtHolds old (slice_set now z d) hs m
 dealt_one old now hs i z m is c d h dealt e here at got =
-    subst (λ (t : ℕ). Dealt old (slice_set now t d) hs m) (sym is) (record {
+    subst (λ (t : ℕ). DealtHolds old (slice_set now t d) hs m) (sym is) (record {
       same = set_long now m d ∙ dealt.same;
       got = λ n b l there. elim (set_here now m n d b there) [
         | inl t ↦ (
@@ -52,7 +52,7 @@ dealt_one old now hs i z m is c d h dealt e here at got =
           h,
           ap (slice_get old) t.0 ∙ (sym (dealt.early m (omega (arith, e))) ∙ (ap (slice_get now) (sym is) ∙ at)),
           ap (slice_get hs) t.0 ∙ here,
-          subst (λ (x : Client). Got c x h) t.1 got,
+          subst (λ (x : Client). GotHold c x h) t.1 got,
         )
         | inr t ↦ (let far : n ≢ m = t.0 in dealt.got n b (omega (arith, far, l, e)) t.1)
       ];
@@ -78,8 +78,8 @@ none_more clients c now before n d at = elim (got_end clients c n d at) [
 
 -- ONE REGION MORE
 
-pub fresh_dealt : (shape : Shape) (old new : List Client) (hs : List Hold) → Dealt old new hs 0
-    → AreFreshClients shape old → AreFreshClients shape new
+pub fresh_dealt : (shape : Shape) (old new : List Client) (hs : List Hold) → DealtHolds old new hs 0
+    → AreClientsOfHomes shape old → AreClientsOfHomes shape new
 fresh_dealt shape old new hs dealt fresh = (
   dealt.same ∙ fresh.0,
   λ n d at.
@@ -96,7 +96,7 @@ fresh_dealt shape old new hs dealt fresh = (
       },
 )
 
-pub holds_dealt : (rs : List Region) (r : Region) (old new : List Client) (hs : List Hold) → Dealt old new hs 0
+pub holds_dealt : (rs : List Region) (r : Region) (old new : List Client) (hs : List Hold) → DealtHolds old new hs 0
     → AreNewHolds r hs → HaveNewHolds rs old → HaveNewHolds (rs ++ r ∷ []) new
 holds_dealt rs r old new hs dealt fresh before n d at =
     let g = dealt.got n d (omega arith) at in
@@ -152,7 +152,7 @@ module _ (shape : Shape) (s : Store) (n : ℕ) (c : Client) (fresh : IsFresh sha
     by_hold None e = refl
     by_hold (Some h) e = ap entries_in ((region_of region h e).0.seen k)
 
-  no_rows : rows_of c ≡ []
+  no_rows : nodes_of_rows c ≡ []
   no_rows = ap (λ l. map (λ z. z.value) l) fresh.rows
 
   pub new_client : IsClient s c
@@ -170,7 +170,7 @@ module _ (shape : Shape) (s : Store) (n : ℕ) (c : Client) (fresh : IsFresh sha
           counted = omega (arith, count);
           rows = record {
             many = ap length no_rows ∙ sym e.used;
-            begun = λ j x there. absurd (none_at (rows_of c) j x no_rows there);
+            begun = λ j x there. absurd (none_at (nodes_of_rows c) j x no_rows there);
           };
           tracks = λ k track there.
               subst (IsTrack c.region k (seen_in h k)) (sym (fresh.tracks.1 k track there)) (fresh_is_track s c h k home);
@@ -215,7 +215,7 @@ module _ (shape : Shape) (s : Store) (n : ℕ) (c : Client) (fresh : IsFresh sha
             ap (λ (t : Track). t.snapshot.counts) (sym (fresh.tracks.1 k track e)) ∙ ap counts_in (sym e)
 
   pub new_finished : Finished c
-  new_finished h at j x there = absurd (none_at (rows_of c) j x no_rows there)
+  new_finished h at j x there = absurd (none_at (nodes_of_rows c) j x no_rows there)
 
   pub is_new_client : IsNewClient shape s n c
   is_new_client = record {

@@ -1,4 +1,4 @@
--- What an append of a client answers.
+-- Appends, over the client before and after. What explains them is said over the log: lawful_run.
 use Rattle.std.specs.Prelude.{◌≡◌, ◌≢◌, ◌⊎◌, ℕ, true, ◌+◌, ◌*◌, ◌<◌, ◌≤◌, List, length, map, Option, Some, None, Result, Err}
 use Rattle.log_node.specs.declared.ids.Colours.{Colours}
 use Rattle.log_node.specs.declared.node.Node.{Node}
@@ -6,8 +6,8 @@ use Rattle.log_node.specs.Sets.{has, members}
 use Rattle.col_core.specs.Log.{Log}
 use Rattle.col_core.specs.Keeping.{Kept, with_made, with_row}
 use Rattle.report_text.specs.declared.report.PointPiece.{PointPiece}
-use Rattle.lawful_run.specs.Callers.{Caller, node_of, row_of}
-use Rattle.lawful_run.specs.Appends.{Appends, HasNoStamp, IsFull, IsGoneForMemory}
+use Rattle.lawful_run.specs.Callers.{Caller, node_of, row_taken}
+use Rattle.lawful_run.specs.Appends.{Appends, HasNoStamp, HasNoRowLeft, IsGoneForMemory}
 use Rattle.lawful_run.specs.Stops.{Stops}
 use Rattle.append_core.specs.declared.stood.Point.{Point}
 use Rattle.append_core.specs.declared.several.MultiFault.{MultiFault}
@@ -15,7 +15,7 @@ use Rattle.append_core.specs.declared.several.MultiFault.TheVariants as faults
 use Rattle.log_client.specs.declared.store.Store.{Store}
 use Rattle.log_client.specs.declared.client.Client.{Client}
 use Rattle.log_client.specs.declared.answers.Appended.{Appended}
-use Rattle.log_client.specs.Clients.{rows_of, starts_of}
+use Rattle.log_client.specs.Clients.{nodes_of_rows, starts_of}
 use Rattle.log_client.specs.Calls.{IsExplained}
 
 -- one colour or more, all of the store
@@ -36,7 +36,7 @@ next_node c colours text = record {
   text = text;
   floor = c.floor;
   wants = map (starts_of c) (members colours);
-  row = row_of c.number (length (rows_of c)) (members colours);
+  row = row_taken c.number (length (nodes_of_rows c)) (members colours);
 }
 
 -- a point as a reply shows it
@@ -54,12 +54,12 @@ AppendsAs colours text a log caller kept after =
 pub record HasNoRow (s : Store) (c : Client) (colours : Colours) (stop : Option ℕ) (used : ℕ) : Type 0 where
   pub several : 2 ≤ length (members colours)
   pub not_at_once : stop ≢ Some 0
-  pub all : length (rows_of c) ≡ s.size.rows
-  pub shown : used ≡ length (rows_of c)
+  pub all : length (nodes_of_rows c) ≡ s.size.rows
+  pub shown : used ≡ length (nodes_of_rows c)
 
 -- Want of memory: nothing was done; or the row of an append to several colours, of which no stop was asked, is gone.
-abbrev pub FindsNoMemory : Colours → List ℕ → Option ℕ → Log → Caller → Kept → Kept → Type 0
-FindsNoMemory colours text stop log caller kept after =
+abbrev pub AppendFindsNoMemory : Colours → List ℕ → Option ℕ → Log → Caller → Kept → Kept → Type 0
+AppendFindsNoMemory colours text stop log caller kept after =
     (after ≡ kept)
     ⊎ ((stop ≡ None) × (places : ℕ → List ℕ)
     × IsGoneForMemory log caller kept (node_of caller kept colours text) places
@@ -69,7 +69,7 @@ FindsNoMemory colours text stop log caller kept after =
 -- left; it stopped as was asked; or memory was refused.
 abbrev pub AppendRefused : Store → Client → Client → Colours → List ℕ → Option ℕ → MultiFault → Type 0
 AppendRefused s c d colours text stop (faults.Full used) =
-    (d ≡ c) × IsExplained s c d (λ log caller kept after. IsFull caller kept colours used × (after ≡ kept))
+    (d ≡ c) × IsExplained s c d (λ log caller kept after. HasNoRowLeft caller kept colours used × (after ≡ kept))
 AppendRefused s c d colours text stop (faults.StampEnd colour) =
     (stop ≡ None)
     × IsExplained s c d (λ log caller kept after.
@@ -77,8 +77,8 @@ AppendRefused s c d colours text stop (faults.StampEnd colour) =
 AppendRefused s c d colours text stop (faults.Stopped steps) =
     (stop ≡ Some steps)
     × IsExplained s c d (λ log caller kept after. Stops log caller kept (node_of caller kept colours text) steps after)
-AppendRefused s c d colours text stop faults.NoMemory = IsExplained s c d (FindsNoMemory colours text stop)
+AppendRefused s c d colours text stop faults.NoMemory = IsExplained s c d (AppendFindsNoMemory colours text stop)
 
 -- the append stopped after a step, and may have left its node open
-abbrev pub HasStopped : Result Appended MultiFault → Type 0
-HasStopped result = (steps : ℕ) × (0 < steps) × (result ≡ Err (faults.Stopped steps))
+abbrev pub AppendStopped : Result Appended MultiFault → Type 0
+AppendStopped result = (steps : ℕ) × (0 < steps) × (result ≡ Err (faults.Stopped steps))

@@ -8,7 +8,7 @@ use Rattle.region_pull.specs.declared.pulled.Pulled.{Pulled}
 use Rattle.region_pull.specs.declared.pulled.PullFault.{PullFault}
 use Rattle.region_pull.specs.declared.pulled.PullFault.TheVariants as pull_faults
 use Rattle.region_pull.specs.Origins.{OfOrigin, AsksForHeld}
-use Rattle.region_pull.specs.Pulls.{Pulls, GivesAlone}
+use Rattle.region_pull.specs.Pulls.{PullsByHolds, GivesAlone}
 
 -- The holds are as before but for two, of different regions.
 pub record ChangesTwo (n m : ℕ) (gs hs : List Hold) (g g' h h' : Hold) : Type 0 where
@@ -21,7 +21,7 @@ pub record ChangesTwo (n m : ℕ) (gs hs : List Hold) (g g' h h' : Hold) : Type 
 abbrev pub PullsBetween : Region → Region → ℕ → List Hold → List Hold → Pulled → Type 0
 PullsBetween from to colour gs hs p =
     (g g' h h' : Hold) × ChangesTwo from.number to.number gs hs g g' h h'
-    × GoesOnIn from colour g g' × GoesOnIn to colour h h' × Pulls from to colour g g' h h' p
+    × GoesOnIn from colour g g' × GoesOnIn to colour h h' × PullsByHolds from to colour g g' h h' p
     × (OfOrigin from colour g h → OfOrigin from colour g' h')
     × (AsksForHeld from to colour g h → AsksForHeld from to colour g' h')
 

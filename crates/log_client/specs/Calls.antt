@@ -9,9 +9,9 @@ use Rattle.col_core.specs.Log.{Log}
 use Rattle.col_core.specs.Keeping.{Kept, kept_after_sync, kept_after_event}
 use Rattle.script_text.specs.declared.script.Object.{Object}
 use Rattle.lawful_run.specs.Callers.{Caller}
-use Rattle.lawful_run.specs.Reads.{Syncs, ShowsPlayed, IsTrimmed, RaisesAt, greatest_stamp, kept_after_place}
+use Rattle.lawful_run.specs.Reads.{Syncs, ShowsPlayed, IsTrimmed, RaisesClock, greatest_stamp, kept_after_place}
 use Rattle.lawful_run.specs.Moves.{Pulls, OnlyGives, TrimsBy, kept_after_pull, kept_after_giving}
-use Rattle.client_law.specs.Knowing.{Rest, log_of}
+use Rattle.client_law.specs.Knowing.{Rest, log_seen}
 use Rattle.playback.specs.declared.player.Snapshot.{Snapshot}
 use Rattle.region_pull.specs.declared.pulled.Pulled.{Pulled}
 use Rattle.region_pull.specs.declared.pulled.PullFault.{PullFault}
@@ -23,7 +23,7 @@ use Rattle.log_client.specs.declared.faults.SyncFault.{SyncFault}
 use Rattle.log_client.specs.declared.faults.SyncFault.TheVariants as sync_faults
 use Rattle.log_client.specs.declared.faults.TrimFault.{TrimFault}
 use Rattle.log_client.specs.declared.faults.TrimFault.TheVariants as trim_faults
-use Rattle.log_client.specs.Fits.{Fits}
+use Rattle.log_client.specs.Fits.{FitsHolds}
 use Rattle.log_client.specs.Clients.{holds_of, seen_of, played_of, caller_of, Keeps, Finished}
 
 -- The call from c to d is explained: whatever a finished client kept before it, it keeps something after it with which the
@@ -32,7 +32,7 @@ abbrev pub IsExplained : Store → Client → Client → (Log → Caller → Kep
 IsExplained s c d Record =
     (objects : List Object) (kept : Kept) → Finished c → Keeps s c objects kept
     → (after : Kept) × Keeps s d objects after
-    × ((rest : Rest) → Fits (holds_of d) rest → Record (log_of (seen_of d) rest) (caller_of s d objects) kept after)
+    × ((rest : Rest) → FitsHolds (holds_of d) rest → Record (log_seen (seen_of d) rest) (caller_of s d objects) kept after)
 
 -- It is the same client of the same region.
 abbrev pub IsSame : Client → Client → Type 0
@@ -78,7 +78,7 @@ SyncRefused s c d colour sync_faults.NoMemory = DidNothing s c d
 -- The raise of the clock to the stamp is the client's event at the place, or the clock is there after so many events.
 abbrev pub RaisesAs : ℕ → ℕ → At → Log → Caller → Kept → Kept → Type 0
 RaisesAs stamp colour at log caller kept after =
-    RaisesAt log caller kept stamp colour at × (after ≡ kept_after_place kept caller.own colour at)
+    RaisesClock log caller kept stamp colour at × (after ≡ kept_after_place kept caller.own colour at)
 
 -- MOVES
 

@@ -44,8 +44,8 @@ abbrev pub seen_of : Client → Seen
 seen_of c = seen_by (holds_of c)
 
 -- the nodes of its begun rows, in order
-abbrev pub rows_of : Client → List Node
-rows_of c = map (λ shared. shared.value) c.rows.items
+abbrev pub nodes_of_rows : Client → List Node
+nodes_of_rows c = map (λ shared. shared.value) c.rows.items
 
 -- what it has played of its colours, by colour
 abbrev pub tracks_of : Client → List Track
@@ -60,20 +60,20 @@ abbrev pub starts_of : Client → ℕ → Counts
 starts_of c colour = counts_in (slice_get (tracks_of c) colour)
 
 -- the nodes of a colour that it has played, in the order in which it played them
-abbrev pub nodes_in : Option Track → List PlacedNode
-nodes_in None = []
-nodes_in (Some track) = track.nodes
+abbrev pub nodes_of_track : Option Track → List PlacedNode
+nodes_of_track None = []
+nodes_of_track (Some track) = track.nodes
 
 abbrev pub played_of : Client → ℕ → List PlacedNode
-played_of c colour = nodes_in (slice_get (tracks_of c) colour)
+played_of c colour = nodes_of_track (slice_get (tracks_of c) colour)
 
 -- of these the own line of its region, by position
 abbrev pub line_in : Option Track → List PlacedNode
 line_in None = []
 line_in (Some track) = track.line
 
-abbrev pub line_of : Client → ℕ → List PlacedNode
-line_of c colour = line_in (slice_get (tracks_of c) colour)
+abbrev pub own_line : Client → ℕ → List PlacedNode
+own_line c colour = line_in (slice_get (tracks_of c) colour)
 
 -- the client as one who commands, with any objects
 abbrev pub caller_of : Store → Client → List Object → Caller
@@ -89,7 +89,7 @@ caller_of s c objects = record {
 
 -- They are, in the order of play, the nodes of a column with this history from the first counts to the second, which can be
 -- reached, each with its needs, as a node that the history names, and of the region in whose chain it stands.
-pub record Plays (own : ℕ) (log : List Told) (from to : Counts) (nodes : List PlacedNode) : Type 0 where
+pub record PlaysNodes (own : ℕ) (log : List Told) (from to : Counts) (nodes : List PlacedNode) : Type 0 where
   pub order : List Place
   pub in_order : IsPlayOrder (chain own (dated own (entries_in log))) from to order
   pub shown : AllZip (λ place (item : PlacedNode). Stands (chain own (dated own (entries_in log))) place item.head
@@ -102,7 +102,7 @@ pub record Plays (own : ℕ) (log : List Told) (from to : Counts) (nodes : List 
 pub data HasPlayed (own : ℕ) (seen : List Told) : Counts → List PlacedNode → Type 0 where
   nothing_played : HasPlayed own seen zeros []
   played_then : (from to : Counts) (nodes more : List PlacedNode) (log : List Told) → HasPlayed own seen from nodes
-      → IsPrefix log seen → Plays own log from to more → HasPlayed own seen to (nodes ++ more)
+      → IsPrefix log seen → PlaysNodes own log from to more → HasPlayed own seen to (nodes ++ more)
 
 -- what a client of a region, who has seen this of a colour's column, has played of it
 pub record IsTrack (own colour : ℕ) (seen : List Told) (track : Track) : Type 0 where
@@ -119,7 +119,7 @@ pub record IsTrack (own colour : ℕ) (seen : List Told) (track : Track) : Type 
 -- A CLIENT AT REST
 
 -- The rows that a client has begun by its hold: their nodes, in order.
-pub record AreRows (number : ℕ) (home : Hold) (rows : List Node) : Type 0 where
+pub record AreBegunRows (number : ℕ) (home : Hold) (rows : List Node) : Type 0 where
   pub many : length rows ≡ home.seat.used
   pub begun : (j : ℕ) (x : Node) → slice_get rows j ≡ Some x → KnowsBegun (view_of home) (row_of number j) x
 
@@ -128,7 +128,7 @@ pub record AreRows (number : ℕ) (home : Hold) (rows : List Node) : Type 0 wher
 pub record IsHome (c : Client) (home : Hold) : Type 0 where
   pub next : home.next ≤ c.count
   pub counted : c.count ≤ c.floor + home.seat.used
-  pub rows : AreRows c.number home (rows_of c)
+  pub rows : AreBegunRows c.number home (nodes_of_rows c)
   pub tracks : (colour : ℕ) (track : Track) → slice_get (tracks_of c) colour ≡ Some track
       → IsTrack c.region colour (seen_in home colour) track
 
@@ -155,7 +155,7 @@ pub record Keeps (s : Store) (c : Client) (objects : List Object) (kept : Kept) 
   pub by : IsKeptBy (seen_of c) (caller_of s c objects) kept
   pub floor : kept.floor ≡ c.floor
   pub ids : kept.ids ≡ c.count
-  pub rows : kept.rows ≡ length (rows_of c)
+  pub rows : kept.rows ≡ length (nodes_of_rows c)
   pub starts : (colour : ℕ) → kept.starts colour ≡ starts_of c colour
 
 -- The row's append is closed for good in a colour, as far as the hold has seen: it is fenced there, or its id has entered
@@ -166,7 +166,7 @@ IsClosedIn h number x colour =
     ⊎ ((has_entered x.id (entries_seen h colour) ≡ true) × (open_entry x.id (entries (entries_seen h colour)) ≡ None))
 
 -- The row's append is closed for good: the row has an outcome, and the append is closed in each of its node's colours.
-pub record IsClosed (h : Hold) (number : ℕ) (x : Node) : Type 0 where
+pub record IsRowClosed (h : Hold) (number : ℕ) (x : Node) : Type 0 where
   pub outcome : Outcome
   pub shut : outcome ≢ Open
   pub known : KnowsOutcome (view_of h) (row_of h.passes.number number) outcome
@@ -174,11 +174,11 @@ pub record IsClosed (h : Hold) (number : ℕ) (x : Node) : Type 0 where
 
 -- the appends of its rows are closed
 abbrev pub AllClosed : Hold → List Node → Type 0
-AllClosed h rows = (j : ℕ) (x : Node) → slice_get rows j ≡ Some x → IsClosed h j x
+AllClosed h rows = (j : ℕ) (x : Node) → slice_get rows j ≡ Some x → IsRowClosed h j x
 
 -- Each append that the client began is closed for good; only a stop leaves one that is not.
 abbrev pub Finished : Client → Type 0
-Finished c = (h : Hold) → slice_get (holds_of c) c.region ≡ Some h → AllClosed h (rows_of c)
+Finished c = (h : Hold) → slice_get (holds_of c) c.region ≡ Some h → AllClosed h (nodes_of_rows c)
 
 -- The client has completed another's append.
 abbrev pub Helps : Client → Type 0

@@ -17,8 +17,8 @@ use Rattle.client_law.specs.Knowing.{SeesOn}
 use Rattle.log_client.specs.declared.store.Store.{Store}
 use Rattle.log_client.specs.declared.client.Client.{Client}
 use Rattle.log_client.specs.declared.closed.Closed.{Closed}
-use Rattle.log_client.specs.Fits.{Fits}
-use Rattle.log_client.specs.Clients.{IsClient, Finished, Helps, caller_of, holds_of, rows_of, seen_of}
+use Rattle.log_client.specs.Fits.{FitsHolds}
+use Rattle.log_client.specs.Clients.{IsClient, Finished, Helps, caller_of, holds_of, nodes_of_rows, seen_of}
 use Rattle.log_client.specs.Closing.{EndsStore}
 
 -- they are all clients of the store, by number
@@ -39,12 +39,12 @@ pub record EndsComplete (log : Log) (colours region : ℕ) (b : BegunRow) : Type
 -- replies name, and its nodes and rows are those that it counts.
 pub record EndsFor (s : Store) (log : Log) (c : Client) : Type 0 where
   pub on : (objects : List Object) → SeesOn (caller_of s c objects) (seen_of c) log.histories
-  pub fits : Fits (holds_of c) (record { nodes = log.nodes; rows = log.rows })
+  pub fits : FitsHolds (holds_of c) (record { nodes = log.nodes; rows = log.rows })
   pub steps : (objects : List Object) (kept : Kept) → IsKeptBy (seen_of c) (caller_of s c objects) kept
       → (region colour : ℕ)
       → places_of c.number (log.histories region colour) ≡ kept.made region colour
   pub ids : length (log.nodes c.number) ≡ c.count
-  pub rows : map (λ (b : BegunRow). b.node) (filter (is_of c.number) (log.rows c.region)) ≡ rows_of c
+  pub rows : map (λ (b : BegunRow). b.node) (filter (is_of c.number) (log.rows c.region)) ≡ nodes_of_rows c
   -- it has begun rows of its own region alone; where it has finished they have outcomes, and none of its ids is open
   pub rows_at_home : (region : ℕ) (b : BegunRow) → region < length s.regions → Contains (log.rows region) b
       → b.row.client ≡ c.number → region ≡ c.region
@@ -62,7 +62,7 @@ pub record EndsFor (s : Store) (log : Log) (c : Client) : Type 0 where
 
 -- What the store of these clients ends with: a log, with what it is to each of them; and the nodes of each one's rows are
 -- those that it had.
-pub record Closes (s : Store) (clients : List Client) (closed : Closed) : Type 0 where
+pub record ClosesAsLog (s : Store) (clients : List Client) (closed : Closed) : Type 0 where
   pub log : Log
   pub ends : EndsStore (length s.regions) s.size.colours (map holds_of clients) closed.regions log
   pub each : (n : ℕ) (c : Client) → slice_get clients n ≡ Some c → EndsFor s log c

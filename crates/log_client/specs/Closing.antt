@@ -16,9 +16,9 @@ use Rattle.chain_store.specs.declared.hold.Hold.{Hold}
 use Rattle.chain_store.specs.declared.region.Region.{Region}
 use Rattle.chain_store.specs.declared.closed.ClosedRegion.{ClosedRegion}
 use Rattle.chain_store.specs.Closing.{AreHoldsOf, Closed, closed_of}
-use Rattle.client_law.specs.Knowing.{SeesMore, AreLawful}
+use Rattle.client_law.specs.Knowing.{MoreIsSeen, AreLawful}
 use Rattle.client_law.specs.Making.{made_of}
-use Rattle.log_client.specs.Fits.{seen_by, IsListed, Fits}
+use Rattle.log_client.specs.Fits.{seen_by, IsListed, FitsHolds}
 use Rattle.log_client.specs.Ending.{HasOwnNodes}
 
 -- the holds of a region that the clients have, by client
@@ -65,15 +65,15 @@ pub record EndsRegion (log : Log) (regions colours region : ℕ) (ks : List Hold
 -- A client in the end, which had these holds: what it has seen begins the log's histories, which have of it just what it
 -- made; the log's nodes and rows fit what it knows; and the log has the nodes that it appended.
 pub record EndsClient (log : Log) (number : ℕ) (hs : List Hold) : Type 0 where
-  pub more : SeesMore (seen_by hs) log.histories
+  pub more : MoreIsSeen (seen_by hs) log.histories
   pub made : (region colour : ℕ)
       → made_of number (log.histories region colour) ≡ made_of number (seen_by hs region colour)
-  pub fits : Fits hs (record { nodes = log.nodes; rows = log.rows })
+  pub fits : FitsHolds hs (record { nodes = log.nodes; rows = log.rows })
   pub nodes : HasOwnNodes number hs (log.nodes number)
 
 -- an event by which the node enters a column of the colour
-abbrev pub Enters : ℕ → Node → Event → Type 0
-Enters colour x event = (event ≡ single_event colour x) ⊎ (event ≡ propose_event colour x)
+abbrev pub EntersBy : ℕ → Node → Event → Type 0
+EntersBy colour x event = (event ≡ single_event colour x) ⊎ (event ≡ propose_event colour x)
 
 -- The store ended with a log of so many regions and colours. Its histories are lawful, made by its clients, with true
 -- copies, and each id that enters one is that of the node which its client appended.
@@ -88,4 +88,4 @@ pub record EndsStore (regions colours : ℕ) (clients : List (List Hold)) (ends 
       → AreTrueCopies regions (λ (region : ℕ). dated region (log.histories region colour))
   pub each_client : (u : ℕ) (hs : List Hold) → slice_get clients u ≡ Some hs → EndsClient log u hs
   pub entered : (region colour n : ℕ) (e : Entry) (id : Id) → slice_get (log.histories region colour) n ≡ Some e
-      → enters id e.event ≡ true → (x : Node) × (x.id ≡ id) × IsListed log.nodes x × Enters colour x e.event
+      → enters id e.event ≡ true → (x : Node) × (x.id ≡ id) × IsListed log.nodes x × EntersBy colour x e.event

@@ -12,7 +12,7 @@ use Rattle.chain_store.specs.declared.region.Region.{Region}
 use Rattle.chain_store.specs.Owning.{row_of}
 use Rattle.chain_store.specs.Holds.{IsHold, made_in, view_of}
 use Rattle.region_pull.specs.Origins.{OfOrigin, AsksForHeld}
-use Rattle.append_core.specs.Settled.{IsComplete}
+use Rattle.append_core.specs.Settled.{HoldKnowsComplete}
 use Rattle.append_core.specs.Standing.{IsSingleOf}
 use Rattle.lawful_run.specs.Lawful.{IsHelp}
 
@@ -75,4 +75,4 @@ pub record IsHelpBy (number : ℕ) (hs : List Hold) (region : ℕ) (h : Hold) (t
 abbrev pub HelpsWhole : ℕ → ℕ → List Hold → Type 0
 HelpsWhole number own hs =
     (region : ℕ) (h : Hold) (t : Told) → IsHelpBy number hs region h t
-    → (region ≡ own) × ((id : Id) → IsStepOf id t.entry.event → IsComplete h id)
+    → (region ≡ own) × ((id : Id) → IsStepOf id t.entry.event → HoldKnowsComplete h id)

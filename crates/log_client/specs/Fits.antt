@@ -29,20 +29,20 @@ abbrev pub IsListed : (ℕ → List Node) → Node → Type 0
 IsListed nodes x = slice_get (nodes x.id.client) x.id.count ≡ Some x
 
 -- One of the begun rows is this one, for the node, with the marks and the outcome that the hold knows.
-abbrev pub HasRow : List BegunRow → Hold → Row → Node → Type 0
-HasRow rows h row x = (b : BegunRow) × Contains rows b × (b.row ≡ row) × (b.node ≡ x) × AgreesWith h b
+abbrev pub HasBegunRow : List BegunRow → Hold → Row → Node → Type 0
+HasBegunRow rows h row x = (b : BegunRow) × Contains rows b × (b.row ≡ row) × (b.node ≡ x) × AgreesWith h b
 
 -- The nodes, and the begun rows of a region, fit what a hold of the region knows: each node that a history names which it
 -- has seen is listed, each row that it knows as begun is there, and its node is listed.
 pub record FitsHold (nodes : ℕ → List Node) (rows : List BegunRow) (h : Hold) : Type 0 where
   pub named : (colour : ℕ) (id : Id) (x : Node) → Names (seen_in h colour) id x → IsListed nodes x
-  pub begun : (row : Row) (x : Node) → IsRow (view_of h).size row → KnowsBegun (view_of h) row x → HasRow rows h row x
+  pub begun : (row : Row) (x : Node) → IsRow (view_of h).size row → KnowsBegun (view_of h) row x → HasBegunRow rows h row x
   pub begun_listed : (row : Row) (x : Node) → IsRow (view_of h).size row → KnowsBegun (view_of h) row x
       → IsListed nodes x
 
 -- They fit what each of the holds knows, which are of the regions 0, 1, 2 and so on.
-abbrev pub Fits : List Hold → Rest → Type 0
-Fits holds rest =
+abbrev pub FitsHolds : List Hold → Rest → Type 0
+FitsHolds holds rest =
     (region : ℕ) (h : Hold) → slice_get holds region ≡ Some h → FitsHold rest.nodes (rest.rows region) h
 
 -- The hold is the same client's, has seen more of each column, and knows all that it knew.

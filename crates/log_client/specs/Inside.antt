@@ -25,10 +25,10 @@ use Rattle.log_client.specs.declared.answers.Synced.{Synced}
 use Rattle.log_client.specs.declared.faults.SyncFault.{SyncFault}
 use Rattle.log_client.specs.declared.faults.SyncFault.TheVariants.{Trimmed, NoMemory}
 use Rattle.log_client.specs.Fits.{HaveGoneOn}
-use Rattle.log_client.specs.Clients.{IsClient, Finished, Helps, Plays, holds_of, tracks_of}
+use Rattle.log_client.specs.Clients.{IsClient, Finished, Helps, PlaysNodes, holds_of, tracks_of}
 use Rattle.log_client.specs.Growing.{HasGrown}
 use Rattle.log_client.specs.Calls.{IsExplained, IsSame}
-use Rattle.log_client.specs.Appends.{AppendsAs, AppendRefused, HasNoRow, HasStopped}
+use Rattle.log_client.specs.Appends.{AppendsAs, AppendRefused, HasNoRow, AppendStopped}
 
 -- An append of a client that was called with colours, a text and a stop: what it left of the client, and why it answered so.
 pub record CallsAppend (s : Store) (c d : Client) (colours : Colours) (text : List ℕ) (stop : Option ℕ)
@@ -38,7 +38,7 @@ pub record CallsAppend (s : Store) (c d : Client) (colours : Colours) (text : Li
   pub goes : HaveGoneOn (holds_of c) (holds_of d)
   pub grows : HasGrown c d
   pub plays : tracks_of d ≡ tracks_of c
-  pub finished : Finished c → Finished d ⊎ HasStopped result
+  pub finished : Finished c → Finished d ⊎ AppendStopped result
   pub idle : stop ≢ None → Helps d → Helps c
   pub answer : MatchResult result
       (λ a. (stop ≡ None) × IsExplained s c d (AppendsAs colours text a))
@@ -74,7 +74,7 @@ pub record PlaysOn (r : Region) (h : Hold) (old new : Track) (y : Synced) (stamp
       ≡ nodes_between (chain r.number (dated_seen r h old.snapshot.colour)) old.snapshot.counts y.snapshot.counts r.number
   pub named : (n : ℕ) (item : PlacedNode) → slice_get line n ≡ Some item
       → Names (seen_in h old.snapshot.colour) item.head.key.id item.node
-  pub plays : Plays r.number (seen_in h old.snapshot.colour) old.snapshot.counts y.snapshot.counts nodes
+  pub plays : PlaysNodes r.number (seen_in h old.snapshot.colour) old.snapshot.counts y.snapshot.counts nodes
   pub looked : y.events ≡ length (seen_in h old.snapshot.colour)
   pub is_cut : y.snapshot.counts ≡ cut r.number (dated_seen r h old.snapshot.colour)
   pub not_trimmed : IsWithin (base r.number r.regions (dated_seen r h old.snapshot.colour)) old.snapshot.counts

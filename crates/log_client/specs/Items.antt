@@ -20,7 +20,7 @@ abbrev pub are_parts : List Track → Option Key → ℕ → List ℕ → List (
 are_parts tracks last stamp colours = map (λ colour. part_of last stamp (line_in (slice_get tracks colour))) colours
 
 -- From a position on those that come before an item were taken, and then this one.
-pub record AreTaken (old new others : List PlacedNode) (start next : ℕ) (item : PlacedNode) : Type 0 where
+pub record TakesUntil (old new others : List PlacedNode) (start next : ℕ) (item : PlacedNode) : Type 0 where
   pub keys : (rest : List Key → List Key)
       → keys_of new ++ rest (drop next (keys_of others))
       ≡ keys_of old ++ merged_behind item.head.key rest (drop start (keys_of others))
@@ -32,6 +32,6 @@ pub record AreMerged (items others all : List PlacedNode) : Type 0 where
   pub among : (i : PlacedNode) → Contains all i → Contains items i ⊎ Contains others i
 
 -- these parts are merged, one after another
-pub record AreItems (parts : List (List PlacedNode)) (items : List PlacedNode) : Type 0 where
+pub record AreMergedParts (parts : List (List PlacedNode)) (items : List PlacedNode) : Type 0 where
   pub keys : keys_of items ≡ fold (λ keys part. merged keys (keys_of part)) [] parts
   pub among : (i : PlacedNode) → Contains items i → (part : List PlacedNode) × Contains parts part × Contains part i

@@ -10,19 +10,19 @@ abbrev pub left_of : Leaving → List Hold
 left_of c = c.items.items
 
 -- each client has a hold left
-abbrev pub HaveOneMore : List Leaving → Type 0
-HaveOneMore clients = (n : ℕ) (c : Leaving) → slice_get clients n ≡ Some c → 0 < length (left_of c)
+abbrev pub HaveHoldsLeft : List Leaving → Type 0
+HaveHoldsLeft clients = (n : ℕ) (c : Leaving) → slice_get clients n ≡ Some c → 0 < length (left_of c)
 
 -- d is c without its last hold, which is h
-abbrev pub Gave : Leaving → Leaving → Hold → Type 0
-Gave c d h = left_of c ≡ left_of d ++ h ∷ []
+abbrev pub GaveHold : Leaving → Leaving → Hold → Type 0
+GaveHold c d h = left_of c ≡ left_of d ++ h ∷ []
 
 -- the first so many clients gave a hold each, and these are they
-pub record Gathered (old new : List Leaving) (holds : List Hold) (n : ℕ) : Type 0 where
+pub record GatheredHolds (old new : List Leaving) (holds : List Hold) (n : ℕ) : Type 0 where
   pub same : length new ≡ length old
   pub count : length holds ≡ n
   pub gave : (i : ℕ) (c : Leaving) → i < n → slice_get old i ≡ Some c
-      → (d : Leaving) × (h : Hold) × (slice_get new i ≡ Some d) × (slice_get holds i ≡ Some h) × Gave c d h
+      → (d : Leaving) × (h : Hold) × (slice_get new i ≡ Some d) × (slice_get holds i ≡ Some h) × GaveHold c d h
   pub later : (i : ℕ) → n ≤ i → slice_get new i ≡ slice_get old i
 
 -- The client n has a hold of each of the regions, by number, and they are all its own.

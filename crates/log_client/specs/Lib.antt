@@ -16,4 +16,5 @@ pub mod Opening
 pub mod Leaving
 pub mod Forgetting
 pub mod Closes
+pub mod Refusals
 pub mod Objects

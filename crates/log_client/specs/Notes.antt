@@ -19,10 +19,10 @@ use Rattle.chain_store.specs.Telling.{IsHoldNote, KnowsSame, Tells, Hears}
 use Rattle.log_client.specs.declared.store.Store.{Store}
 use Rattle.log_client.specs.declared.client.Client.{Client}
 use Rattle.log_client.specs.declared.notes.Note.{Note}
-use Rattle.client_law.specs.Knowing.{Rest, SeesMore, log_of}
+use Rattle.client_law.specs.Knowing.{Rest, MoreIsSeen, log_seen}
 use Rattle.log_client.specs.declared.answers.Appended.{Appended}
 use Rattle.log_client.specs.declared.answers.Synced.{Synced}
-use Rattle.log_client.specs.Fits.{Fits, HaveGoneOn}
+use Rattle.log_client.specs.Fits.{FitsHolds, HaveGoneOn}
 use Rattle.log_client.specs.Clients.{IsClient, Finished, Keeps, caller_of, holds_of, seen_of}
 use Rattle.log_client.specs.Calls.{IsExplained, IsSame, SyncsAs}
 use Rattle.log_client.specs.Appends.{AppendsAs, piece_of}
@@ -69,7 +69,7 @@ abbrev pub PlaysSeen : Store → Client → Client → Type 0
 PlaysSeen s teller d =
     (e : Client) (colour : ℕ) (y : Synced) → IsClient s e → IsSame d e → HaveGoneOn (holds_of d) (holds_of e)
     → IsExplained s d e (SyncsAs e colour y)
-    → (objects : List Object) (kept : Kept) (rest : Rest) → Finished d → Keeps s d objects kept → Fits (holds_of e) rest
+    → (objects : List Object) (kept : Kept) (rest : Rest) → Finished d → Keeps s d objects kept → FitsHolds (holds_of e) rest
     → (v : Counts) → Reachable (chain d.region (dated d.region (seen_of teller d.region colour))) v
     → IsWithin v y.snapshot.counts
 
@@ -77,10 +77,10 @@ PlaysSeen s teller d =
 -- where an answer to an append of the other one says that the node stands, it stands in what this client has seen; and a sync
 -- plays all of it that can be played.
 pub record HasSeenAll (s : Store) (teller d : Client) : Type 0 where
-  pub seen : SeesMore (seen_of teller) (seen_of d)
+  pub seen : MoreIsSeen (seen_of teller) (seen_of d)
   pub lines : (region colour : ℕ) → IsPrefix (line (seen_of teller region colour)) (line (seen_of d region colour))
   pub appends : (objects : List Object) (rest : Rest) (kept after : Kept) (set : Colours) (text : List ℕ) (a : Appended)
-      → AppendsAs set text a (log_of (seen_of teller) rest) (caller_of s teller objects) kept after
+      → AppendsAs set text a (log_seen (seen_of teller) rest) (caller_of s teller objects) kept after
       → All (λ (p : PointPiece). slice_get (line (seen_of d teller.region p.colour)) p.position ≡ Some a.stood.key)
       (map piece_of a.stood.points)
   pub plays : PlaysSeen s teller d

@@ -34,8 +34,8 @@ pub record IsFresh (shape : Shape) (n : ℕ) (c : Client) : Type 0 where
   pub tracks : AreFreshTracks c.region shape.colours c.tracks.items
 
 -- a fresh client of each home
-abbrev pub AreFreshClients : Shape → List Client → Type 0
-AreFreshClients shape clients =
+abbrev pub AreClientsOfHomes : Shape → List Client → Type 0
+AreClientsOfHomes shape clients =
     (length clients ≡ length shape.homes)
     × ((n : ℕ) (c : Client) → slice_get clients n ≡ Some c → IsFresh shape n c)
 
@@ -44,7 +44,7 @@ abbrev pub HaveNoHolds : List Client → Type 0
 HaveNoHolds clients = (n : ℕ) (c : Client) → slice_get clients n ≡ Some c → holds_of c ≡ []
 
 -- d is c with one more hold behind those that it had
-pub record Got (c d : Client) (h : Hold) : Type 0 where
+pub record GotHold (c d : Client) (h : Hold) : Type 0 where
   pub number : d.number ≡ c.number
   pub region : d.region ≡ c.region
   pub floor : d.floor ≡ c.floor
@@ -54,10 +54,10 @@ pub record Got (c d : Client) (h : Hold) : Type 0 where
   pub holds : holds_of d ≡ holds_of c ++ h ∷ []
 
 -- the clients from the number i on got the hold of their number
-pub record Dealt (old new : List Client) (holds : List Hold) (i : ℕ) : Type 0 where
+pub record DealtHolds (old new : List Client) (holds : List Hold) (i : ℕ) : Type 0 where
   pub same : length new ≡ length old
   pub got : (n : ℕ) (d : Client) → i ≤ n → slice_get new n ≡ Some d
-      → (c : Client) × (h : Hold) × (slice_get old n ≡ Some c) × (slice_get holds n ≡ Some h) × Got c d h
+      → (c : Client) × (h : Hold) × (slice_get old n ≡ Some c) × (slice_get holds n ≡ Some h) × GotHold c d h
   pub early : (n : ℕ) → n < i → slice_get new n ≡ slice_get old n
 
 -- The client n has a new hold of each of the regions, by number.

@@ -12,17 +12,17 @@ use Rattle.col_core.specs.Keeping.{Kept, kept_after_sync, seen_after}
 use Rattle.script_text.specs.declared.script.Object.{Object}
 use Rattle.report_text.specs.declared.report.RaisePiece.{RaisePiece}
 use Rattle.lawful_run.specs.Callers.{Caller}
-use Rattle.lawful_run.specs.Reads.{Syncs, ShowsPlayed, RaisesAt, kept_after_place, Raises, IsTrimmed, events_until, greatest_stamp, played_stamp}
+use Rattle.lawful_run.specs.Reads.{Syncs, ShowsPlayed, RaisesClock, kept_after_place, Raises, IsTrimmed, events_until, greatest_stamp, greatest_played}
 use Rattle.col_core.specs.RegionOrder.{IsClearUpTo}
-use Rattle.client_law.specs.Knowing.{Rest, log_of}
+use Rattle.client_law.specs.Knowing.{Rest, log_seen}
 use Rattle.log_client.specs.declared.store.Store.{Store}
 use Rattle.log_client.specs.declared.client.Client.{Client}
 use Rattle.log_client.specs.declared.answers.Raised.{Raised}
 use Rattle.log_client.specs.declared.answers.Synced.{Synced}
 use Rattle.log_client.specs.declared.faults.SyncFault.{SyncFault}
 use Rattle.log_client.specs.declared.faults.SyncFault.TheVariants as sync_faults
-use Rattle.log_client.specs.Fits.{Fits, HaveGoneOn}
-use Rattle.log_client.specs.Clients.{holds_of, seen_of, tracks_of, line_of, caller_of, IsClient, Keeps, Finished}
+use Rattle.log_client.specs.Fits.{FitsHolds, HaveGoneOn}
+use Rattle.log_client.specs.Clients.{holds_of, seen_of, tracks_of, own_line, caller_of, IsClient, Keeps, Finished}
 use Rattle.log_client.specs.Growing.{HasGrown}
 use Rattle.log_client.specs.Calls.{IsSame, nodes_played}
 use Rattle.log_client.specs.StampedReads.{raise_piece}
@@ -45,7 +45,7 @@ abbrev pub KeepsWith : Store → Client → Client → (Kept → Kept) → (Log 
 KeepsWith s c d after Record =
     (objects : List Object) (kept : Kept) → Finished c → Keeps s c objects kept
     → Keeps s d objects (after kept)
-    × ((rest : Rest) → Fits (holds_of d) rest → Record (log_of (seen_of d) rest) (caller_of s d objects) kept)
+    × ((rest : Rest) → FitsHolds (holds_of d) rest → Record (log_seen (seen_of d) rest) (caller_of s d objects) kept)
 
 -- it keeps what it kept
 abbrev pub KeepsAll : Store → Client → Client → Type 0
@@ -66,7 +66,7 @@ IsChosen c d colours stamp =
 -- The clock of the colour's column was raised to the stamp, as the answer says.
 pub record RaisesOne (s : Store) (c d : Client) (stamp colour : ℕ) (at : At) : Type 0 where
   pub keeps : KeepsWith s c d (λ kept. kept_after_place kept c.region colour at) (λ log caller kept.
-      RaisesAt log caller kept stamp colour at)
+      RaisesClock log caller kept stamp colour at)
   pub since : length (home_seen c colour) ≤ events_until at
   pub within : seen_after at ≤ length (home_seen d colour)
   pub reached : stamp ≤ clock (home_seen d colour)
@@ -124,7 +124,7 @@ pub record PlaysColour (s : Store) (c d : Client) (colour : ℕ) (y : Synced) : 
       Syncs log caller kept colour y.events y.snapshot.counts
       × ShowsPlayed log caller kept colour y.events y.snapshot.counts (nodes_played d colour y))
   -- the own line that the client then holds is that of the column
-  pub line : keys_of (line_of d colour) ≡ line (home_seen d colour)
+  pub line : keys_of (own_line d colour) ≡ line (home_seen d colour)
   pub others : (m : ℕ) → m ≢ colour → slice_get (tracks_of d) m ≡ slice_get (tracks_of c) m
 
 -- a play of the colour was refused, and what is kept stays
@@ -151,7 +151,7 @@ AreSyncs log caller stamp kept [] = Unit {0}
 AreSyncs log caller stamp kept (p ∷ ps) =
     Syncs log caller kept p.sync.snapshot.colour p.sync.events p.sync.snapshot.counts
     × IsClearUpTo stamp (take p.sync.events (log.histories caller.own p.sync.snapshot.colour))
-    × (p.stamp ≡ played_stamp log caller kept p.sync.snapshot.colour p.sync.events p.sync.snapshot.counts)
+    × (p.stamp ≡ greatest_played log caller kept p.sync.snapshot.colour p.sync.events p.sync.snapshot.counts)
     × AreSyncs log caller stamp
     (kept_after_sync kept caller.own p.sync.snapshot.colour p.sync.events p.sync.snapshot.counts p.stamp) ps
 
@@ -166,7 +166,7 @@ synced_colours syncs = map (λ (y : Synced). y.snapshot.colour) syncs
 abbrev pub HoldsLine : Client → ℕ → Synced → Type 0
 HoldsLine d stamp y =
     (y.events ≤ length (home_seen d y.snapshot.colour))
-    × (keys_of (line_of d y.snapshot.colour) ≡ line (take y.events (home_seen d y.snapshot.colour)))
+    × (keys_of (own_line d y.snapshot.colour) ≡ line (take y.events (home_seen d y.snapshot.colour)))
     × IsCleared stamp (take y.events (home_seen d y.snapshot.colour))
 
 -- what is kept after syncs of colours that are cleared up to the stamp, and what explains them

@@ -12,7 +12,7 @@ use Rattle.col_core.specs.Keeping.{Kept}
 use Rattle.report_text.specs.declared.report.RaisePiece.{RaisePiece}
 use Rattle.report_text.specs.declared.report.SyncPiece.{SyncPiece}
 use Rattle.lawful_run.specs.Callers.{Caller}
-use Rattle.lawful_run.specs.Reads.{ReadsAt, AreRead, HidesRead, RefusesRead}
+use Rattle.lawful_run.specs.Reads.{ReadsAt, AreKeysRead, HidesRead, RefusesRead}
 use Rattle.log_client.specs.declared.store.Store.{Store}
 use Rattle.log_client.specs.declared.client.Client.{Client}
 use Rattle.log_client.specs.declared.answers.Raised.{Raised}
@@ -20,9 +20,9 @@ use Rattle.log_client.specs.declared.answers.Synced.{Synced}
 use Rattle.log_client.specs.declared.answers.StampedRead.{StampedRead}
 use Rattle.log_client.specs.declared.faults.SyncFault.{SyncFault}
 use Rattle.log_client.specs.declared.faults.SyncFault.TheVariants as sync_faults
-use Rattle.client_law.specs.Knowing.{Rest, log_of}
-use Rattle.log_client.specs.Fits.{Fits, HaveGoneOn}
-use Rattle.log_client.specs.Clients.{holds_of, line_of, seen_of, IsClient}
+use Rattle.client_law.specs.Knowing.{Rest, log_seen}
+use Rattle.log_client.specs.Fits.{FitsHolds, HaveGoneOn}
+use Rattle.log_client.specs.Clients.{holds_of, own_line, seen_of, IsClient}
 use Rattle.log_client.specs.Calls.{IsExplained, IsSame}
 
 -- a raise and a sync as a reply shows them
@@ -33,14 +33,14 @@ abbrev pub sync_piece : Synced → SyncPiece
 sync_piece y = record { colour = y.snapshot.colour; events = y.events; counts = y.snapshot.counts }
 
 -- the node is the one that was appended with its id
-abbrev pub IsAppended : Log → PlacedNode → Type 0
-IsAppended log item =
+abbrev pub IsAsAppended : Log → PlacedNode → Type 0
+IsAsAppended log item =
     (slice_get (log.nodes item.head.key.id.client) item.head.key.id.count ≡ Some item.node)
     × (item.node.id ≡ item.head.key.id)
 
 -- an item of a read has this key, and is the node that was appended with its id
 abbrev pub ShowsItem : Log → Key → PlacedNode → Type 0
-ShowsItem log key item = (item.head.key ≡ key) × IsAppended log item
+ShowsItem log key item = (item.head.key ≡ key) × IsAsAppended log item
 
 -- each item's key is one that a version can name
 abbrev pub CanBeNamed : List PlacedNode → Type 0
@@ -61,20 +61,20 @@ pub record HasRead (c : Client) (colours : List ℕ) (stamp : ℕ) (keys : List 
 abbrev pub HoldsUpTo : Client → ℕ → ℕ → Type 0
 HoldsUpTo c stamp colour =
     (key : Key) → key.stamp ≤ stamp → Contains (line (seen_of c c.region colour)) key
-    → Contains (map (λ (item : PlacedNode). item.head.key) (line_of c colour)) key
+    → Contains (map (λ (item : PlacedNode). item.head.key) (own_line c colour)) key
 
 -- The read is one of these colours, with these keys, and its items show the nodes of those that come behind the last one.
 abbrev pub ReadsAs : List ℕ → Option Key → StampedRead → List Key → Log → Caller → Kept → Kept → Type 0
 ReadsAs colours last read keys log caller kept after =
     ReadsAt log caller kept colours read.stamp (map raise_piece read.raises) (map sync_piece read.syncs) after
-    × AreRead log caller read.stamp (map sync_piece read.syncs) keys
+    × AreKeysRead log caller read.stamp (map sync_piece read.syncs) keys
     × AllZip (ShowsItem log) (filter (is_behind last) keys) read.items
 
 -- the items have these keys, and show their nodes beside whatever nodes and rows fit what the client knows
 abbrev pub ShowsItems : Client → List Key → List PlacedNode → Type 0
 ShowsItems c keys items =
     (map (λ (item : PlacedNode). item.head.key) items ≡ keys)
-    × ((rest : Rest) → Fits (holds_of c) rest → AllZip (ShowsItem (log_of (seen_of c) rest)) keys items)
+    × ((rest : Rest) → FitsHolds (holds_of c) rest → AllZip (ShowsItem (log_seen (seen_of c) rest)) keys items)
 
 -- From c to d the client read these colours, and its answer has the nodes behind the last key.
 abbrev pub ReadsOn : Store → Client → Client → List ℕ → Option Key → StampedRead → Type 0
@@ -88,18 +88,18 @@ ReadsAll s c d colours read =
     (keys : List Key) × HasRead d colours read.stamp keys
     × IsExplained s c d (λ log caller kept after.
     ReadsAt log caller kept colours read.stamp (map raise_piece read.raises) (map sync_piece read.syncs) after
-    × AreRead log caller read.stamp (map sync_piece read.syncs) keys
+    × AreKeysRead log caller read.stamp (map sync_piece read.syncs) keys
     × AllZip (ShowsItem log) keys read.items)
 
 -- the last of some keys, if there is one
-abbrev pub last_of : List Key → Option Key
-last_of [] = None
-last_of (key ∷ keys) = Some (fold (λ last next. next) key keys)
+abbrev pub last_key : List Key → Option Key
+last_key [] = None
+last_key (key ∷ keys) = Some (fold (λ last next. next) key keys)
 
 -- the keys go on from the first of them by those behind their last, which have greater stamps than this one
 pub record GoOnFrom (stamp : ℕ) (first keys : List Key) : Type 0 where
-  pub whole : keys ≡ first ++ filter (is_behind (last_of first)) keys
-  pub above : All (λ key. stamp < key.stamp) (filter (is_behind (last_of first)) keys)
+  pub whole : keys ≡ first ++ filter (is_behind (last_key first)) keys
+  pub above : All (λ key. stamp < key.stamp) (filter (is_behind (last_key first)) keys)
 
 -- What a client has read it goes on having read, and a later read of the same colours goes on from it.
 abbrev pub ReadsGoOn : Type 0

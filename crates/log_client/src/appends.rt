@@ -11,13 +11,13 @@ ghost use Rattle.chain_store.specs.Rows.{OneNode};
 ghost use Rattle.chain_store.specs.Steps.{HasSingleCause};
 ghost use Rattle.chain_store.specs.Holds.{IsHold, SameBut, SeesMoreIn, entries_seen, view_of};
 ghost use Rattle.append_core.specs.declared.stood.Point.{Point};
-ghost use Rattle.append_core.specs.Standing.{StandsAlone};
-ghost use Rattle.append_core.specs.Several.{IsStopOf, Leaves, StandsInAll, own_row};
-ghost use Rattle.lawful_run.specs.Callers.{row_of};
+ghost use Rattle.append_core.specs.Standing.{HoldAppendsOne};
+ghost use Rattle.append_core.specs.Several.{IsStopOf, HoldLeaves, HoldAppendsSeveral, own_row};
+ghost use Rattle.lawful_run.specs.Callers.{row_taken};
 ghost use Rattle.log_client.specs.Fits.{HaveGoneOn};
-ghost use Rattle.log_client.specs.Clients.{IsClient, Finished, Helps, holds_of, rows_of, starts_of, tracks_of};
+ghost use Rattle.log_client.specs.Clients.{IsClient, Finished, Helps, holds_of, nodes_of_rows, starts_of, tracks_of};
 ghost use Rattle.log_client.specs.Growing.{HasGrown};
-ghost use Rattle.log_client.specs.Appends.{AreColoursOf, IsStopWithin, next_node, AppendsAs, AppendRefused, HasNoRow, HasStopped};
+ghost use Rattle.log_client.specs.Appends.{AreColoursOf, IsStopWithin, next_node, AppendsAs, AppendRefused, HasNoRow, AppendStopped};
 ghost use Rattle.log_client.specs.Calls.{IsExplained, IsSame};
 ghost use Rattle.log_client.specs.Inside.{CallsAppend};
 
@@ -50,7 +50,7 @@ fn stand<R: Wait>(
     ensures hold { IsHold region.now hold.new }
     ensures seat { IsLater hold.old.seat hold.new.seat }
     ensures next { OnOk result (hold.new.next ≡ node.now.value.id.count + 1) }
-    ensures ok { IfOk result (StandsAlone hold.old hold.new node.now.value colour) }
+    ensures ok { IfOk result (HoldAppendsOne hold.old hold.new node.now.value colour) }
     ensures one { OnOk result ((row : Row) → OneNode (view_of hold.new) row) }
     ensures cause { IfErr result (HasSingleCause (entries_seen hold.new colour) node.now.value.floor) }
     ensures err { OnErr result (SeesMoreIn colour hold.old hold.new × (hold.new.next ≡ hold.old.next)) }
@@ -110,10 +110,10 @@ fn stand_in_all<R: Wait, G: Gate>(
     requires stop { IfSome stop (IsStopOf node.now.value) }
     ensures hold { IsHold region.now hold.new }
     ensures seat { Grows (view_of hold.old) (view_of hold.new) }
-    ensures ok { IfOk result (StandsInAll region.now hold.old hold.new node.now.value) }
+    ensures ok { IfOk result (HoldAppendsSeveral region.now hold.old hold.new node.now.value) }
     ensures one { OnOk result ((other : Row) → OneNode (view_of hold.new) other) }
     ensures whole { OnOk result (stop ≡ None) }
-    ensures err { IfErr result (λ left. Leaves region.now hold.old hold.new node.now.value stop left.fault) }
+    ensures err { IfErr result (λ left. HoldLeaves region.now hold.old hold.new node.now.value stop left.fault) }
     ensures begun { IfErr result (λ left. left.begun ≡ nat_lt hold.old.seat.used hold.new.seat.used) }
 {
     match multi(rt, alloc, region, hold, gate, node, stop) {
@@ -150,7 +150,7 @@ impl Client {
         row: Option<Row>,
     ) -> Result<Arc<Node>, AllocError>
         requires colours { (c : ℕ) → has colours c ≡ true → c < length (tracks_of self.now) }
-        requires row { row ≡ row_of self.now.number (length (rows_of self.now)) (members colours) }
+        requires row { row ≡ row_taken self.now.number (length (nodes_of_rows self.now)) (members colours) }
         ensures { IfOk result (λ node. node.value ≡ next_node self.now colours text) }
     {
         let wants = self.played_counts(alloc, colours)?;
@@ -264,7 +264,7 @@ impl Client {
     /// there. Several colours take the client's next row; the gate is passed between their steps, and with a stop the append
     /// stops after that many. Open entries in its way are helped. Nothing is played, not even the own node: `played`, `line`
     /// and `snapshot` answer of each colour what they did before. Waits for turns of the columns.
-    #[tactic(auto, using(crate::proofs::Growing::grown_same))]
+    #[tactic(auto, using(crate::proofs::Going::Growing::grown_same))]
     pub fn append<R: Wait, G: Gate>(
         &mut self,
         rt: &R,
@@ -283,7 +283,7 @@ impl Client {
         ensures goes { HaveGoneOn (holds_of self.old) (holds_of self.new) }
         ensures grows { HasGrown self.old self.new }
         ensures plays { tracks_of self.new ≡ tracks_of self.old }
-        ensures finished { Finished self.old → Finished self.new ⊎ HasStopped result }
+        ensures finished { Finished self.old → Finished self.new ⊎ AppendStopped result }
         // An append that is to stop helps nobody.
         ensures idle { stop ≢ None → Helps self.new → Helps self.old }
         ensures ok { IfOk result (λ a. IsExplained store.now self.old self.new (AppendsAs colours text a)) }

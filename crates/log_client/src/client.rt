@@ -25,7 +25,7 @@ impl Client {
     ghost use Rattle.std.specs.Prelude.{◌≡◌, ◌<◌, ◌≤◌, length};
     ghost use Rattle.log_client.specs.declared.store.Store.{Store};
     ghost use Rattle.log_client.specs.Calls.{IsOfColumn};
-    ghost use Rattle.log_client.specs.Clients.{IsClient, tracks_of, starts_of, played_of, line_of};
+    ghost use Rattle.log_client.specs.Clients.{IsClient, tracks_of, starts_of, played_of, own_line};
     ghost use Rattle.log_client.specs.Forgetting.{HasForgotten};
 
     /// The client's number.
@@ -53,7 +53,7 @@ impl Client {
     /// Of the nodes of the colour that the client has played the own line of its region, by position.
     pub fn line(&self, colour: u8) -> &[Item]
         requires { colour < length (tracks_of self.now) }
-        ensures { result.now ≡ line_of self.now colour }
+        ensures { result.now ≡ own_line self.now colour }
     {
         self.tracks[colour as usize].line.as_slice()
     }

@@ -1,9 +1,9 @@
 // The end of a store whose clients have all come back.
 ghost use Rattle.std.specs.Prelude.{◌≡◌, length, map, IfOk};
 ghost use Rattle.log_client.specs.Closing.{HaveEnded};
-ghost use Rattle.log_client.specs.Leaving.{left_of, HaveOneMore, Gathered, AreLeaving};
+ghost use Rattle.log_client.specs.Leaving.{left_of, HaveHoldsLeft, GatheredHolds, AreLeaving};
 ghost use Rattle.log_client.specs.Clients.{holds_of};
-ghost use Rattle.log_client.specs.Closes.{AreClients, Closes};
+ghost use Rattle.log_client.specs.Closes.{AreClients, ClosesAsLog};
 
 use crate::client::Client;
 use crate::closed::{Closed, Leaving, RowNodes};
@@ -42,8 +42,8 @@ fn split_clients(
 
 // The last hold of each client.
 fn gather(alloc: Global, clients: &mut Vec<Leaving>) -> Result<Vec<Hold>, AllocError>
-    requires { HaveOneMore clients.old.items }
-    ensures { IfOk result (λ holds. Gathered clients.old.items clients.new.items holds.items (length clients.old.items)) }
+    requires { HaveHoldsLeft clients.old.items }
+    ensures { IfOk result (λ holds. GatheredHolds clients.old.items clients.new.items holds.items (length clients.old.items)) }
 {
     let mut holds = Vec::new(alloc);
     for i in 0..clients.len() {
@@ -84,7 +84,7 @@ impl Store {
         clients: Clients,
     ) -> Result<Closed, AllocError>
         requires { AreClients self clients }
-        ensures { IfOk result (Closes self clients) }
+        ensures { IfOk result (ClosesAsLog self clients) }
     {
         let Store { size: _, regions } = self;
         let (holds, nodes) = split_clients(alloc, clients.into_vec())?;

@@ -8,7 +8,7 @@ ghost use Rattle.log_node.specs.Sets.{members};
 ghost use Rattle.object_fold.specs.Folds.{is_behind};
 ghost use Rattle.playback.specs.Merging.{AreRising};
 ghost use Rattle.log_client.specs.Reading.{keys_of};
-ghost use Rattle.log_client.specs.Items.{part_of, are_parts, AreTaken, AreMerged, AreItems};
+ghost use Rattle.log_client.specs.Items.{part_of, are_parts, TakesUntil, AreMerged, AreMergedParts};
 
 use crate::track::Track;
 use log_node::{Colours, Item, Items, Key};
@@ -55,7 +55,7 @@ fn take_to(
 ) -> Result<usize, AllocError>
     requires { from ≤ length others.now }
     ensures bound { IfOk result (λ next. next ≤ length others.now) }
-    ensures ok { IfOk result (λ next. AreTaken all.old.items all.new.items others.now from next item) }
+    ensures ok { IfOk result (λ next. TakesUntil all.old.items all.new.items others.now from next item) }
 {
     let next = from + count_below(&others[from..], &item);
     let is_there = stands_at(others, next, &item);
@@ -119,7 +119,7 @@ pub(crate) fn items_read(
 ) -> Result<Items, AllocError>
     requires within { All (λ colour. colour < length tracks.now) (members colours) }
     requires rising { All (λ (track : Track). AreRising (keys_of track.line)) tracks.now }
-    ensures { IfOk result (λ items. AreItems (are_parts tracks.now last stamp (members colours)) items) }
+    ensures { IfOk result (λ items. AreMergedParts (are_parts tracks.now last stamp (members colours)) items) }
 {
     let mut items = Vec::new(alloc);
     for colour in colours.members() {

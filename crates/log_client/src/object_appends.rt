@@ -42,8 +42,10 @@ impl Client {
         requires form { IsForm form }
         ensures client { RestsOn store.now self.old self.new }
         ensures plays { tracks_of self.new ≡ tracks_of self.old }
-        ensures ok { IfOk result (StandsIn store.now self.old self.new (members colours) (form_text form)) }
-        ensures err { IfErr result (StandsNot store.now self.old self.new (members colours) (form_text form)) }
+        ensures ok { IfOk result (StandsIn store.now self.old self.new
+            (members colours) (form_text form)) }
+        ensures err { IfErr result (StandsNot store.now self.old self.new
+            (members colours) (form_text form)) }
     {
         let Ok(text) = text_of(alloc, form) else {
             return Err(ObjectFault::NoMemory);
@@ -70,8 +72,10 @@ impl Client {
         requires form { IsForm form }
         ensures client { RestsOn store.now self.old self.new }
         ensures plays { tracks_of self.new ≡ tracks_of self.old }
-        ensures ok { IfOk result (StandsIn store.now self.old self.new (colour ∷ []) (form_text form)) }
-        ensures err { IfErr result (StandsNot store.now self.old self.new (colour ∷ []) (form_text form)) }
+        ensures ok { IfOk result (StandsIn store.now self.old self.new
+            (colour ∷ []) (form_text form)) }
+        ensures err { IfErr result (StandsNot store.now self.old self.new
+            (colour ∷ []) (form_text form)) }
     {
         self.append_form(rt, alloc, store, gate, Colours::of(&[colour]), form)
     }

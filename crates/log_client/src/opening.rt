@@ -3,7 +3,7 @@ ghost use Rattle.std.specs.Prelude.{◌≡◌, ◌<◌, ◌≤◌, length, IfOk}
 ghost use Rattle.std.specs.List.{All};
 ghost use Rattle.stamp_board.specs.Rows.{IsSize};
 ghost use Rattle.chain_store.specs.Opening.{size_of};
-ghost use Rattle.log_client.specs.Opening.{fresh_track, AreFreshTracks, AreFreshClients, HaveNoHolds, Dealt, AreNewClients};
+ghost use Rattle.log_client.specs.Opening.{fresh_track, AreFreshTracks, AreClientsOfHomes, HaveNoHolds, DealtHolds, AreNewClients};
 
 use crate::client::Client;
 use crate::played::PlayedNodes;
@@ -47,7 +47,7 @@ fn fresh_tracks(alloc: Global, region: u8, colours: u8) -> Result<Vec<Track>, Al
 // A client of each home, which has no hold yet.
 fn fresh_clients(alloc: Global, shape: &Shape) -> Result<Vec<Client>, AllocError>
     requires { length shape.now.homes ≤ MAX_CLIENTS }
-    ensures fresh { IfOk result (λ clients. AreFreshClients shape.now clients.items) }
+    ensures fresh { IfOk result (λ clients. AreClientsOfHomes shape.now clients.items) }
     ensures holds { IfOk result (λ clients. HaveNoHolds clients.items) }
 {
     let count = shape.homes.len() as u8;
@@ -71,7 +71,7 @@ fn fresh_clients(alloc: Global, shape: &Shape) -> Result<Vec<Client>, AllocError
 // Each client gets the hold of its number, behind those that it has: the last client first.
 fn deal(clients: &mut Vec<Client>, mut holds: Vec<Hold>) -> Result<(), AllocError>
     requires { length holds.items ≡ length clients.old.items }
-    ensures { IfOk result (λ _. Dealt clients.old.items clients.new.items holds.items 0) }
+    ensures { IfOk result (λ _. DealtHolds clients.old.items clients.new.items holds.items 0) }
 {
     while let Some(hold) = holds.pop() {
         let number = holds.len();

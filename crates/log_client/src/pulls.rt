@@ -47,7 +47,7 @@ fn pull_between<R: Wait>(
 impl Client {
     /// Brings what is new of another region's line of the colour into the column of the client's region. Each step waits
     /// for one turn. It ends unless others go on pulling and trimming between its steps.
-    #[tactic(auto, using(crate::proofs::Growing::grown_same))]
+    #[tactic(auto, using(crate::proofs::Going::Growing::grown_same))]
     pub fn pull<R: Wait>(
         &mut self,
         rt: &R,

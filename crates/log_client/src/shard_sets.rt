@@ -2,7 +2,7 @@
 ghost use Rattle.std.specs.Prelude.{◌≡◌, ◌<◌, ◌++◌, length, map};
 ghost use Rattle.std.specs.List.{All};
 ghost use Rattle.log_node.specs.Sets.{members};
-ghost use Rattle.lawful_run.specs.Asks.{shards, keys_of};
+ghost use Rattle.lawful_run.specs.Asks.{shards, keys_of_pairs};
 ghost use Rattle.log_client.specs.Objects.{version_keys};
 
 use log_node::{Colours, MAX_COLOURS, Pair, Text, Version};
@@ -25,7 +25,7 @@ pub fn key_shards(colours: &[u8], keys: &[Text]) -> Colours
 pub fn pair_shards(colours: &[u8], pairs: &[Pair]) -> Colours
     requires some { 0 < length colours.now }
     requires few { All (λ colour. colour < MAX_COLOURS) colours.now }
-    ensures { members result ≡ shards colours.now (keys_of pairs.now) }
+    ensures { members result ≡ shards colours.now (keys_of_pairs pairs.now) }
 {
     let mut set = Colours::NONE;
     for pair in pairs {
@@ -38,7 +38,7 @@ pub fn pair_shards(colours: &[u8], pairs: &[Pair]) -> Colours
 pub fn transaction_shards(colours: &[u8], versions: &[Version], pairs: &[Pair]) -> Colours
     requires some { 0 < length colours.now }
     requires few { All (λ colour. colour < MAX_COLOURS) colours.now }
-    ensures { members result ≡ shards colours.now (version_keys versions.now ++ keys_of pairs.now) }
+    ensures { members result ≡ shards colours.now (version_keys versions.now ++ keys_of_pairs pairs.now) }
 {
     let mut set = Colours::NONE;
     for version in versions {

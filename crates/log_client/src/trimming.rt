@@ -15,7 +15,7 @@ use std::sync::Wait;
 impl Client {
     /// Drops nodes of the colour below the snapshot's counts that every other region has asked past, and answers the base.
     /// The snapshot is one of the client's region and the colour. Waits for the column's turn.
-    #[tactic(auto, using(crate::proofs::Growing::grown_same))]
+    #[tactic(auto, using(crate::proofs::Going::Growing::grown_same))]
     pub fn trim<R: Wait>(
         &mut self,
         rt: &R,

@@ -17,21 +17,21 @@ use Rattle.object_fold.specs.Nodes.{object_nodes}
 use Rattle.object_fold.specs.Folds.{FoldsFirst}
 use Rattle.col_core.specs.Keeping.{kept_after_sync}
 use Rattle.playback.specs.declared.player.Snapshot.{Snapshot}
-use Rattle.lawful_run.specs.Reads.{Syncs, greatest_stamp, played_stamp}
+use Rattle.lawful_run.specs.Reads.{Syncs, greatest_stamp, greatest_played}
 use Rattle.log_client.specs.declared.store.Store.{Store}
 use Rattle.log_client.specs.declared.client.Client.{Client}
 use Rattle.log_client.specs.declared.answers.Synced.{Synced}
-use Rattle.client_law.specs.Knowing.{log_of}
-use Rattle.log_client.specs.Clients.{IsClient, caller_of, line_of, seen_of, starts_of, tracks_of}
+use Rattle.client_law.specs.Knowing.{log_seen}
+use Rattle.log_client.specs.Clients.{IsClient, caller_of, own_line, seen_of, starts_of, tracks_of}
 use Rattle.log_client.specs.Calls.{AnswersSync, IsExplained, SyncsAs, nodes_played}
 use Rattle.log_client.specs.Reading.{RestsOn}
 use Rattle.log_client.specs.StampedReads.{sync_piece}
-use Rattle.log_client.specs.Objects.{AreColours, Follows}
+use Rattle.log_client.specs.Objects.{HasColoursOf, FoldsLine}
 use Rattle.log_client.proofs.CallerLemmas.{folds_none, follows_later, one_started, snapshot_is_own, stamps_played, tracks_long}
 use Rattle.log_map.specs.declared.map.LogMap.{LogMap}
 use Rattle.log_map.specs.Maps.{AreFresh, Gets, IsMapOf, IsShardOf}
 
-module _ (c : Client) (colours : List ℕ) (are : AreColours c colours) where
+module _ (c : Client) (colours : List ℕ) (are : HasColoursOf c colours) where
   pub within : (colour : ℕ) → Contains colours colour → colour < length (tracks_of c)
   within colour has = All-contains (λ k. k < length (tracks_of c)) colours colour are.within has
 
@@ -68,10 +68,10 @@ set_cases (z ∷ xs) (suc n) (suc j) x y e = elim (set_cases xs n j x y e) [
 pub map_folded : (c : Client) (m : LogMap) (place colour : ℕ) (old new : KeptLine ShardMap) (shards : List (KeptLine ShardMap))
     → IsMapOf c m → slice_get m.colours place ≡ Some colour → slice_get m.shards.items place ≡ Some old
     → shards ≡ set m.shards.items place new → HasShardOf old.state new.state
-    → Follows c colour new.count (IsShardMap new.state)
+    → FoldsLine c colour new.count (IsShardMap new.state)
     → (n : LogMap) → n.home ≡ m.home → n.colours ≡ m.colours → n.shards.items ≡ shards → IsMapOf c n
 map_folded c m place colour old new shards of there at is same folds n home colours items = record {
-  colours = subst (AreColours c) (sym colours) of.colours;
+  colours = subst (HasColoursOf c) (sym colours) of.colours;
   many = ap length items ∙ (ap length is ∙ (length-set m.shards.items place new ∙ (of.many ∙ ap length (sym colours))));
   shards = λ k other shard here found.
       let here_then = ap (λ (l : List ℕ). slice_get l k) (sym colours) ∙ here in
@@ -84,7 +84,7 @@ map_folded c m place colour old new shards of there at is same folds n home colo
             subst (λ (x : KeptLine ShardMap). IsShardOf c m.colours other x) p.1 (record {
               colours_are = same.colours ∙ (of.shards place colour old there at).colours_are;
               shard_is = same.shard ∙ ((of.shards place colour old there at).shard_is ∙ sym same_colour);
-              folds = subst (λ (q : ℕ). Follows c q new.count (IsShardMap new.state)) (sym same_colour) folds;
+              folds = subst (λ (q : ℕ). FoldsLine c q new.count (IsShardMap new.state)) (sym same_colour) folds;
             }))
         | inr q ↦ of.shards k other shard here_then q
       ]);
@@ -94,7 +94,7 @@ map_folded c m place colour old new shards of there at is same folds n home colo
 
 module _ (s : Store) (c d : Client) (colours key : List ℕ) (colour : ℕ) (value : Value) (y : Synced) (is : IsClient s d)
     (lt : colour < length (tracks_of d)) (answers : AnswersSync c d colour y) (e : IsExplained s c d (SyncsAs d colour y))
-    (value_is : value ≡ shard_value colours colour (object_nodes (line_of d colour)) key) where
+    (value_is : value ≡ shard_value colours colour (object_nodes (own_line d colour)) key) where
   synced : y.snapshot.colour ≡ colour
   synced = ap (λ (q : Snapshot). q.colour) answers.snapshot
 
@@ -108,7 +108,7 @@ module _ (s : Store) (c d : Client) (colours key : List ℕ) (colour : ℕ) (val
           λ rest fits.
               let syncs = r.2 rest fits in
               let own = (caller_of s d objects).own in
-              let log = log_of (seen_of d) rest in
+              let log = log_seen (seen_of d) rest in
               let caller = caller_of s d objects in
               let here : Syncs log caller kept y.snapshot.colour y.events y.snapshot.counts =
               subst (λ (k : ℕ). Syncs log caller kept k y.events y.snapshot.counts) (sym synced) syncs.0 in
@@ -118,14 +118,14 @@ module _ (s : Store) (c d : Client) (colours key : List ℕ) (colour : ℕ) (val
               let stamps = stamps_played log caller kept colour y.events y.snapshot.counts (nodes_played d colour y) syncs.1 in (
                 here,
                 record {
-                  nodes = object_nodes (line_of d colour);
+                  nodes = object_nodes (own_line d colour);
                   played = snapshot_is_own s d colour is lt rest fits objects kept (sync_piece y) synced here started;
-                  value_is = value_is ∙ ap (λ (k : ℕ). shard_value colours k (object_nodes (line_of d colour)) key) (sym synced);
+                  value_is = value_is ∙ ap (λ (k : ℕ). shard_value colours k (object_nodes (own_line d colour)) key) (sym synced);
                 },
                 syncs.2
                     ∙ (ap (kept_after_sync kept own colour y.events y.snapshot.counts) stamps
                     ∙ ap (λ (k : ℕ). kept_after_sync kept own k y.events y.snapshot.counts
-                    (played_stamp log caller kept k y.events y.snapshot.counts)) (sym synced)),
+                    (greatest_played log caller kept k y.events y.snapshot.counts)) (sym synced)),
               ),
         );
   }
@@ -143,7 +143,7 @@ shard_at c m place colour old of there is =
 
 -- what is folded of it
 pub shard_folds : (c : Client) (m : LogMap) (place colour : ℕ) (old : KeptLine ShardMap) (line : List PlacedNode) → IsMapOf c m
-    → slice_get m.colours place ≡ Some colour → old ≡ slice_index_or m.shards.items place old → line ≡ line_of c colour
+    → slice_get m.colours place ≡ Some colour → old ≡ slice_index_or m.shards.items place old → line ≡ own_line c colour
     → FoldsFirst line old.count (IsShardMap old.state)
 shard_folds c m place colour old line of there is here =
     subst (λ (l : List PlacedNode). FoldsFirst l old.count (IsShardMap old.state)) (sym here)
@@ -152,9 +152,9 @@ shard_folds c m place colour old line of there is here =
 -- and its value of a key
 pub shard_value_is : (c : Client) (m : LogMap) (place colour : ℕ) (old : KeptLine ShardMap) (line : List PlacedNode)
     (key : List ℕ) (r : Result Value AllocError) → IsMapOf c m → slice_get m.colours place ≡ Some colour
-    → old ≡ slice_index_or m.shards.items place old → line ≡ line_of c colour
+    → old ≡ slice_index_or m.shards.items place old → line ≡ own_line c colour
     → IfOk r (λ value. value ≡ shard_value old.state.colours old.state.shard (object_nodes line) key)
-    → IfOk r (λ value. value ≡ shard_value m.colours colour (object_nodes (line_of c colour)) key)
+    → IfOk r (λ value. value ≡ shard_value m.colours colour (object_nodes (own_line c colour)) key)
 shard_value_is c m place colour old line key r of there is here ok =
     let f = of.shards place colour old there (shard_at c m place colour old of there is) in
     subst (λ (l : List PlacedNode). IfOk r (λ value. value ≡ shard_value m.colours colour (object_nodes l) key)) here
@@ -163,7 +163,7 @@ shard_value_is c m place colour old line key r of there is here ok =
 
 -- the map with the shard that went on
 pub map_with : (c : Client) (m : LogMap) (place colour : ℕ) (old new : KeptLine ShardMap) (line : List PlacedNode) → IsMapOf c m
-    → slice_get m.colours place ≡ Some colour → old ≡ slice_index_or m.shards.items place old → line ≡ line_of c colour
+    → slice_get m.colours place ≡ Some colour → old ≡ slice_index_or m.shards.items place old → line ≡ own_line c colour
     → HasShardOf old.state new.state → FoldsFirst line new.count (IsShardMap new.state)
     → IsMapOf c (record m { shards = with_item m.shards place new })
 map_with c m place colour old new line of there is here same folds =
@@ -205,7 +205,7 @@ fresh_more colours n colour d shards shard lt is of_colours of_colour none empty
     | inr late ↦ inr (ap suc late.0, late.1)
   ]
 
-pub opened : (c : Client) (m : LogMap) → AreColours c m.colours → AreFresh m.colours (length m.colours) m.shards.items
+pub opened : (c : Client) (m : LogMap) → HasColoursOf c m.colours → AreFresh m.colours (length m.colours) m.shards.items
     → IsMapOf c m
 opened c m are fresh = record {
   colours = are;
@@ -213,6 +213,6 @@ opened c m are fresh = record {
   shards = λ n colour shard there at. let f = fresh.each n colour shard there at in record {
     colours_are = f.0;
     shard_is = f.1;
-    folds = folds_none (line_of c colour) shard.count (IsShardMap shard.state) f.2 f.3;
+    folds = folds_none (own_line c colour) shard.count (IsShardMap shard.state) f.2 f.3;
   };
 }

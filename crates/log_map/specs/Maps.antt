@@ -14,7 +14,7 @@ use Rattle.log_client.specs.declared.client.Client.{Client}
 use Rattle.log_client.specs.declared.answers.Synced.{Synced}
 use Rattle.log_client.specs.Calls.{IsExplained}
 use Rattle.log_client.specs.StampedReads.{sync_piece}
-use Rattle.log_client.specs.Objects.{AreColours, Follows}
+use Rattle.log_client.specs.Objects.{HasColoursOf, FoldsLine}
 use Rattle.log_map.specs.declared.map.LogMap.{LogMap}
 
 -- The shard of a map with these colours that has this one is kept: what is folded are the first nodes of the own line that
@@ -22,7 +22,7 @@ use Rattle.log_map.specs.declared.map.LogMap.{LogMap}
 pub record IsShardOf (c : Client) (colours : List ℕ) (colour : ℕ) (shard : KeptLine ShardMap) : Type 0 where
   pub colours_are : shard.state.colours ≡ colours
   pub shard_is : shard.state.shard ≡ colour
-  pub folds : Follows c colour shard.count (IsShardMap shard.state)
+  pub folds : FoldsLine c colour shard.count (IsShardMap shard.state)
 
 -- of each of the first so many of these colours there is a shard of a map with them, of which nothing is folded
 pub record AreFresh (colours : List ℕ) (count : ℕ) (shards : List (KeptLine ShardMap)) : Type 0 where
@@ -32,7 +32,7 @@ pub record AreFresh (colours : List ℕ) (count : ℕ) (shards : List (KeptLine 
 
 -- The map is kept beside the client: a shard for each of its colours, which are the client's.
 pub record IsMapOf (c : Client) (m : LogMap) : Type 0 where
-  pub colours : AreColours c m.colours
+  pub colours : HasColoursOf c m.colours
   pub many : length m.shards.items ≡ length m.colours
   pub shards : (n colour : ℕ) (shard : KeptLine ShardMap) → slice_get m.colours n ≡ Some colour
       → slice_get m.shards.items n ≡ Some shard → IsShardOf c m.colours colour shard

@@ -1,5 +1,5 @@
 // The map.
-ghost use Rattle.std.specs.Prelude.{◌≡◌, ◌≢◌, ◌<◌, IsTrue, ◌∷◌, [], length, Some, Err, IfOk, IfErr, slice_get};
+ghost use Rattle.std.specs.Prelude.{◌≡◌, IsTrue, ◌∷◌, [], Some, IfOk, IfErr, slice_get};
 ghost use Rattle.std.specs.List.{Contains};
 ghost use Rattle.object_form.specs.Forms.{is_word, form_text};
 ghost use Rattle.object_fold.specs.Nodes.{object_nodes, shard_of};
@@ -7,9 +7,9 @@ ghost use Rattle.object_fold.specs.Maps.{shard_value};
 ghost use Rattle.object_fold.specs.States.{IsShardMap, HasShardOf};
 ghost use Rattle.object_fold.specs.Folds.{FoldsFirst};
 ghost use Rattle.log_client.specs.Calls.{AnswersSync};
-ghost use Rattle.log_client.specs.Clients.{IsClient, Helps, line_of};
+ghost use Rattle.log_client.specs.Clients.{IsClient, Helps, own_line};
 ghost use Rattle.log_client.specs.Reading.{RestsOn};
-ghost use Rattle.log_client.specs.Objects.{AreColours, StandsIn, PutRefused, GetRefused};
+ghost use Rattle.log_client.specs.Objects.{HasColoursOf, StandsIn, PutRefused, GetRefused, RefusesAway};
 ghost use Rattle.log_map.specs.Maps.{IsMapOf, IsSameMap, Gets};
 
 use fuzzy_io::Gate;
@@ -50,8 +50,8 @@ fn value_kept(
     requires { FoldsFirst line.now shard.old.count (IsShardMap shard.old.state) }
     ensures shard { HasShardOf shard.old.state shard.new.state }
     ensures folds { FoldsFirst line.now shard.new.count (IsShardMap shard.new.state) }
-    ensures value { IfOk result (λ value.
-        value ≡ shard_value shard.old.state.colours shard.old.state.shard (object_nodes line.now) key.now) }
+    ensures value { IfOk result (λ value. value
+        ≡ shard_value shard.old.state.colours shard.old.state.shard (object_nodes line.now) key.now) }
 {
     shard.fold_to(alloc, line, line.len())?;
     match shard.state.get(key) {
@@ -64,7 +64,7 @@ impl LogMap {
     /// The map of these colours at a home, of which nothing is folded.
     pub fn open(alloc: Global, home: u8, colours: ColourList) -> Result<LogMap, AllocError>
         ensures of { IfOk result (λ map. (map.home ≡ home) × (map.colours ≡ colours)) }
-        ensures map { (client : Client) → AreColours client colours → IfOk result (IsMapOf client) }
+        ensures map { (client : Client) → HasColoursOf client colours → IfOk result (IsMapOf client) }
     {
         let mut shards = Vec::with_capacity(alloc, colours.len())?;
         for colour in colours.as_slice() {
@@ -97,9 +97,9 @@ impl LogMap {
         ensures client { RestsOn store.now client.old client.new }
         ensures map { IsMapOf client.new self.new }
         ensures same { self.new ≡ self.old }
-        ensures ok { IfOk result (StandsIn store.now client.old client.new (shard_of self.old.colours key.now ∷ [])
-            (form_text (Form.Put key.now value.now))) }
-        ensures away { client.old.region ≢ self.old.home → result ≡ Err (ObjectFault.NotHome self.old.home) }
+        ensures ok { IfOk result (StandsIn store.now client.old client.new
+            (shard_of self.old.colours key.now ∷ []) (form_text (Form.Put key.now value.now))) }
+        ensures away { RefusesAway self.old.home client.old result }
         ensures err { IfErr result (PutRefused (Some self.old.home) store.now client.old client.new
             (shard_of self.old.colours key.now ∷ []) (form_text (Form.Put key.now value.now))) }
     {
@@ -139,9 +139,9 @@ impl LogMap {
         ensures client { RestsOn store.now client.old client.new }
         ensures map { IsMapOf client.new self.new }
         ensures same { self.new ≡ self.old }
-        ensures ok { IfOk result (StandsIn store.now client.old client.new (shard_of self.old.colours key.now ∷ [])
-            (form_text (Form.Delete key.now))) }
-        ensures away { client.old.region ≢ self.old.home → result ≡ Err (ObjectFault.NotHome self.old.home) }
+        ensures ok { IfOk result (StandsIn store.now client.old client.new
+            (shard_of self.old.colours key.now ∷ []) (form_text (Form.Delete key.now))) }
+        ensures away { RefusesAway self.old.home client.old result }
         ensures err { IfErr result (PutRefused (Some self.old.home) store.now client.old client.new
             (shard_of self.old.colours key.now ∷ []) (form_text (Form.Delete key.now))) }
     {
@@ -167,8 +167,8 @@ impl LogMap {
         requires colour { Contains self.old.colours colour }
         ensures map { IsMapOf client.now self.new }
         ensures same { IsSameMap self.old self.new }
-        ensures value { IfOk result (λ value.
-            value ≡ shard_value self.old.colours colour (object_nodes (line_of client.now colour)) key.now) }
+        ensures value { IfOk result (λ value. value
+            ≡ shard_value self.old.colours colour (object_nodes (own_line client.now colour)) key.now) }
     {
         let place = place_of(self.colours.as_slice(), colour);
         value_kept(&mut self.shards[place], alloc, client.line(colour), key)
@@ -193,8 +193,9 @@ impl LogMap {
         ensures same { IsSameMap self.old self.new }
         ensures ok { IfOk result (λ r. Gets store.now client.old client.new self.old.colours
             (shard_of self.old.colours key.now) key.now r.0 r.1) }
-        ensures played { IfOk result (λ r. AnswersSync client.old client.new (shard_of self.old.colours key.now) r.1) }
-        ensures away { client.old.region ≢ self.old.home → result ≡ Err (ObjectFault.NotHome self.old.home) }
+        ensures played { IfOk result (λ r. AnswersSync client.old client.new
+            (shard_of self.old.colours key.now) r.1) }
+        ensures away { RefusesAway self.old.home client.old result }
         ensures err { IfErr result (GetRefused (Some self.old.home) store.now client.old client.new
             (shard_of self.old.colours key.now)) }
     {

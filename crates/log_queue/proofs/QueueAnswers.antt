@@ -2,12 +2,11 @@
 use Rattle.std.proofs.Common.{◌≡◌, ℕ, ◌<◌, ◌≤◌, List, [], ◌∷◌, length, map, take, get_or, Option, refl, ap, sym, subst, ◌∙◌, arith}
 use Rattle.log_node.specs.declared.ids.Colours.{Colours}
 use Rattle.log_node.specs.declared.ids.Counts.{Counts}
-use Rattle.log_node.specs.declared.limits.TheConstants.{MAX_COLOURS}
 use Rattle.log_node.specs.Seen.{PlacedNode}
 use Rattle.log_node.specs.Vectors.{at}
 use Rattle.object_fold.specs.Maps.{Value}
 use Rattle.object_fold.specs.Queues.{front_after}
-use Rattle.object_fold.specs.States.{IsQueue}
+use Rattle.object_fold.specs.States.{IsValueQueue}
 use Rattle.object_fold.specs.Nodes.{object_nodes}
 use Rattle.col_core.specs.History.{line}
 use Rattle.col_core.specs.Keeping.{Kept, kept_after_sync}
@@ -17,9 +16,9 @@ use Rattle.playback.specs.declared.player.Snapshot.{Snapshot}
 use Rattle.lawful_run.specs.Callers.{node_of}
 use Rattle.lawful_run.specs.Appends.{Appends}
 use Rattle.lawful_run.specs.Objects.{AreObjectNodes}
-use Rattle.lawful_run.specs.Reads.{Syncs, greatest_stamp, played_stamp}
+use Rattle.lawful_run.specs.Reads.{Syncs, greatest_stamp, greatest_played}
 use Rattle.lawful_run.proofs.CallerLemmas.{append_later}
-use Rattle.client_law.specs.Knowing.{Rest, log_of}
+use Rattle.client_law.specs.Knowing.{Rest, log_seen}
 use Rattle.log_client.specs.declared.store.Store.{Store}
 use Rattle.log_client.specs.declared.client.Client.{Client}
 use Rattle.log_client.specs.declared.answers.Appended.{Appended}
@@ -27,31 +26,22 @@ use Rattle.log_client.specs.declared.answers.Synced.{Synced}
 use Rattle.log_client.specs.declared.faults.SyncFault.{SyncFault}
 use Rattle.log_client.specs.declared.faults.SyncFault.TheVariants as sync_faults
 use Rattle.log_client.specs.declared.object_fault.ObjectFault.TheVariants as faults
-use Rattle.log_client.specs.Fits.{Fits}
-use Rattle.log_client.specs.Clients.{IsClient, Finished, Keeps, caller_of, holds_of, line_of, seen_of, starts_of, tracks_of}
+use Rattle.log_client.specs.Fits.{FitsHolds}
+use Rattle.log_client.specs.Clients.{IsClient, Finished, Keeps, caller_of, holds_of, own_line, seen_of, starts_of, tracks_of}
 use Rattle.log_client.specs.Calls.{AnswersSync, IsExplained, SyncsAs, SyncRefused, nodes_played}
 use Rattle.log_client.specs.Reading.{RestsOn}
 use Rattle.log_client.specs.Appends.{AppendsAs, piece_of}
 use Rattle.log_client.specs.Objects.{StandsIn}
-use Rattle.log_client.proofs.CallerLemmas.{at_one, explained_then, first_position, fits_less, folds_none, follows_later, line_counted, first_are_own, one_known, one_started, stamps_played, stands_behind, sync_hidden, tracks_long, unfolded_leaves, unread_leaves}
+use Rattle.log_client.proofs.CallerLemmas.{at_one, explained_then, first_position, fits_less, follows_later, line_counted, first_are_own, one_known, one_started, stamps_played, stands_behind, sync_hidden, tracks_long, unfolded_leaves, unread_leaves}
 use Rattle.log_queue.specs.declared.queue.LogQueue.{LogQueue}
 use Rattle.log_queue.specs.Queues.{DeqRefused, Dequeues, IsQueueOf, TakesAs, dequeue_text}
-
--- a queue of which nothing is folded
-pub opened : (c : Client) (q : LogQueue) (colour : ℕ) → q.colour ≡ colour → q.kept.count ≡ 0 → IsQueue q.kept.state []
-    → colour < length (tracks_of c) → colour < MAX_COLOURS → IsQueueOf c q
-opened c q colour is none empty lt few = record {
-  colour = subst (λ (n : ℕ). n < length (tracks_of c)) (sym is) lt;
-  few = subst (λ (n : ℕ). n < MAX_COLOURS) (sym is) few;
-  folds = folds_none (line_of c q.colour) q.kept.count (IsQueue q.kept.state) none empty;
-}
 
 -- what is kept stays right
 pub queue_later : (s : Store) (c d : Client) (q : LogQueue) → IsClient s c → RestsOn s c d → IsQueueOf c q → IsQueueOf d q
 queue_later s c d q is on of = record {
   colour = let lt = of.colour in let same = tracks_long s c d is on.client in omega (arith, lt, same);
   few = of.few;
-  folds = follows_later c d q.colour q.kept.count (IsQueue q.kept.state) on.grows of.folds;
+  folds = follows_later c d q.colour q.kept.count (IsValueQueue q.kept.state) on.grows of.folds;
 }
 
 -- the front after the nodes before the point
@@ -100,11 +90,11 @@ module _ (s : Store) (c m d : Client) (colour : ℕ) (a : Appended) (is : IsClie
       (unfolded_leaves s c m d colour dequeue_text a x y stands (sync_hidden s m d colour z e))
 
   -- it was answered
-  module _ (count : ℕ) (lt : colour < length (tracks_of c)) (within : count ≤ length (line_of c colour)) (z : Synced)
+  module _ (count : ℕ) (lt : colour < length (tracks_of c)) (within : count ≤ length (own_line c colour)) (z : Synced)
       (answers : AnswersSync m d colour z) (e : IsExplained s m d (SyncsAs d colour z)) (value : Value) (p : Point)
       (points : a.stood.points ≡ p ∷ []) (of : p.colour ≡ colour)
-      (front : count ≤ p.position → p.position ≤ length (line_of d colour)
-      → value ≡ front_after (object_nodes (take p.position (line_of d colour)))) where
+      (front : count ≤ p.position → p.position ≤ length (own_line d colour)
+      → value ≡ front_after (object_nodes (take p.position (own_line d colour)))) where
     abbrev set : Colours
     set = stands.set
 
@@ -137,12 +127,12 @@ module _ (s : Store) (c m d : Client) (colour : ℕ) (a : Appended) (is : IsClie
           );
     } where
       answered : (objects : List Object) (kept : Kept) → Finished c → (keeps : Keeps s c objects kept) (rest : Rest)
-          → (fits : Fits (holds_of d) rest) (after : Kept) → Keeps s d objects after
-          → ((stood : Kept) × AppendsAs set dequeue_text a (log_of (seen_of d) rest) (caller_of s d objects) kept stood
-          × SyncsAs d colour z (log_of (seen_of d) rest) (caller_of s d objects) stood after)
-          → TakesAs set a p z value (log_of (seen_of d) rest) (caller_of s d objects) kept after
+          → (fits : FitsHolds (holds_of d) rest) (after : Kept) → Keeps s d objects after
+          → ((stood : Kept) × AppendsAs set dequeue_text a (log_seen (seen_of d) rest) (caller_of s d objects) kept stood
+          × SyncsAs d colour z (log_seen (seen_of d) rest) (caller_of s d objects) stood after)
+          → TakesAs set a p z value (log_seen (seen_of d) rest) (caller_of s d objects) kept after
       answered objects kept finished keeps rest fits after kept_after (stood, appends, syncs) =
-          let log = log_of (seen_of d) rest in
+          let log = log_seen (seen_of d) rest in
           let caller = caller_of s d objects in
           let node = node_of caller kept set dequeue_text in
           let stamp = a.stood.key.stamp in
@@ -160,24 +150,24 @@ module _ (s : Store) (c m d : Client) (colour : ℕ) (a : Appended) (is : IsClie
           let its_own = ap (λ (v : Counts). at v d.region) started in
           let known = one_known kept caller.own colour q.place stamp q.point.position stood q.after_is in
           let in_snapshot = syncs.0.within in
-          let high : p.position ≤ length (line_of d colour) = omega (arith, place, long, its_own, known, in_snapshot) in
+          let high : p.position ≤ length (own_line d colour) = omega (arith, place, long, its_own, known, in_snapshot) in
           let stamps = stamps_played log caller stood colour z.events z.snapshot.counts (nodes_played d colour z) syncs.1 in (
             stood,
             subst (λ (row : Option ℕ). Appends log caller kept node stamp row (piece_of p ∷ []) stood) q.no_row
                 (subst (λ (l : List Point). Appends log caller kept node stamp a.row (map piece_of l) stood) points appends.2),
             subst (λ (k : ℕ). Syncs log caller stood k z.events z.snapshot.counts) (sym synced) syncs.0,
             record {
-              nodes = object_nodes (take p.position (line_of d colour));
+              nodes = object_nodes (take p.position (own_line d colour));
               before = subst (λ (k : ℕ). AreObjectNodes log
                   (take p.position (line (log.histories caller.own k)))
-                  (object_nodes (take p.position (line_of d colour)))) (sym of)
+                  (object_nodes (take p.position (own_line d colour)))) (sym of)
                   (first_are_own s d colour y.client lt_then rest fits p.position high);
               value_is = front low high;
             },
             syncs.2
                 ∙ (ap (kept_after_sync stood caller.own colour z.events z.snapshot.counts) stamps
                 ∙ ap (λ (k : ℕ). kept_after_sync stood caller.own k z.events z.snapshot.counts
-                (played_stamp log caller stood k z.events z.snapshot.counts)) (sym synced)),
+                (greatest_played log caller stood k z.events z.snapshot.counts)) (sym synced)),
             appends.0,
             appends.1,
             q.no_row,

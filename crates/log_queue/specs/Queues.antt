@@ -6,25 +6,25 @@ use Rattle.log_node.specs.declared.limits.TheConstants.{MAX_COLOURS}
 use Rattle.log_node.specs.Sets.{members}
 use Rattle.object_form.specs.Forms.{form_text}
 use Rattle.object_fold.specs.Maps.{Value}
-use Rattle.object_fold.specs.States.{IsQueue}
+use Rattle.object_fold.specs.States.{IsValueQueue}
 use Rattle.col_core.specs.Log.{Log}
 use Rattle.col_core.specs.Keeping.{Kept}
 use Rattle.append_core.specs.declared.stood.Point.{Point}
 use Rattle.lawful_run.specs.Callers.{Caller, node_of}
 use Rattle.lawful_run.specs.Appends.{Appends}
 use Rattle.lawful_run.specs.Reads.{Syncs, kept_after_piece}
-use Rattle.lawful_run.specs.Objects.{Takes}
+use Rattle.lawful_run.specs.Objects.{TakesFront}
 use Rattle.log_client.specs.declared.store.Store.{Store}
 use Rattle.log_client.specs.declared.client.Client.{Client}
 use Rattle.log_client.specs.declared.answers.Appended.{Appended}
 use Rattle.log_client.specs.declared.answers.Synced.{Synced}
 use Rattle.log_client.specs.declared.object_fault.ObjectFault.{ObjectFault}
-use Rattle.log_client.specs.declared.object_fault.ObjectFault.TheVariants as faults
 use Rattle.log_client.specs.Clients.{tracks_of}
 use Rattle.log_client.specs.Calls.{IsExplained}
 use Rattle.log_client.specs.Appends.{piece_of}
 use Rattle.log_client.specs.StampedReads.{sync_piece}
-use Rattle.log_client.specs.Objects.{Follows, IsAwayFrom, StandsNot, UnreadLeaves}
+use Rattle.log_client.specs.Refusals.{RefusedBy, never}
+use Rattle.log_client.specs.Objects.{FoldsLine, IsAwayFrom, NotAppended, UnreadLeaves}
 use Rattle.log_queue.specs.declared.queue.LogQueue.{LogQueue}
 
 -- The queue is kept beside the client: its colour is one of the client's, and what is folded are the first nodes of the own
@@ -32,7 +32,7 @@ use Rattle.log_queue.specs.declared.queue.LogQueue.{LogQueue}
 pub record IsQueueOf (c : Client) (q : LogQueue) : Type 0 where
   pub colour : q.colour < length (tracks_of c)
   pub few : q.colour < MAX_COLOURS
-  pub folds : Follows c q.colour q.kept.count (IsQueue q.kept.state)
+  pub folds : FoldsLine c q.colour q.kept.count (IsValueQueue q.kept.state)
 
 -- the text of a dequeue's node
 abbrev pub dequeue_text : List ℕ
@@ -45,7 +45,7 @@ TakesAs set a point y value log caller kept after =
     (stood : Kept)
     × Appends log caller kept (node_of caller kept set dequeue_text) a.stood.key.stamp None (piece_of point ∷ []) stood
     × Syncs log caller stood y.snapshot.colour y.events y.snapshot.counts
-    × Takes log caller (piece_of point) value
+    × TakesFront log caller (piece_of point) value
     × (after ≡ kept_after_piece log caller stood (sync_piece y))
     × (a.id ≡ (node_of caller kept set dequeue_text).id) × (a.stood.key.id ≡ a.id) × (a.row ≡ None)
 
@@ -61,9 +61,9 @@ pub record Dequeues (s : Store) (c d : Client) (colour : ℕ) (value : Value) (a
 
 -- why a dequeue of a queue at this home on this colour was refused
 abbrev pub DeqRefused : ℕ → Store → Client → Client → ℕ → ObjectFault → Type 0
-DeqRefused home s c d colour (faults.NotHome shown) = IsAwayFrom (Some home) c d shown
-DeqRefused home s c d colour (faults.Append fault) = StandsNot s c d (colour ∷ []) dequeue_text (faults.Append fault)
-DeqRefused home s c d colour (faults.Sync fault) = ⊥
-DeqRefused home s c d colour (faults.Unread stamp why) = UnreadLeaves s c d colour dequeue_text stamp why
-DeqRefused home s c d colour faults.NoTx = ⊥
-DeqRefused home s c d colour faults.NoMemory = d ≡ c
+DeqRefused home s c d colour = RefusedBy (record never {
+  away = IsAwayFrom (Some home) c d;
+  append = NotAppended s c d (colour ∷ []) dequeue_text;
+  unread = UnreadLeaves s c d colour dequeue_text;
+  memory = d ≡ c;
+})

@@ -1,15 +1,15 @@
 // The queue.
-ghost use Rattle.std.specs.Prelude.{◌≡◌, ◌≢◌, ◌<◌, ◌≤◌, IsTrue, ◌∷◌, [], length, map, take, Some, Err, IfOk, IfErr, MatchResult, OnErr};
+ghost use Rattle.std.specs.Prelude.{◌≡◌, ◌<◌, ◌≤◌, IsTrue, ◌∷◌, [], length, map, take, Some, IfOk, IfErr, MatchResult};
 ghost use Rattle.object_form.specs.Forms.{is_word, form_text};
 ghost use Rattle.object_fold.specs.Nodes.{object_nodes};
 ghost use Rattle.object_fold.specs.Queues.{front_after};
-ghost use Rattle.object_fold.specs.States.{IsQueue};
+ghost use Rattle.object_fold.specs.States.{IsValueQueue};
 ghost use Rattle.object_fold.specs.Folds.{FoldsFirst};
 ghost use Rattle.append_core.specs.declared.stood.Point.{Point};
 ghost use Rattle.log_client.specs.Calls.{AnswersSync};
 ghost use Rattle.log_client.specs.Clients.{IsClient, tracks_of};
 ghost use Rattle.log_client.specs.Reading.{RestsOn};
-ghost use Rattle.log_client.specs.Objects.{StandsIn, PutRefused};
+ghost use Rattle.log_client.specs.Objects.{StandsIn, PutRefused, RefusesAway};
 ghost use Rattle.log_queue.specs.Queues.{IsQueueOf, Dequeues, DeqRefused, dequeue_text};
 
 use fuzzy_io::Gate;
@@ -36,8 +36,8 @@ fn front(
     line: &[Item],
     end: usize,
 ) -> Result<Option<Text>, AllocError>
-    requires { FoldsFirst line.now kept.old.count (IsQueue kept.old.state) }
-    ensures folds { FoldsFirst line.now kept.new.count (IsQueue kept.new.state) }
+    requires { FoldsFirst line.now kept.old.count (IsValueQueue kept.old.state) }
+    ensures folds { FoldsFirst line.now kept.new.count (IsValueQueue kept.new.state) }
     ensures value { IfOk result (λ value. kept.old.count ≤ end → end ≤ length line.now
         → value ≡ front_after (object_nodes (take end line.now))) }
 {
@@ -50,17 +50,16 @@ fn front(
 
 impl LogQueue {
     /// The queue of a colour at a home, of which nothing is folded. Takes no memory.
-    pub fn open(alloc: Global, home: u8, colour: u8) -> Result<LogQueue, AllocError>
-        ensures memory { OnErr result ⊥ }
-        ensures of { IfOk result (λ queue. (queue.home ≡ home) × (queue.colour ≡ colour)) }
-        ensures queue { (client : Client) → colour < length (tracks_of client) → colour < MAX_COLOURS
-            → IfOk result (IsQueueOf client) }
+    pub fn open(alloc: Global, home: u8, colour: u8) -> LogQueue
+        ensures of { (result.home ≡ home) × (result.colour ≡ colour) }
+        ensures queue { (client : Client) → colour < length (tracks_of client)
+            → colour < MAX_COLOURS → IsQueueOf client result }
     {
-        Ok(LogQueue {
+        LogQueue {
             home,
             colour,
             kept: KeptLine::new(ValueQueue::new(alloc)),
-        })
+        }
     }
 
     /// Enqueues a value: its node stands in the queue's colour. Waits as an append does.
@@ -81,7 +80,7 @@ impl LogQueue {
         ensures same { self.new ≡ self.old }
         ensures ok { IfOk result (StandsIn store.now client.old client.new (self.old.colour ∷ [])
             (form_text (Form.Enqueue value.now))) }
-        ensures away { client.old.region ≢ self.old.home → result ≡ Err (ObjectFault.NotHome self.old.home) }
+        ensures away { RefusesAway self.old.home client.old result }
         ensures err { IfErr result (PutRefused (Some self.old.home) store.now client.old client.new
             (self.old.colour ∷ []) (form_text (Form.Enqueue value.now))) }
     {
@@ -109,10 +108,12 @@ impl LogQueue {
         ensures client { RestsOn store.now client.old client.new }
         ensures queue { IsQueueOf client.new self.new }
         ensures same { (self.new.home ≡ self.old.home) × (self.new.colour ≡ self.old.colour) }
-        ensures ok { IfOk result (λ r. Dequeues store.now client.old client.new self.old.colour r.0 r.1 r.2) }
+        ensures ok { IfOk result (λ r. Dequeues store.now client.old client.new self.old.colour
+            r.0 r.1 r.2) }
         ensures played { IfOk result (λ r. AnswersSync client.old client.new self.old.colour r.2) }
-        ensures away { client.old.region ≢ self.old.home → result ≡ Err (ObjectFault.NotHome self.old.home) }
-        ensures err { IfErr result (DeqRefused self.old.home store.now client.old client.new self.old.colour) }
+        ensures away { RefusesAway self.old.home client.old result }
+        ensures err { IfErr result (DeqRefused self.old.home store.now client.old client.new
+            self.old.colour) }
     {
         if client.region() != self.home {
             return Err(ObjectFault::NotHome { home: self.home });
@@ -138,8 +139,8 @@ impl LogQueue {
         ensures client { RestsOn store.now client.old client.new }
         ensures queue { IsQueueOf client.new self.new }
         ensures same { (self.new.home ≡ self.old.home) × (self.new.colour ≡ self.old.colour) }
-        ensures answer { (before : Client) → IsClient store.now before → RestsOn store.now before client.old
-            → IsQueueOf before self.old
+        ensures answer { (before : Client) → IsClient store.now before
+            → RestsOn store.now before client.old → IsQueueOf before self.old
             → StandsIn store.now before client.old (self.old.colour ∷ []) dequeue_text appended
             → MatchResult result
             (λ r. Dequeues store.now before client.new self.old.colour r.0 r.1 r.2)

@@ -13,21 +13,23 @@ use Rattle.log_client.specs.declared.client.Client.{Client}
 use Rattle.log_client.specs.declared.answers.Appended.{Appended}
 use Rattle.log_client.specs.declared.answers.StampedRead.{StampedRead}
 use Rattle.log_client.specs.declared.object_fault.ObjectFault.{ObjectFault}
-use Rattle.log_client.specs.declared.object_fault.ObjectFault.TheVariants as faults
 use Rattle.log_client.specs.Calls.{IsExplained}
+use Rattle.log_client.specs.Objects.{IsAwayFrom}
 use Rattle.log_client.proofs.CallerLemmas.{explained_less}
-use Rattle.region_fold.specs.Reads.{HasNodes, IsOwn, ReadsNodes, TellRefused, TellsOwn}
+use Rattle.region_fold.specs.Reads.{HasNodesRead, IsOwn, ReadsNodes, TellRefused, TellsOwn}
+use Rattle.region_fold.proofs.CallerLemmas.{told_more}
 use Rattle.tree_fold.specs.declared.change.Change.{Change}
 use Rattle.tree_fold.specs.declared.change.Change.TheVariants.{Make, Remove, Move}
 use Rattle.tree_fold.specs.declared.told.Told.{Told}
 use Rattle.tree_fold.specs.Changes.{IsChange, change_text}
-use Rattle.tree_fold.specs.Laws.{ReadsBack}
+use Rattle.tree_fold.specs.Laws.{ChangesReadBack}
 use Rattle.tree_fold.specs.Paths.{Path, is_below_root}
 use Rattle.tree_fold.specs.Readings.{change_of}
-use Rattle.tree_fold.specs.Trees.{told_by, tree_after, why}
+use Rattle.tree_fold.specs.Trees.{told_under, tree_after, why}
 use Rattle.tree_fold.specs.Trees as trees
 use Rattle.log_tree.specs.Folded.{telling}
-use Rattle.log_tree.specs.Trees.{ChangeRefused, Changes, ChangesAs, change_keys, first_name}
+use Rattle.log_tree.specs.declared.tree.LogTree.{LogTree}
+use Rattle.log_tree.specs.Trees.{ChangeRefused, Changes, ChangesAs, change_colours, change_keys, first_name}
 
 some_name : (path : Path) (more : List (List ℕ)) → IsTrue (is_below_root path) → 0 < length (first_name path ++ more)
 some_name [] more root = absurd (let f : ⊥ = cc (root) in f)
@@ -49,23 +51,23 @@ change_set set a b keys more change same colours read are =
 -- what a node is told when it is fed
 pub tells_change : (nodes : List ObjectNode) (node : ObjectNode) (key : Key) (text : List ℕ)
     (r : Result (Option Told) AllocError) → node.key ≡ key → node.text ≡ text
-    → IfOk r (λ told. told ≡ trees.told_of key.stamp (tree_after nodes) (change_of text))
+    → IfOk r (λ told. told ≡ trees.told_of_change key.stamp (tree_after nodes) (change_of text))
     → IfOk r (λ told. told ≡ telling nodes node)
 tells_change nodes node key text r its_key its_text told =
-    subst (λ (t : List ℕ). IfOk r (λ v. v ≡ trees.told_of node.key.stamp (tree_after nodes) (change_of t))) (sym its_text)
-    (subst (λ (k : Key). IfOk r (λ v. v ≡ trees.told_of k.stamp (tree_after nodes) (change_of text))) (sym its_key) told)
+    subst (λ (t : List ℕ). IfOk r (λ v. v ≡ trees.told_of_change node.key.stamp (tree_after nodes) (change_of t))) (sym its_text)
+    (subst (λ (k : Key). IfOk r (λ v. v ≡ trees.told_of_change k.stamp (tree_after nodes) (change_of text))) (sym its_key) told)
 
 -- a read after which this follows from what is held
 pub reads_so : (s : Store) (c d : Client) (colours : List ℕ) (last : Option Key) (read : StampedRead)
     (Holds Has : List ObjectNode → Type 0) → ((nodes : List ObjectNode) → Holds nodes → Has nodes)
     → ReadsNodes s c d colours last read Holds → ReadsNodes s c d colours last read Has
 reads_so s c d colours last read Holds Has so reads =
-    explained_less s c d (HasNodes (rising colours) last read Holds) (HasNodes (rising colours) last read Has)
+    explained_less s c d (HasNodesRead (rising colours) last read Holds) (HasNodesRead (rising colours) last read Has)
     (λ log caller before after r. (r.0, r.1, r.2, r.3, so r.2 r.4)) reads
 
 -- WHAT A CHANGE IS TOLD
 
-module _ (back : ReadsBack) (change : Change) (is : IsChange change) where
+module _ (back : ChangesReadBack) (change : Change) (is : IsChange change) where
   -- a change that was read is told something
   has_told : (nodes : List ObjectNode) (a : Appended) (told : Option Told) (d : Told)
       → IsOwn telling a.stood.key (change_text change) told nodes
@@ -74,37 +76,31 @@ module _ (back : ReadsBack) (change : Change) (is : IsChange change) where
       let tree = tree_after (nodes_before own.node.key nodes) in
       let stamp = own.node.key.stamp in
       let its_change : change_of own.node.text ≡ Some change = ap change_of own.text_is ∙ back change is in
-      let same : told_of telling nodes a.stood.key ≡ Some (told_by stamp (why tree change)) =
-      ap (told_among telling nodes) own.among ∙ ap (trees.told_of stamp tree) its_change in
+      let same : told_of telling nodes a.stood.key ≡ Some (told_under stamp (why tree change)) =
+      ap (told_among telling nodes) own.among ∙ ap (trees.told_of_change stamp tree) its_change in
       same ∙ ap (λ (t : Told). Some t) (sym (ap (λ (o : Option Told). unwrap_or o d) (own.answer_is ∙ same)))
 
-  pub changes : (s : Store) (c d : Client) (colours : List ℕ) (last : Option Key) (set : Colours) (told : Option Told)
-      (other : Told) (a : Appended) (read : StampedRead) → members set ≡ shards colours (change_keys change)
-      → IsExplained s c d (TellsOwn telling set (change_text change) (rising colours) last told a read)
-      → Changes s c d colours last change (unwrap_or told other) a read
-  changes s c d colours last set told other a read are tells = record {
+  pub changes : (s : Store) (c d : Client) (t : LogTree) (set : Colours) (told : Option Told) (other : Told) (a : Appended)
+      (read : StampedRead) → members set ≡ change_colours t change
+      → IsExplained s c d (TellsOwn telling set (change_text change) (rising t.colours) t.fold.kept.last told a read)
+      → Changes s c d t change (unwrap_or told other) a read
+  changes s c d t set told other a read are tells = record {
     set = set;
     members_are = are;
-    explained = explained_less s c d (TellsOwn telling set (change_text change) (rising colours) last told a read)
-        (ChangesAs set (change_text change) (rising colours) last (unwrap_or told other) a read)
-        (λ log caller kept after t. (
-          t.0,
-          t.1,
-          (t.2.0, t.2.1, t.2.2, t.2.3, has_told t.2.2 a told other t.2.4),
+    explained = explained_less s c d
+        (TellsOwn telling set (change_text change) (rising t.colours) t.fold.kept.last told a read)
+        (ChangesAs set t (change_text change) (unwrap_or told other) a read)
+        (λ log caller kept after e. (
+          e.0,
+          e.1,
+          (e.2.0, e.2.1, e.2.2, e.2.3, has_told e.2.2 a told other e.2.4),
         )) tells;
   }
 
 -- why it was refused
-pub change_refused : (home : ℕ) (s : Store) (c d : Client) (colours : List ℕ) (change : Change) (own : List ℕ)
-    (fault : ObjectFault) → own ≡ shards colours (change_keys change)
-    → TellRefused s c d own (change_text change) colours fault → ChangeRefused home s c d colours change fault
-change_refused home s c d colours change own fault are why =
-    by fault (subst (λ (l : List ℕ). TellRefused s c d l (change_text change) colours fault) are why) where
-      by : (fault : ObjectFault) → TellRefused s c d (shards colours (change_keys change)) (change_text change) colours fault
-          → ChangeRefused home s c d colours change fault
-      by (faults.NotHome shown) why = absurd why
-      by (faults.Append fault) why = why
-      by (faults.Sync fault) why = why
-      by (faults.Unread stamp fault) why = why
-      by faults.NoTx why = why
-      by faults.NoMemory why = absurd why
+pub change_refused : (s : Store) (c d : Client) (t : LogTree) (change : Change) (own : List ℕ) (fault : ObjectFault)
+    → own ≡ change_colours t change → TellRefused s c d own (change_text change) t.colours fault
+    → ChangeRefused s c d t change fault
+change_refused s c d t change own fault are why =
+    told_more s c d (change_colours t change) (change_text change) t.colours (IsAwayFrom (Some t.home) c d) (d ≡ c) fault
+    (subst (λ (l : List ℕ). TellRefused s c d l (change_text change) t.colours fault) are why)

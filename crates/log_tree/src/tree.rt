@@ -1,17 +1,16 @@
 // The tree over a client.
-ghost use Rattle.std.specs.Prelude.{◌≡◌, ◌≢◌, ◌++◌, List, map, None, Err, IfOk, IfErr};
-ghost use Rattle.lawful_run.specs.Asks.{rising, shards};
+ghost use Rattle.std.specs.Prelude.{◌≡◌, ◌++◌, List, map, None, IfOk, IfErr};
+ghost use Rattle.lawful_run.specs.Asks.{rising};
 ghost use Rattle.object_fold.specs.Nodes.{ObjectNode};
 ghost use Rattle.append_core.specs.declared.stood.Point.{Point};
-ghost use Rattle.log_client.specs.Calls.{AnswersEach};
 ghost use Rattle.log_client.specs.Clients.{IsClient};
-ghost use Rattle.log_client.specs.Reading.{RestsOn, raised_colours, synced_colours};
+ghost use Rattle.log_client.specs.Reading.{RestsOn};
 ghost use Rattle.log_client.specs.StampedReads.{ReadHidden};
-ghost use Rattle.log_client.specs.Objects.{AreColours};
-ghost use Rattle.region_fold.specs.Reads.{ReadsNodes};
+ghost use Rattle.log_client.specs.Objects.{HasColoursOf, RefusesAway};
+ghost use Rattle.region_fold.specs.Reads.{ShowsEach};
 ghost use Rattle.tree_fold.specs.Changes.{IsChange, change_text};
 ghost use Rattle.log_tree.specs.Folded.{HasTree, NamesAfter, ValueAfter};
-ghost use Rattle.log_tree.specs.Trees.{IsTreeOf, IsSameTree, first_name, change_keys, Changes, ChangeRefused, LookRefused};
+ghost use Rattle.log_tree.specs.Trees.{IsTreeOf, IsSameTree, first_name, change_colours, change_keys, Changes, ChangeRefused, Looks, TreeRefused};
 
 use crate::folded::Folded;
 use fuzzy_io::Gate;
@@ -63,7 +62,7 @@ impl LogTree {
     pub fn open(alloc: Global, home: u8, colours: ColourList) -> LogTree
         ensures of { (result.home ≡ home) × (result.colours ≡ colours) }
         ensures last { result.fold.kept.last ≡ None }
-        ensures tree { (client : Client) → AreColours client colours → IsTreeOf client result }
+        ensures tree { (client : Client) → HasColoursOf client colours → IsTreeOf client result }
     {
         LogTree {
             home,
@@ -85,14 +84,13 @@ impl LogTree {
         ensures client { RestsOn store.now client.old client.new }
         ensures tree { IsTreeOf client.new self.new }
         ensures same { IsSameTree self.old self.new }
-        ensures ok { IfOk result (λ read. ReadsNodes store.now client.old client.new self.old.colours self.old.fold.kept.last read
+        ensures ok { IfOk result (λ read. Looks store.now client.old client.new self.old read
             (HasTree self.new.fold.kept.state)) }
-        ensures raises { IfOk result (λ read. raised_colours read.raises ≡ rising self.old.colours) }
-        ensures syncs { IfOk result (λ read. synced_colours read.syncs ≡ rising self.old.colours) }
-        ensures played { IfOk result (λ read. AnswersEach client.old client.new read.syncs) }
-        ensures hidden { IfOk result (λ read. ReadHidden store.now client.old client.new (rising self.old.colours)) }
-        ensures away { client.old.region ≢ self.old.home → result ≡ Err (ObjectFault.NotHome self.old.home) }
-        ensures err { IfErr result (LookRefused self.old.home store.now client.old client.new self.old.colours) }
+        ensures shows { IfOk result (ShowsEach client.old client.new self.old.colours) }
+        ensures hidden { IfOk result (λ read. ReadHidden store.now client.old client.new
+            (rising self.old.colours)) }
+        ensures away { RefusesAway self.old.home client.old result }
+        ensures err { IfErr result (TreeRefused store.now client.old client.new self.old) }
     {
         if client.region() != self.home {
             return Err(ObjectFault::NotHome { home: self.home });
@@ -123,15 +121,14 @@ impl LogTree {
         ensures client { RestsOn store.now client.old client.new }
         ensures tree { IsTreeOf client.new self.new }
         ensures same { IsSameTree self.old self.new }
-        ensures ok { IfOk result (λ r. Changes store.now client.old client.new self.old.colours self.old.fold.kept.last change.now
+        ensures ok { IfOk result (λ r. Changes store.now client.old client.new self.old change.now
             r.0 r.1 r.2) }
         ensures points { IfOk result (λ r. map (λ (p : Point). p.colour) r.1.stood.points
-            ≡ shards self.old.colours (change_keys change.now)) }
-        ensures raises { IfOk result (λ r. raised_colours r.2.raises ≡ rising self.old.colours) }
-        ensures syncs { IfOk result (λ r. synced_colours r.2.syncs ≡ rising self.old.colours) }
-        ensures played { IfOk result (λ r. AnswersEach client.old client.new r.2.syncs) }
-        ensures away { client.old.region ≢ self.old.home → result ≡ Err (ObjectFault.NotHome self.old.home) }
-        ensures err { IfErr result (ChangeRefused self.old.home store.now client.old client.new self.old.colours change.now) }
+            ≡ change_colours self.old change.now) }
+        ensures shows { IfOk result (λ r. ShowsEach client.old client.new self.old.colours r.2) }
+        ensures away { RefusesAway self.old.home client.old result }
+        ensures err { IfErr result (ChangeRefused store.now client.old client.new self.old
+            change.now) }
     {
         reads_back();
         if client.region() != self.home {
@@ -172,13 +169,11 @@ impl LogTree {
         ensures client { RestsOn store.now client.old client.new }
         ensures tree { IsTreeOf client.new self.new }
         ensures same { IsSameTree self.old self.new }
-        ensures ok { IfOk result (λ r. ReadsNodes store.now client.old client.new self.old.colours self.old.fold.kept.last r.1
+        ensures ok { IfOk result (λ r. Looks store.now client.old client.new self.old r.1
             (NamesAfter path.now r.0)) }
-        ensures raises { IfOk result (λ r. raised_colours r.1.raises ≡ rising self.old.colours) }
-        ensures syncs { IfOk result (λ r. synced_colours r.1.syncs ≡ rising self.old.colours) }
-        ensures played { IfOk result (λ r. AnswersEach client.old client.new r.1.syncs) }
-        ensures away { client.old.region ≢ self.old.home → result ≡ Err (ObjectFault.NotHome self.old.home) }
-        ensures err { IfErr result (LookRefused self.old.home store.now client.old client.new self.old.colours) }
+        ensures shows { IfOk result (λ r. ShowsEach client.old client.new self.old.colours r.1) }
+        ensures away { RefusesAway self.old.home client.old result }
+        ensures err { IfErr result (TreeRefused store.now client.old client.new self.old) }
     {
         match self.look(rt, alloc, client, store) {
             Ok(read) => match self.fold.state().tree.names(alloc, path) {
@@ -204,13 +199,11 @@ impl LogTree {
         ensures client { RestsOn store.now client.old client.new }
         ensures tree { IsTreeOf client.new self.new }
         ensures same { IsSameTree self.old self.new }
-        ensures ok { IfOk result (λ r. ReadsNodes store.now client.old client.new self.old.colours self.old.fold.kept.last r.1
+        ensures ok { IfOk result (λ r. Looks store.now client.old client.new self.old r.1
             (ValueAfter path.now r.0)) }
-        ensures raises { IfOk result (λ r. raised_colours r.1.raises ≡ rising self.old.colours) }
-        ensures syncs { IfOk result (λ r. synced_colours r.1.syncs ≡ rising self.old.colours) }
-        ensures played { IfOk result (λ r. AnswersEach client.old client.new r.1.syncs) }
-        ensures away { client.old.region ≢ self.old.home → result ≡ Err (ObjectFault.NotHome self.old.home) }
-        ensures err { IfErr result (LookRefused self.old.home store.now client.old client.new self.old.colours) }
+        ensures shows { IfOk result (λ r. ShowsEach client.old client.new self.old.colours r.1) }
+        ensures away { RefusesAway self.old.home client.old result }
+        ensures err { IfErr result (TreeRefused store.now client.old client.new self.old) }
     {
         match self.look(rt, alloc, client, store) {
             Ok(read) => match self.fold.state().value(alloc, path) {

@@ -14,8 +14,8 @@ use Rattle.log_node.specs.declared.forms.Form.TheVariants as forms
 use Rattle.log_node.specs.Vectors.{at}
 use Rattle.object_form.specs.Readings.{form_of}
 use Rattle.object_fold.specs.declared.causal_map.LatestWrite.{LatestWrite}
-use Rattle.object_fold.specs.Causal.{ChainNode, Follows, IsLatestWrite, written_value}
-use Rattle.object_fold.specs.Pasts.{past_chain, at_once, past_of, ArePasts, IsNext}
+use Rattle.object_fold.specs.Causal.{ChainNode, FollowsCausally, IsLatestWrite, written_value}
+use Rattle.object_fold.specs.Pasts.{past_chain, at_once, past_of, ArePasts, MayPlayNext}
 use Rattle.object_fold.specs.CausalStates.{latest_write, HoldsLatest, latest_at, not_followed, change_by, latest_with}
 use Rattle.object_fold.proofs.PastLemmas.{grow, shrink, to_new, from_new, newest, own_position}
 use Rattle.log_node.proofs.CallerLemmas.{contains_none as none_contained}
@@ -72,7 +72,7 @@ no_pasts = record {
 
 -- ---- one more node
 
-module _ (pasts : List (List Counts)) (played : List ChainNode) (node : ChainNode) (known : ArePasts pasts played) (next : IsNext played node) (key : List ℕ) where
+module _ (pasts : List (List Counts)) (played : List ChainNode) (node : ChainNode) (known : ArePasts pasts played) (next : MayPlayNext played node) (key : List ℕ) where
   abbrev past : Counts
   past = past_of pasts (at_once node.region node.position node.needs)
 
@@ -98,12 +98,12 @@ module _ (pasts : List (List Counts)) (played : List ChainNode) (node : ChainNod
   was_latest x l = record { writes = l.writes; latest = λ later c w f. l.latest later (Contains-append_left played (node ∷ []) later c) w (grow played node f) }
 
   -- one before stays one where the new node does not both write the key and follow it
-  stays_latest : (x : ChainNode) → Contains played x → IsLatestWrite played key x → (IsTrue (is_some (written_value key node)) → Follows after node x → ⊥) → IsLatestWrite after key x
+  stays_latest : (x : ChainNode) → Contains played x → IsLatestWrite played key x → (IsTrue (is_some (written_value key node)) → FollowsCausally after node x → ⊥) → IsLatestWrite after key x
   stays_latest x inside l not_new = record {
     writes = l.writes;
     latest = λ later c w f. elim (Contains-push_cases played node later c) [
       | inl old ↦ l.latest later old w (shrink pasts played node known next f old)
-      | inr same ↦ not_new (rw same w) (let P : ChainNode → Type 0 = λ y. Follows after y x in subst P (sym same) f)
+      | inr same ↦ not_new (rw same w) (let P : ChainNode → Type 0 = λ y. FollowsCausally after y x in subst P (sym same) f)
     ];
   }
 

@@ -9,9 +9,9 @@ use Rattle.std.proofs.lemmas.Bool.{cases_eq, cases_Bool, cases_lt, eqb-true, eq-
 use Rattle.std.proofs.lemmas.List.Elements.{Contains-append_left, Contains-push, Contains-push_cases}
 use Rattle.log_node.specs.declared.ids.Counts.{Counts}
 use Rattle.log_node.specs.Vectors.{at, vector, zeros}
-use Rattle.object_fold.specs.Causal.{ChainNode, FollowsAtOnce, Follows}
-use Rattle.object_fold.specs.Causal.Follows.{at_once as at_once_of, through}
-use Rattle.object_fold.specs.Pasts.{past_chain, joined, at_once, last_past, past_of, IsPast, ArePasts, IsNext}
+use Rattle.object_fold.specs.Causal.{ChainNode, FollowsAtOnce, FollowsCausally}
+use Rattle.object_fold.specs.Causal.FollowsCausally.{at_once as at_once_of, through}
+use Rattle.object_fold.specs.Pasts.{past_chain, joined, at_once, last_past, past_of, IsPast, ArePasts, MayPlayNext}
 use Rattle.log_node.proofs.CallerLemmas.{same_some as some_same}
 use Rattle.log_node.proofs.CallerLemmas.{get_push}
 use Rattle.log_node.proofs.CallerLemmas.{get_longer as get_left}
@@ -130,7 +130,7 @@ from_counted node other lt h =
 -- ---- one more node
 
 -- what is played stays played, and what follows goes on to
-pub grow : (played : List ChainNode) (node : ChainNode) {x m : ChainNode} → Follows played x m → Follows (played ++ node ∷ []) x m
+pub grow : (played : List ChainNode) (node : ChainNode) {x m : ChainNode} → FollowsCausally played x m → FollowsCausally (played ++ node ∷ []) x m
 grow played node (at_once_of h) = at_once_of h
 grow played node (through {between = b} c h f) = through (Contains-append_left played (node ∷ []) b c) h (grow played node f)
 
@@ -138,7 +138,7 @@ grow played node (through {between = b} c h f) = through (Contains-append_left p
 chain_end : (pasts : List (List Counts)) (t : ℕ) → length pasts ≡ 4 → 4 ≤ t → length (past_chain pasts t) ≡ 0
 chain_end pasts t four le = ap length (get_or_past pasts t [] (omega (arith, four, le)))
 
-small_region : (pasts : List (List Counts)) (t n : ℕ) → length pasts ≡ 4 → n < length (past_chain pasts t) → t < 4
+pub small_region : (pasts : List (List Counts)) (t n : ℕ) → length pasts ≡ 4 → n < length (past_chain pasts t) → t < 4
 small_region pasts t n four lt = elim (cases_lt t 4) [
   | inl h ↦ h
   | inr past ↦ absurd (omega (arith, chain_end pasts t four past, lt))
@@ -155,7 +155,7 @@ zero_at (suc (suc (suc (suc t)))) n h = omega arith
 at_place : (pasts : List (List Counts)) (b : ChainNode) (r q : ℕ) (w : Counts) → b.region ≡ r → b.position ≡ q → slice_get (past_chain pasts b.region) b.position ≡ Some w → slice_get (past_chain pasts r) q ≡ Some w
 at_place pasts b r q w e f h = rw (← e, ← f) h
 
-module _ (pasts : List (List Counts)) (played : List ChainNode) (node : ChainNode) (known : ArePasts pasts played) (next : IsNext played node) where
+module _ (pasts : List (List Counts)) (played : List ChainNode) (node : ChainNode) (known : ArePasts pasts played) (next : MayPlayNext played node) where
   -- no played node follows the new one
   none_at_once : (x : ChainNode) → Contains played x → FollowsAtOnce x node → ⊥
   none_at_once x c h =
@@ -172,26 +172,26 @@ module _ (pasts : List (List Counts)) (played : List ChainNode) (node : ChainNod
   not_itself_at b same h = let P : ChainNode → Type 0 = FollowsAtOnce node in not_itself (subst P (sym same) h)
 
   -- a played node follows what it followed before
-  pub shrink : {x m : ChainNode} → Follows (played ++ node ∷ []) x m → Contains played x → Follows played x m
+  pub shrink : {x m : ChainNode} → FollowsCausally (played ++ node ∷ []) x m → Contains played x → FollowsCausally played x m
   shrink (at_once_of h) c = at_once_of h
   shrink {x} (through {between = b} cb h f) c = elim (Contains-push_cases played node b cb) [
     | inl inside ↦ through inside h (shrink f inside)
     | inr new ↦ absurd (none_at_once x c (rw new h))
   ]
 
-  pub none_follows : {x : ChainNode} → Contains played x → Follows (played ++ node ∷ []) x node → ⊥
+  pub none_follows : {x : ChainNode} → Contains played x → FollowsCausally (played ++ node ∷ []) x node → ⊥
   none_follows {x} c f =
       let k = known.known x c in
       let below = (k.exact node).0 (shrink f c) in
       omega (arith, below, k.within node.region, known.lengths node.region, next.position)
 
   -- nothing follows the new node
-  pub newest : (x : ChainNode) → Contains (played ++ node ∷ []) x → Follows (played ++ node ∷ []) x node → ⊥
+  pub newest : (x : ChainNode) → Contains (played ++ node ∷ []) x → FollowsCausally (played ++ node ∷ []) x node → ⊥
   newest x c f = elim (Contains-push_cases played node x c) [
     | inl inside ↦ none_follows inside f
     | inr new ↦ itself (rw (← new) at f)
   ] where
-    itself : Follows (played ++ node ∷ []) node node → ⊥
+    itself : FollowsCausally (played ++ node ∷ []) node node → ⊥
     itself (at_once_of h) = not_itself h
     itself (through {between = b} cb h g) = elim (Contains-push_cases played node b cb) [
       | inl inside ↦ none_follows inside g
@@ -248,7 +248,7 @@ module _ (pasts : List (List Counts)) (played : List ChainNode) (node : ChainNod
       let last : at kl.past t ≤ at past t = rw l.vector at (last_below pasts counted b.region t small lt) in
       omega (arith, rise, last)
 
-  pub to_new : {m : ChainNode} → Follows (played ++ node ∷ []) node m → m.position < at past m.region
+  pub to_new : {m : ChainNode} → FollowsCausally (played ++ node ∷ []) node m → m.position < at past m.region
   to_new {m} (at_once_of h) =
       let small = at_once_small m h in
       omega (arith, counted_from node m small h, start_below pasts counted m.region small)
@@ -263,7 +263,7 @@ module _ (pasts : List (List Counts)) (played : List ChainNode) (node : ChainNod
     | inr same ↦ absurd (not_itself_at b same h)
   ]
 
-  pub from_new : (m : ChainNode) → m.position < at past m.region → Follows (played ++ node ∷ []) node m
+  pub from_new : (m : ChainNode) → m.position < at past m.region → FollowsCausally (played ++ node ∷ []) node m
   from_new m h = elim (cases_lt m.region 4) [
     | inr beyond ↦ absurd (omega (arith, h, past_end pasts counted m.region beyond))
     | inl small ↦ elim (below_past pasts counted m.region m.position small h) [
@@ -328,10 +328,10 @@ module _ (pasts : List (List Counts)) (played : List ChainNode) (node : ChainNod
         | inr beyond ↦ let w = k.within t in rw same (omega (arith, w, chain_end pasts t known.four beyond))
       ]
 
-count_push : {A : Type 0} (p : A → Bool) (xs : List A) (x : A) → count_by p (xs ++ x ∷ []) ≡ count_by p xs + cond (p x) 1 0
+pub count_push : {A : Type 0} (p : A → Bool) (xs : List A) (x : A) → count_by p (xs ++ x ∷ []) ≡ count_by p xs + cond (p x) 1 0
 count_push p xs x = fold_push (λ n y. n + cond (p y) 1 0) 0 xs x
 
-module _ (pasts : List (List Counts)) (played : List ChainNode) (node : ChainNode) (known : ArePasts pasts played) (next : IsNext played node)
+module _ (pasts : List (List Counts)) (played : List ChainNode) (node : ChainNode) (known : ArePasts pasts played) (next : MayPlayNext played node)
     (later : List (List Counts)) (four : length later ≡ 4)
     (own : past_chain later node.region ≡ past_chain pasts node.region ++ past_of pasts (at_once node.region node.position node.needs) ∷ [])
     (others : (t : ℕ) → (t ≡ node.region → ⊥) → past_chain later t ≡ past_chain pasts t) where

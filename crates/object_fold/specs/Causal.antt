@@ -25,10 +25,10 @@ FollowsAtOnce node other =
     ((other.region ≡ node.region) × (other.position < node.position)) ⊎ (other.position < at node.needs other.region)
 
 -- among played nodes the first follows the second: at once, or through others of them
-pub data Follows (played : List ChainNode) : ChainNode → ChainNode → Type 0 where
-  at_once : {node other : ChainNode} → FollowsAtOnce node other → Follows played node other
+pub data FollowsCausally (played : List ChainNode) : ChainNode → ChainNode → Type 0 where
+  at_once : {node other : ChainNode} → FollowsAtOnce node other → FollowsCausally played node other
   through : {node between other : ChainNode} → Contains played between
-      → FollowsAtOnce node between → Follows played between other → Follows played node other
+      → FollowsAtOnce node between → FollowsCausally played between other → FollowsCausally played node other
 
 -- the value that a form writes under a key for a causal map, if it does
 abbrev pub causal_value : List ℕ → Form → Value
@@ -49,7 +49,7 @@ written_value key node = causal_value key (form_of node.text)
 pub record IsLatestWrite (played : List ChainNode) (key : List ℕ) (node : ChainNode) : Type 0 where
   pub writes : IsTrue (is_some (written_value key node))
   pub latest : (later : ChainNode) → Contains played later → IsTrue (is_some (written_value key later))
-      → Follows played later node → ⊥
+      → FollowsCausally played later node → ⊥
 
 -- The answer: the values of the latest writes of the key among the nodes that were played, each as often as it was
 -- written, sorted by their bytes. No order of play stands in it.

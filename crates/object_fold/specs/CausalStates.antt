@@ -1,16 +1,16 @@
 -- For which played nodes the state of the causal map stands.
-use Rattle.std.specs.Prelude.{◌≡◌, ◌↔◌, Bool, IsTrue, not, ℕ, nat_lt, List, [], ◌∷◌, ◌++◌, filter, map, Option, Some, None, unwrap_or, if◌then◌else◌}
+use Rattle.std.specs.Prelude.{◌≡◌, ◌↔◌, Bool, IsTrue, not, ℕ, nat_lt, List, [], ◌∷◌, ◌++◌, length, filter, map, Option, Some, None, unwrap_or, if◌then◌else◌}
 use Rattle.std.specs.List.{Contains}
 use Rattle.std.specs.Str.{bytes_eq}
 use Rattle.log_node.specs.declared.ids.Counts.{Counts}
 use Rattle.log_node.specs.declared.forms.Form.{Form}
 use Rattle.log_node.specs.declared.forms.Form.TheVariants as forms
-use Rattle.log_node.specs.Vectors.{at}
+use Rattle.log_node.specs.Vectors.{at, vector}
 use Rattle.object_fold.specs.declared.causal_map.LatestWrite.{LatestWrite}
 use Rattle.object_fold.specs.declared.causal_map.CausalMap.{CausalMap}
 use Rattle.object_fold.specs.Tables.{value_at}
 use Rattle.object_fold.specs.Causal.{ChainNode, IsLatestWrite, written_value}
-use Rattle.object_fold.specs.Pasts.{ArePasts}
+use Rattle.object_fold.specs.Pasts.{ArePasts, past_chain}
 
 -- a latest write of a key: its node's place, and the value
 abbrev pub latest_write : List ℕ → ChainNode → LatestWrite
@@ -48,6 +48,10 @@ change_by entries region position past forms.Plain = None
 abbrev pub latest_with : List (List ℕ × List LatestWrite) → Option (List ℕ × List LatestWrite) → List ℕ → List LatestWrite
 latest_with entries None other = latest_at entries other
 latest_with entries (Some change) other = if bytes_eq change.0 other then change.1 else latest_at entries other
+
+-- how many nodes of each region's chain it was fed
+abbrev pub counts_of : CausalMap → Counts
+counts_of map = vector (λ region. length (past_chain map.pasts region))
 
 -- the causal map holds what these played nodes leave
 pub record IsCausalMap (map : CausalMap) (played : List ChainNode) : Type 0 where

@@ -4,7 +4,7 @@ use Rattle.std.specs.Prelude.{◌≡◌, ◌↔◌, ℕ, ◌-◌, ◌<◌, ◌�
 use Rattle.std.specs.List.{Contains}
 use Rattle.log_node.specs.declared.ids.Counts.{Counts}
 use Rattle.log_node.specs.Vectors.{at, vector, zeros}
-use Rattle.object_fold.specs.Causal.{ChainNode, Follows}
+use Rattle.object_fold.specs.Causal.{ChainNode, FollowsCausally}
 
 -- the vectors of a chain's nodes
 abbrev pub past_chain : List (List Counts) → ℕ → List Counts
@@ -34,7 +34,7 @@ past_of pasts counted =
 pub record IsPast (pasts : List (List Counts)) (played : List ChainNode) (node : ChainNode) : Type 0 where
   pub past : Counts
   pub here : slice_get (past_chain pasts node.region) node.position ≡ Some past
-  pub exact : (other : ChainNode) → Follows played node other ↔ (other.position < at past other.region)
+  pub exact : (other : ChainNode) → FollowsCausally played node other ↔ (other.position < at past other.region)
   pub within : (region : ℕ) → at past region ≤ length (past_chain pasts region)
 
 -- the vectors are those of the played nodes
@@ -48,7 +48,7 @@ pub record ArePasts (pasts : List (List Counts)) (played : List ChainNode) : Typ
   pub lengths : (region : ℕ) → length (past_chain pasts region) ≡ count_by (λ node. node.region == region) played
 
 -- the node may be played after these: it is the next of its chain, and its needs count played nodes alone
-pub record IsNext (played : List ChainNode) (node : ChainNode) : Type 0 where
+pub record MayPlayNext (played : List ChainNode) (node : ChainNode) : Type 0 where
   pub region : node.region < 4
   pub position : node.position ≡ count_by (λ other. other.region == node.region) played
   pub needs : (region : ℕ) → at node.needs region ≤ count_by (λ other. other.region == region) played

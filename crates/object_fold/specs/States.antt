@@ -71,5 +71,5 @@ abbrev pub version_in : List (List ℕ × Written) → List ℕ → Version
 version_in entries key = record { key = key; writer = writer_in entries key }
 
 -- the queue holds what these nodes leave waiting
-abbrev pub IsQueue : ValueQueue → List ObjectNode → Type 0
-IsQueue queue nodes = queue.waiting.items ≡ queue_after nodes
+abbrev pub IsValueQueue : ValueQueue → List ObjectNode → Type 0
+IsValueQueue queue nodes = queue.waiting.items ≡ queue_after nodes

@@ -1,10 +1,10 @@
 // The causal map, folded from the played nodes of its colour.
-ghost use Rattle.std.specs.Prelude.{◌≡◌, ◌<◌, ◌++◌, ◌∷◌, [], ℕ, List, nat_lt, IfOk, OnOk, OnErr, slice_set};
+ghost use Rattle.std.specs.Prelude.{◌≡◌, ◌<◌, ◌==◌, ◌++◌, ◌∷◌, [], ℕ, List, length, nat_lt, count_by, IfOk, OnOk, OnErr, slice_set};
 ghost use Rattle.log_node.specs.Vectors.{at};
 ghost use Rattle.object_form.specs.Readings.{form_of};
 ghost use Rattle.object_fold.specs.Causal.{ChainNode, IsCausalAnswer};
-ghost use Rattle.object_fold.specs.Pasts.{IsNext, at_once, past_of, past_chain};
-ghost use Rattle.object_fold.specs.CausalStates.{IsCausalMap, latest_at, not_followed, change_by, latest_with};
+ghost use Rattle.object_fold.specs.Pasts.{MayPlayNext, at_once, past_of, past_chain};
+ghost use Rattle.object_fold.specs.CausalStates.{IsCausalMap, counts_of, latest_at, not_followed, change_by, latest_with};
 
 use crate::pasts::{at_once, past_of};
 use crate::table::Table;
@@ -82,6 +82,23 @@ impl CausalMap {
             ],
             latest: Table::new(alloc),
         }
+    }
+
+    // How many nodes of a region's chain were fed.
+    fn fed(&self, region: u8) -> u64
+        requires { region < 4 }
+        ensures { result ≡ length (past_chain self.now.pasts region) }
+    {
+        self.pasts[region as usize].len() as u64
+    }
+
+    /// How many nodes of each region's chain were fed.
+    pub fn counts(&self) -> Counts
+        ensures value { result ≡ counts_of self.now }
+        ensures fed { (played : List ChainNode) → IsCausalMap self.now played → (region : ℕ) → region < 4
+            → at result region ≡ count_by (λ node. node.region == region) played }
+    {
+        Counts([self.fed(0), self.fed(1), self.fed(2), self.fed(3)])
     }
 
     fn latest_of(&self, key: &[u8]) -> &[LatestWrite]
@@ -163,12 +180,12 @@ impl CausalMap {
     ) -> Result<(), AllocError>
         requires { region < 4 }
         ensures ok { (played : List ChainNode) (node : ChainNode) → node.region ≡ region → node.needs ≡ needs
-            → node.text ≡ text.now → IsNext played node → IsCausalMap self.old played
+            → node.text ≡ text.now → MayPlayNext played node → IsCausalMap self.old played
             → OnOk result (IsCausalMap self.new (played ++ node ∷ [])) }
         ensures err { (played : List ChainNode) → IsCausalMap self.old played
             → OnErr result (IsCausalMap self.new played) }
     {
-        let position = self.pasts[region as usize].len() as u64;
+        let position = self.fed(region);
         let past = past_of(&self.pasts, at_once(region as usize, position, needs));
         let form = read_form(alloc, text)?;
         let change = self.change(alloc, region, position, past, form)?;

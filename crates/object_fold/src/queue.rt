@@ -4,7 +4,7 @@ ghost use Rattle.std.specs.Option.{option_copied};
 ghost use Rattle.object_form.specs.Readings.{form_of};
 ghost use Rattle.object_fold.specs.Nodes.{ObjectNode};
 ghost use Rattle.object_fold.specs.Queues.{queue_with, answer_with, front_after, queue_after};
-ghost use Rattle.object_fold.specs.States.{IsQueue};
+ghost use Rattle.object_fold.specs.States.{IsValueQueue};
 
 use crate::fold::LineFold;
 use log_node::{Form, Key, Node, Text};
@@ -21,7 +21,7 @@ pub struct ValueQueue {
 impl ValueQueue {
     /// The queue before any node.
     pub fn new(alloc: Global) -> Self
-        ensures { IsQueue result [] }
+        ensures { IsValueQueue result [] }
     {
         ValueQueue {
             waiting: VecDeque::new(alloc),
@@ -60,11 +60,11 @@ impl ValueQueue {
     /// Feeds the next node of the line of the queue's colour, and gives what the node is answered: the front, if it is
     /// a dequeue and the queue is not empty. At an error the queue is as before.
     pub fn feed(&mut self, alloc: Global, text: &Text) -> Result<Option<Text>, AllocError>
-        ensures answer { (nodes : List ObjectNode) → IsQueue self.old nodes
+        ensures answer { (nodes : List ObjectNode) → IsValueQueue self.old nodes
             → IfOk result (λ answer. answer ≡ answer_with (queue_after nodes) (form_of text.now)) }
-        ensures ok { (nodes : List ObjectNode) (node : ObjectNode) → node.text ≡ text.now → IsQueue self.old nodes
-            → OnOk result (IsQueue self.new (nodes ++ node ∷ [])) }
-        ensures err { (nodes : List ObjectNode) → IsQueue self.old nodes → OnErr result (IsQueue self.new nodes) }
+        ensures ok { (nodes : List ObjectNode) (node : ObjectNode) → node.text ≡ text.now → IsValueQueue self.old nodes
+            → OnOk result (IsValueQueue self.new (nodes ++ node ∷ [])) }
+        ensures err { (nodes : List ObjectNode) → IsValueQueue self.old nodes → OnErr result (IsValueQueue self.new nodes) }
     {
         let form = read_form(alloc, text)?;
         self.apply(form)
@@ -72,14 +72,14 @@ impl ValueQueue {
 
     /// What a dequeue would be answered now.
     pub fn front(&self) -> Option<&Text>
-        ensures { (nodes : List ObjectNode) → IsQueue self.now nodes → option_copied result ≡ front_after nodes }
+        ensures { (nodes : List ObjectNode) → IsValueQueue self.now nodes → option_copied result ≡ front_after nodes }
     {
         self.waiting.front()
     }
 }
 
 impl LineFold for ValueQueue {
-    ghost Holds = { IsQueue };
+    ghost Holds = { IsValueQueue };
 
     ghost Opened = { Unit {0} };
 

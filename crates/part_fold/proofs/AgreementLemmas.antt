@@ -21,8 +21,8 @@ use Rattle.object_fold.specs.Transactions.{Write, last_write, verdict_on, writte
 use Rattle.part_fold.specs.declared.decision.Decision.{Decision}
 use Rattle.part_fold.specs.declared.transaction.Transaction.{Transaction}
 use Rattle.part_fold.specs.Decisions.{decision_of}
-use Rattle.part_fold.specs.Parts.{Part, is_own, own_reads, commits_on, known_verdict, Known, known_by, known_with, nothing_known, transactions, transaction_by, decisions}
-use Rattle.part_fold.specs.Agreement.{outcome, HasItsShards, AreAllNodes, part_at, line_at, Agrees}
+use Rattle.part_fold.specs.Parts.{Part, is_in_shard, own_reads, commits_on, known_verdict, Known, known_by, known_with, nothing_known, transactions, transaction_by, decisions}
+use Rattle.part_fold.specs.Agreement.{outcome, HasItsShards, AreAllNodes, part_at, shard_line, Agrees}
 use Rattle.part_fold.proofs.KnownLemmas.{stops_at, with_verdict}
 use Rattle.part_fold.proofs.VerdictLemmas.{SameOwn, same_written, others_written, same_conflicts, outcome_on, ruled_by, first_is_said, IsTransaction, IsNone, by_form, IsRising, verdict_at_seam}
 use Rattle.log_node.proofs.CallerLemmas.{contains_none as none_contained}
@@ -45,17 +45,17 @@ none_second true b e = absurd (both_ways (true || b) e refl)
 none_second false b e = e
 
 -- a key of the part has its shard in the part's colour
-own_shard : (colours : List ℕ) (place : ℕ) (key : List ℕ) → is_own (part_at colours place) key ≡ true → shard_of colours key ≡ slice_index colours place
+own_shard : (colours : List ℕ) (place : ℕ) (key : List ℕ) → is_in_shard (part_at colours place) key ≡ true → shard_of colours key ≡ slice_index colours place
 own_shard colours place key own = ap (slice_index colours) (eqb-true _ place own)
 
 -- a transaction without the part's colour writes no key of it
 foreign_pairs : (colours : List ℕ) (place : ℕ) (node : ObjectNode) (reads : List Version) (pairs : List Pair) → place < length colours → HasItsShards colours node
-    → form_of node.text ≡ forms.Transaction reads pairs → has node.colours (slice_index colours place) ≡ false → list_any (λ (p : Pair). is_own (part_at colours place) p.key) pairs ≡ false
+    → form_of node.text ≡ forms.Transaction reads pairs → has node.colours (slice_index colours place) ≡ false → list_any (λ (p : Pair). is_in_shard (part_at colours place) p.key) pairs ≡ false
 foreign_pairs colours place node reads pairs lt shards is lacks =
     let colour = slice_index colours place in
     let touched = sym (shards reads pairs is colour (Contains-get_or colours place 0 lt)) ∙ lacks in
     let none = none_second (list_any (λ (r : Version). eqb (shard_of colours r.key) colour) reads) (list_any (λ (p : Pair). eqb (shard_of colours p.key) colour) pairs) touched in
-    none_narrower (λ (p : Pair). is_own (part_at colours place) p.key) (λ (p : Pair). eqb (shard_of colours p.key) colour) pairs
+    none_narrower (λ (p : Pair). is_in_shard (part_at colours place) p.key) (λ (p : Pair). eqb (shard_of colours p.key) colour) pairs
     (λ p own. eq-eqb (shard_of colours p.key) colour (own_shard colours place p.key own)) none
 
 -- ---- node by node
@@ -139,7 +139,7 @@ transaction_agrees part nodes done said known tx more true_said verdict ruled_is
 -- one more node: of the line, or not
 node_agrees : (colours : List ℕ) (place : ℕ) (done later : List ObjectNode) (n : ObjectNode) (said : List Decision) (known : Known) → place < length colours → IsRising (done ++ n ∷ later)
     → HasItsShards colours n → AreTrue (done ++ n ∷ later) said → AgreesSoFar (part_at colours place) (done ++ n ∷ later) done known
-    → AgreesSoFar (part_at colours place) (done ++ n ∷ later) (done ++ n ∷ []) (fold (known_with (part_at colours place) said) known (transactions (line_at colours place (n ∷ []))))
+    → AgreesSoFar (part_at colours place) (done ++ n ∷ later) (done ++ n ∷ []) (fold (known_with (part_at colours place) said) known (transactions (shard_line colours place (n ∷ []))))
 node_agrees colours place done later n said known lt rises shards true_said so_far =
     by_colour (cases_Bool (has n.colours colour)) (by_form (form_of n.text)) where
       colour : ℕ
@@ -166,7 +166,7 @@ node_agrees colours place done later n said known lt rises shards true_said so_f
       ruled_next : (t : IsTransaction (form_of n.text)) → writes_after (done ++ n ∷ []) ≡ ruled n.key (writes_after done) (verdict_on (writes_after done) n.key.stamp t.reads) t.pairs
       ruled_next t = next ∙ ap (writes_with n.key (writes_after done)) t.is
 
-      writes_others : (t : IsTransaction (form_of n.text)) → list_any (λ (p : Pair). is_own part p.key) t.pairs ≡ false → SameOwn part (writes_after done) (writes_after (done ++ n ∷ []))
+      writes_others : (t : IsTransaction (form_of n.text)) → list_any (λ (p : Pair). is_in_shard part p.key) t.pairs ≡ false → SameOwn part (writes_after done) (writes_after (done ++ n ∷ []))
       writes_others t foreign = by_outcome (commits_on (writes_after done) t.reads) (outcome_on (writes_after done) n.key.stamp t.reads) where
         by_outcome : (c : Bool) → outcome (Some (verdict_on (writes_after done) n.key.stamp t.reads)) ≡ Some c → SameOwn part (writes_after done) (writes_after (done ++ n ∷ []))
         by_outcome true e =
@@ -176,13 +176,13 @@ node_agrees colours place done later n said known lt rises shards true_said so_f
             let all = ruled_next t ∙ ruled_by n.key (writes_after done) (verdict_on (writes_after done) n.key.stamp t.reads) t.pairs false e in
             λ key own. ap (λ (ws : List Write). last_write ws key) (sym all)
 
-      own_line : has n.colours colour ≡ true → line_at colours place (n ∷ []) ≡ n ∷ []
+      own_line : has n.colours colour ≡ true → shard_line colours place (n ∷ []) ≡ n ∷ []
       own_line h = rw h refl
 
-      no_line : has n.colours colour ≡ false → line_at colours place (n ∷ []) ≡ []
+      no_line : has n.colours colour ≡ false → shard_line colours place (n ∷ []) ≡ []
       no_line h = rw h refl
 
-      by_colour : (has n.colours colour ≡ true) ⊎ (has n.colours colour ≡ false) → IsTransaction (form_of n.text) ⊎ IsNone (form_of n.text) → Goal (line_at colours place (n ∷ []))
+      by_colour : (has n.colours colour ≡ true) ⊎ (has n.colours colour ≡ false) → IsTransaction (form_of n.text) ⊎ IsNone (form_of n.text) → Goal (shard_line colours place (n ∷ []))
       by_colour (inr lacks) (inl t) = subst Goal (sym (no_line lacks)) (unchanged (writes_others t (foreign_pairs colours place n t.reads t.pairs lt shards t.is lacks)))
       by_colour (inr lacks) (inr none) = subst Goal (sym (no_line lacks)) (unchanged (writes_nothing none))
       by_colour (inl mine) (inr none) =
@@ -201,13 +201,13 @@ node_agrees colours place done later n said known lt rises shards true_said so_f
 module _ (colours : List ℕ) (place : ℕ) (lt : place < length colours) (nodes : List ObjectNode) (all : AreAllNodes colours nodes) (said : List Decision) (true_said : AreTrue nodes said) where
   -- the nodes up to some point, the first of them first
   walk : (done todo later : List ObjectNode) (known : Known) → done ++ (todo ++ later) ≡ nodes → AgreesSoFar (part_at colours place) nodes done known
-      → AgreesSoFar (part_at colours place) nodes (done ++ todo) (fold (known_with (part_at colours place) said) known (transactions (line_at colours place todo)))
+      → AgreesSoFar (part_at colours place) nodes (done ++ todo) (fold (known_with (part_at colours place) said) known (transactions (shard_line colours place todo)))
   walk done [] later known e so_far = subst (λ (ns : List ObjectNode). AgreesSoFar (part_at colours place) nodes ns known) (sym (append-nil done)) so_far
   walk done (n ∷ todo) later known e so_far =
       let part = part_at colours place in
       let step = known_with part said in
-      let front = line_at colours place (n ∷ []) in
-      let rest = line_at colours place todo in
+      let front = shard_line colours place (n ∷ []) in
+      let rest = shard_line colours place todo in
       let P : List ObjectNode → Type 0 = λ ns. AgreesSoFar part ns (done ++ n ∷ []) (fold step known (transactions front)) in
       let rises : IsRising (done ++ n ∷ (todo ++ later)) = subst IsRising (sym e) all.rising in
       let here : Contains nodes n = subst (λ (ns : List ObjectNode). Contains ns n) e (Contains-append_right done (n ∷ (todo ++ later)) n (Contains-append_left (n ∷ []) (todo ++ later) n (Contains-push [] n))) in
@@ -215,10 +215,10 @@ module _ (colours : List ℕ) (place : ℕ) (lt : place < length colours) (nodes
       (subst (λ (ns : List ObjectNode). AgreesSoFar part ns done known) (sym e) so_far) in
       let moved : (done ++ n ∷ []) ++ (todo ++ later) ≡ nodes = append_assoc done (n ∷ []) (todo ++ later) ∙ e in
       let later_on = walk (done ++ n ∷ []) todo later (fold step known (transactions front)) moved (subst P e so) in
-      let lines : line_at colours place (n ∷ todo) ≡ front ++ rest = filter-append (λ (x : ObjectNode). has x.colours (slice_index colours place)) (n ∷ []) todo in
-      let txs : transactions (line_at colours place (n ∷ todo)) ≡ transactions front ++ transactions rest =
+      let lines : shard_line colours place (n ∷ todo) ≡ front ++ rest = filter-append (λ (x : ObjectNode). has x.colours (slice_index colours place)) (n ∷ []) todo in
+      let txs : transactions (shard_line colours place (n ∷ todo)) ≡ transactions front ++ transactions rest =
       ap transactions lines ∙ filter_map-append (λ (x : ObjectNode). transaction_by x.key (form_of x.text)) front rest in
-      let known_is : fold step known (transactions (line_at colours place (n ∷ todo))) ≡ fold step (fold step known (transactions front)) (transactions rest) =
+      let known_is : fold step known (transactions (shard_line colours place (n ∷ todo))) ≡ fold step (fold step known (transactions front)) (transactions rest) =
       ap (fold step known) txs ∙ fold-append step known (transactions front) (transactions rest) in
       subst (AgreesSoFar part nodes (done ++ n ∷ todo)) (sym known_is)
       (subst (λ (ns : List ObjectNode). AgreesSoFar part nodes ns (fold step (fold step known (transactions front)) (transactions rest))) (append_assoc done (n ∷ []) todo) later_on)
@@ -264,7 +264,7 @@ pub parts_agree : (colours : List ℕ) (place : ℕ) (upto later : List ObjectNo
     → AreAllNodes colours (upto ++ later) → Agrees colours place (upto ++ later) upto
 parts_agree colours place upto later lt all =
     let part = part_at colours place in
-    let line = line_at colours place upto in
+    let line = shard_line colours place upto in
     let true_said : AreTrue (upto ++ later) (decisions line) = λ d c.
     let of = decision_is line d c in
     let here = Contains-append_left upto later of.node (kept_in (λ (x : ObjectNode). has x.colours (slice_index colours place)) upto of.node of.among) in
@@ -279,8 +279,8 @@ parts_agree colours place upto later lt all =
 -- ---- the keys of a part
 
 pub parts_are_shards : (colours : List ℕ) (place : ℕ) (key : List ℕ) → place < length colours → AllPairs (λ a b. a ≢ b) colours
-    → is_own (part_at colours place) key ≡ eqb (shard_of colours key) (slice_index colours place)
-parts_are_shards colours place key lt differ = elim (cases_Bool (is_own (part_at colours place) key)) [
+    → is_in_shard (part_at colours place) key ≡ eqb (shard_of colours key) (slice_index colours place)
+parts_are_shards colours place key lt differ = elim (cases_Bool (is_in_shard (part_at colours place) key)) [
   | inl own ↦ own ∙ sym (eq-eqb (shard_of colours key) (slice_index colours place) (own_shard colours place key own))
   | inr other ↦ other ∙ sym (ne_eqb (shard_of colours key) (slice_index colours place) (apart (cases_order (sum key % length colours) place) other))
 ] where
@@ -289,7 +289,7 @@ parts_are_shards colours place key lt differ = elim (cases_Bool (is_own (part_at
       let some : 0 < length colours = omega arith in
       mod-lt (sum key) some
 
-  apart : (sum key % length colours ≡ place) ⊎ ((sum key % length colours < place) ⊎ (place < sum key % length colours)) → is_own (part_at colours place) key ≡ false
+  apart : (sum key % length colours ≡ place) ⊎ ((sum key % length colours < place) ⊎ (place < sum key % length colours)) → is_in_shard (part_at colours place) key ≡ false
       → shard_of colours key ≡ slice_index colours place → ⊥
   apart (inl same) other e = both_ways (eqb (sum key % length colours) place) other (eq-eqb (sum key % length colours) place same)
   apart (inr (inl less)) other e = differ (sum key % length colours) place 0 less lt e

@@ -13,7 +13,7 @@ use Rattle.object_form.specs.Forms.{dot, equals, is_writer, writer_text}
 use Rattle.object_form.specs.Readings.{before, after, is_key, key_of, key_in, form_of}
 use Rattle.object_form.proofs.CallerLemmas.{before_cut, after_cut, cut_back, ranged, key_read, key_lacks, key_back, key_ranged}
 use Rattle.part_fold.specs.declared.decision.Decision.{Decision}
-use Rattle.part_fold.specs.Decisions.{outcome_text, decision_text, IsDecision, HasText, outcome_of, decision_by, decision_after, decision_of}
+use Rattle.part_fold.specs.Decisions.{outcome_text, decision_text, IsDecision, IsSaidAs, outcome_of, decision_by, decision_after, decision_of}
 
 -- ---- what is written is read
 
@@ -89,7 +89,7 @@ key_in_is bytes key e = elim (cases_Bool (is_key bytes)) [
   some_is : (a b : Key) → Some a ≡ Some b → a ≡ b
   some_is a b h = cc
 
-after_back : (bytes : List ℕ) (decision : Decision) → decision_after bytes ≡ Some decision → HasText decision (122 ∷ 58 ∷ bytes)
+after_back : (bytes : List ℕ) (decision : Decision) → decision_after bytes ≡ Some decision → IsSaidAs decision (122 ∷ 58 ∷ bytes)
 after_back bytes decision e =
     let by = parts_of (key_in (before equals bytes)) (outcome_of (after equals bytes)) decision e in
     let key = key_in_is (before equals bytes) decision.key by.same_key in
@@ -99,7 +99,7 @@ after_back bytes decision e =
       rw (named, outcome.text) (ap (λ (t : List ℕ). 122 ∷ 58 ∷ t) (cut_back equals bytes outcome.some)),
     )
 
-has_back : (text : List ℕ) (decision : Decision) → decision_of text ≡ Some decision → HasText decision text
+has_back : (text : List ℕ) (decision : Decision) → decision_of text ≡ Some decision → IsSaidAs decision text
 has_back [] decision e = absurd cc
 has_back (letter ∷ []) decision e = absurd cc
 has_back (letter ∷ sign ∷ bytes) decision e = elim (cases_Bool (eqb letter 122)) [
@@ -112,10 +112,10 @@ has_back (letter ∷ sign ∷ bytes) decision e = elim (cases_Bool (eqb letter 1
 
 -- ---- the laws
 
-pub reads_decisions : (text : List ℕ) (decision : Decision) → HasText decision text ↔ (decision_of text ≡ Some decision)
+pub reads_decisions : (text : List ℕ) (decision : Decision) → IsSaidAs decision text ↔ (decision_of text ≡ Some decision)
 reads_decisions text decision = (λ has. ap decision_of (sym has.1) ∙ reads_back decision has.0, has_back text decision)
 
-pub decisions_differ : (decision other : Decision) (text : List ℕ) → HasText decision text → HasText other text → decision ≡ other
+pub decisions_differ : (decision other : Decision) (text : List ℕ) → IsSaidAs decision text → IsSaidAs other text → decision ≡ other
 decisions_differ decision other text h k =
     let same : Some decision ≡ Some other = sym ((reads_decisions text decision).0 h) ∙ (reads_decisions text other).0 k in
     cc

@@ -16,9 +16,9 @@ use Rattle.object_fold.specs.States.{written_at, written_pairs, writer_in, diffe
 use Rattle.part_fold.specs.declared.decision.Decision.{Decision}
 use Rattle.part_fold.specs.declared.transaction.Transaction.{Transaction}
 use Rattle.part_fold.specs.declared.part_fold.PartFold.{PartFold}
-use Rattle.part_fold.specs.Parts.{Part, is_own, own_reads, known_verdict, Known, unless_undecided, known_by, known_with, known_of, nothing_known, decision_in}
+use Rattle.part_fold.specs.Parts.{Part, is_in_shard, own_reads, known_verdict, Known, unless_undecided, known_by, known_with, known_of, nothing_known, decision_in}
 use Rattle.part_fold.specs.Waits.{behind}
-use Rattle.part_fold.specs.PartStates.{decided_at, decided_with, verdict_in, front_verdict, own_pairs, settled_at, Settles, HoldsOwn, Holds}
+use Rattle.part_fold.specs.PartStates.{decided_at, decided_with, verdict_in, front_verdict, own_pairs, settled_at, SettlesFront, HoldsOwn, Holds}
 
 -- ---- decisions
 
@@ -75,14 +75,14 @@ writer_at : (writes : List Write) (key : List ℕ) → option_map (λ (w : Writt
 writer_at [] key = refl
 writer_at (w ∷ writes) key = elim (cases_Bool (bytes_eq w.key key)) [ inl h ↦ rw h refl | inr h ↦ rw h (writer_at writes key) ]
 
-own_writer : (part : Part) (entries : List (List ℕ × Written)) (writes : List Write) (key : List ℕ) → HoldsOwn part entries writes → is_own part key ≡ true → writer_in entries key ≡ writer_of writes key
+own_writer : (part : Part) (entries : List (List ℕ × Written)) (writes : List Write) (key : List ℕ) → HoldsOwn part entries writes → is_in_shard part key ≡ true → writer_in entries key ≡ writer_of writes key
 own_writer part entries writes key holds own = rw (holds key, own) (writer_at writes key)
 
 same_conflicts : (part : Part) (entries : List (List ℕ × Written)) (writes : List Write) (reads : List Version) → HoldsOwn part entries writes → own_reads part reads ≡ true
     → list_any (differs_in entries) reads ≡ list_any (differs writes) reads
 same_conflicts part entries writes [] holds own = refl
 same_conflicts part entries writes (r ∷ reads) holds own =
-    let each = and_parts (is_own part r.key) (own_reads part reads) own in
+    let each = and_parts (is_in_shard part r.key) (own_reads part reads) own in
     rw (own_writer part entries writes r.key holds each.0, same_conflicts part entries writes reads holds each.1) refl
 
 -- the state tells a transaction's verdict
@@ -105,14 +105,14 @@ written_is writer writes (p ∷ ps) key =
 
 own_written : (part : Part) (old new : List (List ℕ × Written)) (writes : List Write) (tx : Transaction) → HoldsOwn part old writes
     → ((key : List ℕ) → value_at new key ≡ own_pairs part tx.key key (value_at old key) tx.pairs) → HoldsOwn part new (written tx.key writes tx.pairs)
-own_written part old new writes tx holds step key = step key ∙ elim (cases_Bool (is_own part key)) [
+own_written part old new writes tx holds step key = step key ∙ elim (cases_Bool (is_in_shard part key)) [
   | inl own ↦ rw (own, holds key, own) (sym (written_is tx.key writes tx.pairs key))
   | inr other ↦ rw (other, holds key, other) refl
 ]
 
 -- what the state has after the first transaction that waits is settled
 settled : (old new : PartFold) (said : List Decision) (txs : List Transaction) (commits : Bool) (waiting : List Transaction) → old.waiting ≡ waiting
-    → Holds old said txs → front_verdict old waiting ≡ Some commits → Settles commits old new → Holds new said txs
+    → Holds old said txs → front_verdict old waiting ≡ Some commits → SettlesFront commits old new → Holds new said txs
 settled old new said txs commits [] e h told s = absurd (no_verdict told) where
   no_verdict : None ≡ Some commits → ⊥
   no_verdict x = cc
@@ -137,5 +137,5 @@ settled old new said txs commits (tx ∷ waiting) e h told s =
       entries_after false step known holds = λ key. step key ∙ holds key
 
 pub settles_front : (old new : PartFold) (said : List Decision) (txs : List Transaction) (commits : Bool)
-    → Holds old said txs → front_verdict old old.waiting ≡ Some commits → Settles commits old new → Holds new said txs
+    → Holds old said txs → front_verdict old old.waiting ≡ Some commits → SettlesFront commits old new → Holds new said txs
 settles_front old new said txs commits h told s = settled old new said txs commits old.waiting refl h told s

@@ -21,9 +21,9 @@ use Rattle.part_fold.specs.declared.transaction.Transaction.{Transaction}
 use Rattle.part_fold.specs.declared.decided.Decided.{Decided}
 use Rattle.part_fold.specs.declared.part_fold.PartFold.{PartFold}
 use Rattle.part_fold.specs.Decisions.{decision_of}
-use Rattle.part_fold.specs.Parts.{Part, is_own, known_verdict, Known, known_with, known_of, nothing_known, decision_in, undecided_after, part_value, transaction_by, transactions, decisions}
+use Rattle.part_fold.specs.Parts.{Part, is_in_shard, known_verdict, Known, known_with, known_of, nothing_known, decision_in, undecided_after, part_value, transaction_by, transactions, decisions}
 use Rattle.part_fold.specs.Waits.{front_key}
-use Rattle.part_fold.specs.PartStates.{decided_at, decided_with, front_verdict, HoldsOwn, Holds, Stands, IsPart}
+use Rattle.part_fold.specs.PartStates.{decided_at, decided_with, front_verdict, HoldsOwn, Holds, StopsAtFront, IsPart}
 use Rattle.part_fold.proofs.DecisionLaws.{plain_after}
 use Rattle.part_fold.proofs.StayLemmas.{stays}
 use Rattle.part_fold.proofs.KnownLemmas.{first_after, stops_at, with_verdict, verdict_told}
@@ -44,7 +44,7 @@ at_rest f said known (tx ∷ waiting) none holds decided stops =
     let all = ap (λ (k : Known). fold (known_with f.part said) k waiting) next ∙ stops_at f.part said stopped tx.key waiting refl in
     record { writes = ap (λ (k : Known). k.writes) all; undecided = ap (λ (k : Known). k.undecided) all }
 
-known_at_rest : (f : PartFold) (said : List Decision) (txs : List Transaction) (s : Stands f said txs) → AtRest (known_of f.part said s.holds.settled) (known_of f.part said txs) f.waiting
+known_at_rest : (f : PartFold) (said : List Decision) (txs : List Transaction) (s : StopsAtFront f said txs) → AtRest (known_of f.part said s.holds.settled) (known_of f.part said txs) f.waiting
 known_at_rest f said txs s =
     let h = s.holds in
     let known = known_of f.part said h.settled in
@@ -61,7 +61,7 @@ pub value_told : (f : PartFold) (nodes : List ObjectNode) (key : List ℕ) → I
 value_told f nodes key s =
     let writes = (known_of f.part (decisions nodes) s.holds.settled).writes in
     let told = (known_at_rest f (decisions nodes) (transactions nodes) s).writes in
-    elim (cases_Bool (is_own f.part key)) [
+    elim (cases_Bool (is_in_shard f.part key)) [
       | inl own ↦ rw (own, s.holds.entries key, own) (value_of_written writes key ∙ ap (λ (ws : List Write). value_of ws key) (sym told))
       | inr other ↦ rw (other, s.holds.entries key, other) refl
     ]
@@ -75,8 +75,8 @@ own_same : (old new : PartFold) (known also : Known) → new.part ≡ old.part �
     → HoldsOwn old.part old.written.entries known.writes → HoldsOwn new.part new.written.entries also.writes
 own_same old new known also part same entries holds = λ key.
     ap (λ es. value_at es key) entries ∙ holds key
-    ∙ ap (λ (p : Part). cond (is_own p key) (written_at known.writes key) None) (sym part)
-    ∙ ap (λ (k : Known). cond (is_own new.part key) (written_at k.writes key) None) (sym same)
+    ∙ ap (λ (p : Part). cond (is_in_shard p key) (written_at known.writes key) None) (sym part)
+    ∙ ap (λ (k : Known). cond (is_in_shard new.part key) (written_at k.writes key) None) (sym same)
 
 -- what the state stands for after one more decision, before it goes on
 pub decided_more : (old new : PartFold) (said : List Decision) (txs : List Transaction) (d : Decision) → Holds old said txs → new.part ≡ old.part → new.waiting ≡ old.waiting
@@ -117,19 +117,19 @@ one_more_decision nodes node = filter_map-append (λ (n : ObjectNode). decision_
 module _ (fold : PartFold) (nodes : List ObjectNode) (node : ObjectNode) where
   -- the state after a node that is a decision
   pub fed_decision : (text : List ℕ) (d : Decision) → node.text ≡ text → decision_of text ≡ Some d
-      → Stands fold (decisions nodes ++ d ∷ []) (transactions nodes) → IsPart fold (nodes ++ node ∷ [])
+      → StopsAtFront fold (decisions nodes ++ d ∷ []) (transactions nodes) → IsPart fold (nodes ++ node ∷ [])
   fed_decision text d same e s =
       let read : decision_of node.text ≡ Some d = ap decision_of same ∙ e in
       let more : decisions (nodes ++ node ∷ []) ≡ decisions nodes ++ d ∷ [] =
       one_more_decision nodes node ∙ ap (λ (o : Option Decision). decisions nodes ++ cons_option o []) read in
       let none : transactions (nodes ++ node ∷ []) ≡ transactions nodes =
       one_more_transaction nodes node ∙ ap (λ (form : Form). transactions nodes ++ cons_option (transaction_by node.key form) []) (plain_after node.text d read) ∙ append-nil (transactions nodes) in
-      subst (λ (ds : List Decision). Stands fold ds (transactions (nodes ++ node ∷ []))) (sym more)
-      (subst (λ (txs : List Transaction). Stands fold (decisions nodes ++ d ∷ []) txs) (sym none) s)
+      subst (λ (ds : List Decision). StopsAtFront fold ds (transactions (nodes ++ node ∷ []))) (sym more)
+      (subst (λ (txs : List Transaction). StopsAtFront fold (decisions nodes ++ d ∷ []) txs) (sym none) s)
 
   -- the state after any other node
   pub fed_form : (key : Key) (text : List ℕ) (form : Form) → node.key ≡ key → node.text ≡ text → decision_of text ≡ None → form ≡ form_of text
-      → Stands fold (decisions nodes) (transactions nodes ++ cons_option (transaction_by key form) []) → IsPart fold (nodes ++ node ∷ [])
+      → StopsAtFront fold (decisions nodes) (transactions nodes ++ cons_option (transaction_by key form) []) → IsPart fold (nodes ++ node ∷ [])
   fed_form key text form own same e read s =
       let none : decisions (nodes ++ node ∷ []) ≡ decisions nodes =
       one_more_decision nodes node ∙ ap (λ (o : Option Decision). decisions nodes ++ cons_option o []) (ap decision_of same ∙ e) ∙ append-nil (decisions nodes) in
@@ -137,8 +137,8 @@ module _ (fold : PartFold) (nodes : List ObjectNode) (node : ObjectNode) where
       one_more_transaction nodes node
       ∙ ap (λ (k : Key). transactions nodes ++ cons_option (transaction_by k (form_of node.text)) []) own
       ∙ ap (λ (f : Form). transactions nodes ++ cons_option (transaction_by key f) []) (ap form_of same ∙ sym read) in
-      subst (λ (txs : List Transaction). Stands fold (decisions (nodes ++ node ∷ [])) txs) (sym more)
-      (subst (λ (ds : List Decision). Stands fold ds (transactions nodes ++ cons_option (transaction_by key form) [])) (sym none) s)
+      subst (λ (txs : List Transaction). StopsAtFront fold (decisions (nodes ++ node ∷ [])) txs) (sym more)
+      (subst (λ (ds : List Decision). StopsAtFront fold ds (transactions nodes ++ cons_option (transaction_by key form) [])) (sym none) s)
 
 -- what is had at Ok gives what follows from it
 pub on_ok : {A E : Type 0} (r : Result A E) (P Q : Type 0) → OnOk r P → (P → Q) → OnOk r Q

@@ -23,14 +23,14 @@ use Rattle.object_fold.specs.declared.verdict.Verdict.TheVariants.{Committed, Co
 use Rattle.object_fold.specs.Nodes.{ObjectNode, nodes_before}
 use Rattle.object_fold.specs.Transactions.{Write, last_write, writer_of, differs, verdict_on, written, ruled, writes_with, writes_after, form_verdict, verdict_among, verdict_of}
 use Rattle.part_fold.specs.declared.decision.Decision.{Decision}
-use Rattle.part_fold.specs.Parts.{Part, is_own, own_reads, commits_on, decision_in, transaction_by}
+use Rattle.part_fold.specs.Parts.{Part, is_in_shard, own_reads, commits_on, decision_in, transaction_by}
 use Rattle.part_fold.specs.Agreement.{outcome}
 
 -- ---- writes
 
 -- the same last write of each key of the shard
 abbrev pub SameOwn : Part → List Write → List Write → Type 0
-SameOwn part a b = (key : List ℕ) → is_own part key ≡ true → last_write a key ≡ last_write b key
+SameOwn part a b = (key : List ℕ) → is_in_shard part key ≡ true → last_write a key ≡ last_write b key
 
 -- the same pairs written over the same last writes
 pub same_written : (part : Part) (writer : Key) (pairs : List Pair) (a b : List Write) → SameOwn part a b → SameOwn part (written writer a pairs) (written writer b pairs)
@@ -40,32 +40,32 @@ same_written part writer (p ∷ pairs) a b same =
     same_written part writer pairs (w ∷ a) (w ∷ b) (λ key own. ap (cond (bytes_eq p.key key) (Some w)) (same key own))
 
 -- pairs of other shards change no last write
-pub others_written : (part : Part) (writer : Key) (pairs : List Pair) (a : List Write) → list_any (λ (p : Pair). is_own part p.key) pairs ≡ false → SameOwn part a (written writer a pairs)
+pub others_written : (part : Part) (writer : Key) (pairs : List Pair) (a : List Write) → list_any (λ (p : Pair). is_in_shard part p.key) pairs ≡ false → SameOwn part a (written writer a pairs)
 others_written part writer [] a none = λ key own. refl
 others_written part writer (p ∷ pairs) a none =
     let w : Write = record { key = p.key; value = p.value; writer = writer } in
-    elim (cases_Bool (is_own part p.key)) [
-      | inl own ↦ absurd (both_ways (list_any (λ (x : Pair). is_own part x.key) (p ∷ pairs)) none (or_left (is_own part p.key) (list_any (λ (x : Pair). is_own part x.key) pairs) own))
+    elim (cases_Bool (is_in_shard part p.key)) [
+      | inl own ↦ absurd (both_ways (list_any (λ (x : Pair). is_in_shard part x.key) (p ∷ pairs)) none (or_left (is_in_shard part p.key) (list_any (λ (x : Pair). is_in_shard part x.key) pairs) own))
       | inr other ↦
-          let rest : list_any (λ (x : Pair). is_own part x.key) pairs ≡ false = rw other at none in
+          let rest : list_any (λ (x : Pair). is_in_shard part x.key) pairs ≡ false = rw other at none in
           λ key own. apart key own other ∙ others_written part writer pairs (w ∷ a) rest key own
     ] where
-      apart : (key : List ℕ) → is_own part key ≡ true → is_own part p.key ≡ false
+      apart : (key : List ℕ) → is_in_shard part key ≡ true → is_in_shard part p.key ≡ false
           → last_write a key ≡ last_write (record { key = p.key; value = p.value; writer = writer } ∷ a) key
       apart key own other =
-          let differ : bytes_eq p.key key ≡ false = false_from_ne_true (bytes_eq p.key key) (λ h. both_ways (is_own part p.key) other (ap (is_own part) ((bytes_eq-Decides p.key key).0 h) ∙ own)) in
+          let differ : bytes_eq p.key key ≡ false = false_from_ne_true (bytes_eq p.key key) (λ h. both_ways (is_in_shard part p.key) other (ap (is_in_shard part) ((bytes_eq-Decides p.key key).0 h) ∙ own)) in
           rw differ refl
 
 -- ---- verdicts
 
-same_writers : (part : Part) (a b : List Write) (key : List ℕ) → SameOwn part a b → is_own part key ≡ true → writer_of a key ≡ writer_of b key
+same_writers : (part : Part) (a b : List Write) (key : List ℕ) → SameOwn part a b → is_in_shard part key ≡ true → writer_of a key ≡ writer_of b key
 same_writers part a b key same own = ap (λ (w : Option Write). option_map (λ x. x.writer) w) (same key own)
 
 -- keys of the shard conflict alike
 pub same_conflicts : (part : Part) (a b : List Write) (reads : List Version) → SameOwn part a b → own_reads part reads ≡ true → list_any (differs a) reads ≡ list_any (differs b) reads
 same_conflicts part a b [] same own = refl
 same_conflicts part a b (r ∷ reads) same own =
-    let each = and_parts (is_own part r.key) (own_reads part reads) own in
+    let each = and_parts (is_in_shard part r.key) (own_reads part reads) own in
     rw (same_writers part a b r.key same each.0, same_conflicts part a b reads same each.1) refl
 
 -- a verdict commits where no key that was read conflicts

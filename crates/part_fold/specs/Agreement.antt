@@ -13,7 +13,7 @@ use Rattle.object_fold.specs.Nodes.{ObjectNode, nodes_of, shard_of}
 use Rattle.object_fold.specs.Transactions.{value_of, writes_after, verdict_of}
 use Rattle.part_fold.specs.declared.decision.Decision.{Decision}
 use Rattle.part_fold.specs.Decisions.{decision_of}
-use Rattle.part_fold.specs.Parts.{Part, is_own, known_after, undecided_after, part_value}
+use Rattle.part_fold.specs.Parts.{Part, is_in_shard, known_after, undecided_after, part_value}
 
 -- whether a verdict, if there is one, is that the transaction commits
 abbrev pub outcome : Option Verdict → Option Bool
@@ -48,18 +48,18 @@ abbrev pub part_at : List ℕ → ℕ → Part
 part_at colours place = record { place = place; colours = length colours }
 
 -- the line of its colour among nodes
-abbrev pub line_at : List ℕ → ℕ → List ObjectNode → List ObjectNode
-line_at colours place nodes = nodes_of (slice_index colours place) nodes
+abbrev pub shard_line : List ℕ → ℕ → List ObjectNode → List ObjectNode
+shard_line colours place nodes = nodes_of (slice_index colours place) nodes
 
 -- What the part at a place knows after its line among the nodes up to some point: each verdict that it knows is the one
 -- among all nodes, and where it knows all, each key of its shard has the value that it has after all nodes up to there.
 pub record Agrees (colours : List ℕ) (place : ℕ) (nodes upto : List ObjectNode) : Type 0 where
   pub verdicts : (decision : Decision)
-      → Contains (known_after (part_at colours place) (line_at colours place upto)).verdicts decision
+      → Contains (known_after (part_at colours place) (shard_line colours place upto)).verdicts decision
       → outcome (verdict_of nodes decision.key) ≡ Some decision.commits
-  pub values : undecided_after (part_at colours place) (line_at colours place upto) ≡ None
-      → (key : List ℕ) → IsTrue (is_own (part_at colours place) key)
-      → part_value (part_at colours place) (line_at colours place upto) key ≡ value_of (writes_after upto) key
+  pub values : undecided_after (part_at colours place) (shard_line colours place upto) ≡ None
+      → (key : List ℕ) → IsTrue (is_in_shard (part_at colours place) key)
+      → part_value (part_at colours place) (shard_line colours place upto) key ≡ value_of (writes_after upto) key
 
 -- each part agrees with all nodes, up to each point
 abbrev pub PartsAgree : Type 0
@@ -75,4 +75,4 @@ VerdictsStay = (part : Part) (line later : List ObjectNode)
 abbrev pub PartsAreShards : Type 0
 PartsAreShards = (colours : List ℕ) (place : ℕ) (key : List ℕ) → place < length colours
     → AllPairs (λ a b. a ≢ b) colours
-    → is_own (part_at colours place) key ≡ (shard_of colours key == slice_index colours place)
+    → is_in_shard (part_at colours place) key ≡ (shard_of colours key == slice_index colours place)

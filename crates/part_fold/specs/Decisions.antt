@@ -20,8 +20,8 @@ abbrev pub IsDecision : Decision → Type 0
 IsDecision decision = IsTrue (is_writer (Some decision.key))
 
 -- the decision may be, and this is its text
-abbrev pub HasText : Decision → List ℕ → Type 0
-HasText decision text = IsDecision decision × (decision_text decision ≡ text)
+abbrev pub IsSaidAs : Decision → List ℕ → Type 0
+IsSaidAs decision text = IsDecision decision × (decision_text decision ≡ text)
 
 -- the outcome that stands behind the sign, if that is one
 abbrev pub outcome_of : List ℕ → Option Bool

@@ -4,15 +4,15 @@ use Rattle.log_node.specs.declared.forms.Form.TheVariants.{Plain}
 use Rattle.log_node.specs.Texts.{IsTextLength}
 use Rattle.object_form.specs.Readings.{form_of}
 use Rattle.part_fold.specs.declared.decision.Decision.{Decision}
-use Rattle.part_fold.specs.Decisions.{IsDecision, HasText, decision_text, decision_of}
+use Rattle.part_fold.specs.Decisions.{IsDecision, IsSaidAs, decision_text, decision_of}
 
 -- a text is read as the decision that has it, and as no other
 abbrev pub ReadsDecisions : Type 0
-ReadsDecisions = (text : List ℕ) (decision : Decision) → HasText decision text ↔ (decision_of text ≡ Some decision)
+ReadsDecisions = (text : List ℕ) (decision : Decision) → IsSaidAs decision text ↔ (decision_of text ≡ Some decision)
 
 -- no two decisions have one text
 abbrev pub DecisionsDiffer : Type 0
-DecisionsDiffer = (decision other : Decision) (text : List ℕ) → HasText decision text → HasText other text
+DecisionsDiffer = (decision other : Decision) (text : List ℕ) → IsSaidAs decision text → IsSaidAs other text
     → decision ≡ other
 
 -- to all objects else the text of a decision says nothing

@@ -16,7 +16,7 @@ use Rattle.part_fold.specs.declared.transaction.Transaction.{Transaction}
 use Rattle.part_fold.specs.declared.decided.Decided.{Decided}
 use Rattle.part_fold.specs.declared.part_fold.PartFold.{PartFold}
 use Rattle.part_fold.specs.Waits.{behind}
-use Rattle.part_fold.specs.Parts.{Part, is_own, own_reads, decisions, transactions, decision_in, known_of}
+use Rattle.part_fold.specs.Parts.{Part, is_in_shard, own_reads, decisions, transactions, decision_in, known_of}
 
 -- ---- the decisions
 
@@ -48,7 +48,7 @@ front_verdict fold (tx ∷ txs) = verdict_in fold tx
 
 -- what stands at a key after those pairs are written whose keys are of the shard
 abbrev pub own_pairs : Part → Key → List ℕ → Option Written → List Pair → Option Written
-own_pairs part writer key old pairs = if is_own part key then written_pairs writer key old pairs else old
+own_pairs part writer key old pairs = if is_in_shard part key then written_pairs writer key old pairs else old
 
 -- what stands at a key after the first transaction that waits has committed, or has not
 abbrev pub settled_at : PartFold → Bool → List ℕ → List Transaction → Option Written
@@ -57,7 +57,7 @@ settled_at fold true key (tx ∷ txs) = own_pairs fold.part tx.key key (value_at
 settled_at fold false key (tx ∷ txs) = value_at fold.written.entries key
 
 -- the first transaction waits no more
-pub record Settles (commits : Bool) (old new : PartFold) : Type 0 where
+pub record SettlesFront (commits : Bool) (old new : PartFold) : Type 0 where
   pub part : new.part ≡ old.part
   pub decided : new.decided ≡ old.decided
   pub waiting : new.waiting ≡ behind old.waiting
@@ -73,7 +73,7 @@ pub record IsUnchanged (old new : PartFold) : Type 0 where
 -- the entries have the last write of each key of the shard, and of no other key
 abbrev pub HoldsOwn : Part → List (List ℕ × Written) → List Write → Type 0
 HoldsOwn part entries writes =
-    (key : List ℕ) → value_at entries key ≡ (if is_own part key then written_at writes key else None)
+    (key : List ℕ) → value_at entries key ≡ (if is_in_shard part key then written_at writes key else None)
 
 -- the state has these decisions and transactions, whether or not it has gone on as far as they tell
 pub record Holds (fold : PartFold) (said : List Decision) (txs : List Transaction) : Type 0 where
@@ -85,10 +85,10 @@ pub record Holds (fold : PartFold) (said : List Decision) (txs : List Transactio
   pub decided : (key : Key) → decided_at fold.decided key ≡ decision_in said key
 
 -- it has, and the first transaction that waits is not known
-pub record Stands (fold : PartFold) (said : List Decision) (txs : List Transaction) : Type 0 where
+pub record StopsAtFront (fold : PartFold) (said : List Decision) (txs : List Transaction) : Type 0 where
   pub holds : Holds fold said txs
   pub stops : front_verdict fold fold.waiting ≡ None
 
 -- the state of the part after these nodes of its line
 abbrev pub IsPart : PartFold → List ObjectNode → Type 0
-IsPart fold nodes = Stands fold (decisions nodes) (transactions nodes)
+IsPart fold nodes = StopsAtFront fold (decisions nodes) (transactions nodes)

@@ -25,8 +25,8 @@ abbrev pub place_of : ℕ → List ℕ → ℕ
 place_of colours key = sum key % colours
 
 -- the key is one of the part's shard
-abbrev pub is_own : Part → List ℕ → Bool
-is_own part key = place_of part.colours key == part.place
+abbrev pub is_in_shard : Part → List ℕ → Bool
+is_in_shard part key = place_of part.colours key == part.place
 
 -- ---- what a line has
 
@@ -57,7 +57,7 @@ decision_in said key = option_map (λ d. d.commits) (find (λ d. same_key d.key 
 
 -- all keys that were read are of the shard
 abbrev pub own_reads : Part → List Version → Bool
-own_reads part reads = list_all (λ read. is_own part read.key) reads
+own_reads part reads = list_all (λ read. is_in_shard part read.key) reads
 
 -- no key that was read has another last committed writer
 abbrev pub commits_on : List Write → List Version → Bool
@@ -118,4 +118,4 @@ undecided_after part nodes = (known_after part nodes).undecided
 
 -- a key's value by what is known after these nodes: keys of other shards have none
 abbrev pub part_value : Part → List ObjectNode → List ℕ → Value
-part_value part nodes key = if is_own part key then value_of (known_after part nodes).writes key else None
+part_value part nodes key = if is_in_shard part key then value_of (known_after part nodes).writes key else None

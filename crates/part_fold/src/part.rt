@@ -1,6 +1,6 @@
 // The shard that a part has.
 ghost use Rattle.std.specs.Prelude.{◌≡◌, ◌<◌, ◌%◌, sum};
-ghost use Rattle.part_fold.specs.Parts.{is_own};
+ghost use Rattle.part_fold.specs.Parts.{is_in_shard};
 
 use std::marker::Model;
 
@@ -46,7 +46,7 @@ impl Part {
 
     /// Whether the key is one of the shard: the sum of its bytes modulo the number of colours is the place.
     pub fn has(&self, key: &[u8]) -> bool
-        ensures { result ≡ is_own self.now key.now }
+        ensures { result ≡ is_in_shard self.now key.now }
     {
         sum_modulo(key, u64::from(self.colours)) == u64::from(self.place)
     }

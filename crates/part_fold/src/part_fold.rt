@@ -11,7 +11,7 @@ ghost use Rattle.part_fold.specs.declared.decision.Decision.{Decision as Said};
 ghost use Rattle.part_fold.specs.declared.transaction.Transaction.{Transaction as One};
 ghost use Rattle.part_fold.specs.Parts.{own_reads, transaction_by, undecided_after, part_value};
 ghost use Rattle.part_fold.specs.Waits.{pairs_in};
-ghost use Rattle.part_fold.specs.PartStates.{verdict_in, front_verdict, own_pairs, Settles, IsUnchanged, Holds, Stands, IsPart};
+ghost use Rattle.part_fold.specs.PartStates.{verdict_in, front_verdict, own_pairs, SettlesFront, IsUnchanged, Holds, StopsAtFront, IsPart};
 
 use crate::decided::Decided;
 use crate::decision::{Decision, read_decision};
@@ -125,7 +125,7 @@ impl PartFold {
     // The first transaction waits no more: it commits, or it doesn't.
     fn settle(&mut self, commits: bool)
         requires { pairs_in self.old.waiting ≤ self.old.written.spare }
-        ensures settles { Settles commits self.old self.new }
+        ensures settles { SettlesFront commits self.old self.new }
         ensures room { pairs_in self.new.waiting ≤ self.new.written.spare }
     {
         if let Some(transaction) = self.waiting.pop() {
@@ -144,7 +144,7 @@ impl PartFold {
     fn go_on(&mut self)
         requires { pairs_in self.old.waiting ≤ self.old.written.spare }
         ensures part { self.new.part ≡ self.old.part }
-        ensures stands { (said : List Said) (txs : List One) → Holds self.old said txs → Stands self.new said txs }
+        ensures stands { (said : List Said) (txs : List One) → Holds self.old said txs → StopsAtFront self.new said txs }
     {
         while let Some(commits) = self.front_verdict() {
             self.settle(commits);
@@ -153,8 +153,8 @@ impl PartFold {
 
     fn decide(&mut self, decision: Decision) -> Result<(), AllocError>
         ensures part { self.new.part ≡ self.old.part }
-        ensures ok { (said : List Said) (txs : List One) → Stands self.old said txs
-            → OnOk result (Stands self.new (said ++ decision ∷ []) txs) }
+        ensures ok { (said : List Said) (txs : List One) → StopsAtFront self.old said txs
+            → OnOk result (StopsAtFront self.new (said ++ decision ∷ []) txs) }
         ensures err { OnErr result (IsUnchanged self.old self.new) }
     {
         self.written.reserve(self.waiting.pairs())?;
@@ -165,8 +165,8 @@ impl PartFold {
 
     fn add(&mut self, transaction: Transaction) -> Result<(), AllocError>
         ensures part { self.new.part ≡ self.old.part }
-        ensures ok { (said : List Said) (txs : List One) → Stands self.old said txs
-            → OnOk result (Stands self.new said (txs ++ transaction ∷ [])) }
+        ensures ok { (said : List Said) (txs : List One) → StopsAtFront self.old said txs
+            → OnOk result (StopsAtFront self.new said (txs ++ transaction ∷ [])) }
         ensures err { OnErr result (IsUnchanged self.old self.new) }
     {
         match self.waiting.pairs().checked_add(transaction.pairs.len()) {
@@ -182,8 +182,8 @@ impl PartFold {
 
     fn take(&mut self, key: Key, form: Form) -> Result<(), AllocError>
         ensures part { self.new.part ≡ self.old.part }
-        ensures ok { (said : List Said) (txs : List One) → Stands self.old said txs
-            → OnOk result (Stands self.new said (txs ++ cons_option (transaction_by key form) [])) }
+        ensures ok { (said : List Said) (txs : List One) → StopsAtFront self.old said txs
+            → OnOk result (StopsAtFront self.new said (txs ++ cons_option (transaction_by key form) [])) }
         ensures err { OnErr result (IsUnchanged self.old self.new) }
     {
         match form {

@@ -30,9 +30,6 @@ none_free : (chains : Chains) (played to : Counts) → IsNext chains played to a
     to
 none_free chains played to none = λ region head lt f. none region (among_all region lt) head f
 
-four_counts : (v : Counts) → count_all v ≡ at v 0 + at v 1 + at v 2 + at v 3
-four_counts v = omega arith
-
 pub one_more_counts : (v : Counts) (r : ℕ) → r < 4 → count_all (one_more v r) ≡ count_all v + 1
 one_more_counts v zero lt = omega arith
 one_more_counts v (suc zero) lt = omega arith

@@ -19,24 +19,24 @@ use Rattle.playback.specs.Merging.{AreRising}
 use Rattle.col_core.proofs.CallerLemmas.{contains_in, in_contains}
 use Rattle.lawful_run.specs.Asks.{rising, shards}
 use Rattle.lawful_run.specs.Objects.{AreObjectNodes}
-use Rattle.client_law.specs.Knowing.{Rest, log_of}
+use Rattle.client_law.specs.Knowing.{Rest, log_seen}
 use Rattle.log_client.specs.declared.store.Store.{Store}
 use Rattle.log_client.specs.declared.client.Client.{Client}
 use Rattle.log_client.specs.declared.answers.StampedRead.{StampedRead}
 use Rattle.log_client.specs.declared.faults.SyncFault.{SyncFault}
 use Rattle.log_client.specs.Appends.{AreColoursOf}
-use Rattle.log_client.specs.Calls.{IsExplained}
+use Rattle.log_client.specs.Calls.{AnswersEach, IsExplained}
 use Rattle.log_client.specs.Clients.{IsClient, caller_of, holds_of, seen_of}
-use Rattle.log_client.specs.Fits.{Fits}
-use Rattle.log_client.specs.Reading.{RestsOn}
+use Rattle.log_client.specs.Fits.{FitsHolds}
+use Rattle.log_client.specs.Reading.{RestsOn, raised_colours, synced_colours}
 use Rattle.log_client.specs.StampedReads.{CanBeNamed, IsAboveSeen, ReadsAs, ReadsGoOn, ReadsOn}
-use Rattle.log_client.specs.Objects.{AreColours, KeepsRead}
+use Rattle.log_client.specs.Objects.{HasColoursOf, KeepsRead}
 use Rattle.log_client.proofs.CallerLemmas.{all_appended, all_explained, behind_all, explained_less, first_kept, fits_less, listed_of_store, reads_later, rising_front, shard_rising, tracks_long}
-use Rattle.region_fold.specs.Reads.{Answers, AreOwn, AreWriters, Fetches, HasNodes, KeepsFold}
+use Rattle.region_fold.specs.Reads.{AnswersOwnNode, AreOfObject, AreWriters, Fetches, HasNodesRead, KeepsFold, ShowsEach}
 use Rattle.region_fold.proofs.OwnNodes.{others_absent}
 
 -- the set of all colours is of the store
-pub all_of_store : (s : Store) (c : Client) (colours : List ℕ) → IsClient s c → AreColours c colours
+pub all_of_store : (s : Store) (c : Client) (colours : List ℕ) → IsClient s c → HasColoursOf c colours
     → AreColoursOf s (set_of colours)
 all_of_store s c colours is are =
     listed_of_store s colours are.some (subst (λ (n : ℕ). All (λ k. k < n) colours) is.colours are.within) are.few
@@ -60,8 +60,16 @@ fetched s c d colours set of same last (Ok read) above reads named =
     fetches s c d colours set of same last read above reads named
 fetched s c d colours set of same last (Err fault) above reads named = tt
 
+-- and what it tells of each
+pub shows_each : (c d : Client) (colours all : List ℕ) → all ≡ rising colours → (r : Result StampedRead SyncFault)
+    → IfOk r (λ read. raised_colours read.raises ≡ all) → IfOk r (λ read. synced_colours read.syncs ≡ all)
+    → IfOk r (λ read. AnswersEach c d read.syncs) → IfOk r (ShowsEach c d colours)
+shows_each c d colours all same (Ok read) raises syncs played =
+    record { raises = raises ∙ same; syncs = syncs ∙ same; played = played }
+shows_each c d colours all same (Err fault) raises syncs played = tt
+
 -- the shards of keys are colours of the object
-pub shards_own : (colours : List ℕ) → 0 < length colours → (keys : List (List ℕ)) → AreOwn colours (shards colours keys)
+pub shards_own : (colours : List ℕ) → 0 < length colours → (keys : List (List ℕ)) → AreOfObject colours (shards colours keys)
 shards_own colours some keys c i =
     contains_in (rising colours) c (shard_rising colours some keys c (in_contains (shards colours keys) c i))
 
@@ -75,8 +83,8 @@ more_writers nodes items before named =
     let Is : ObjectNode → Type 0 = λ node. IsTrue (is_writer (Some node.key)) in
     All-append Is nodes (object_nodes items) before (All-map Is object_node items named)
 
-pub colours_later : (s : Store) (c d : Client) → RestsOn s c d → (colours : List ℕ) → IsClient s c → AreColours c colours
-    → AreColours d colours
+pub colours_later : (s : Store) (c d : Client) → RestsOn s c d → (colours : List ℕ) → IsClient s c → HasColoursOf c colours
+    → HasColoursOf d colours
 colours_later s c d on colours is are = record {
   some = are.some;
   within = subst (λ (n : ℕ). All (λ k. k < n) colours) (sym (tracks_long s c d is on.client)) are.within;
@@ -130,26 +138,26 @@ module _ {F : Type 0} (Holds : F → List ObjectNode → Type 0) where
 
     -- and after all of them
     pub has_nodes : (new : KeptFold F) → FeedsAll Holds kept new read.items
-        → IsExplained s c d (HasNodes colours kept.last read (λ nodes. Holds new.state nodes × AreWriters nodes))
+        → IsExplained s c d (HasNodesRead colours kept.last read (λ nodes. Holds new.state nodes × AreWriters nodes))
     has_nodes new all =
         let Has : List ObjectNode → Type 0 = λ nodes. Holds new.state nodes × AreWriters nodes in
         explained_less s c d
         (λ log caller before after. ReadsAs colours kept.last read f.reads.0 log caller before after
         × (ns : List ObjectNode) × AreObjectNodes log f.reads.0 ns × Has ns)
-        (HasNodes colours kept.last read Has) (λ log caller before after r. (f.reads.0, r.0, r.1, r.2, r.3))
+        (HasNodesRead colours kept.last read Has) (λ log caller before after r. (f.reads.0, r.0, r.1, r.2, r.3))
         (all_explained law s c d colours kept.last k.0 read f.some on f.above f.reads k.2 Has
         (all.1 k.0 k.1, more_writers k.0 read.items k.3 f.named))
 
     -- The own node comes behind all that was folded.
     module _ (own : Key) (later : is_behind kept.last own ≡ true) where
-      not_folded : KeepsRead c colours kept.last k.0 → (rest : Rest) → Fits (holds_of d) rest → IsAbsent own k.0
+      not_folded : KeepsRead c colours kept.last k.0 → (rest : Rest) → FitsHolds (holds_of d) rest → IsAbsent own k.0
       not_folded (inl none) rest fits = subst (IsAbsent own) (sym none.1) tt
       not_folded (inr r) rest fits =
           let front = take r.count r.keys in
           let rises : AreRising front =
           rising_front front (drop r.count r.keys)
           (subst AreRising (sym (take-append-drop r.count r.keys)) r.has.order.rising) in
-          others_absent (log_of (seen_of c) rest) own front k.0
+          others_absent (log_seen (seen_of c) rest) own front k.0
           (r.appended rest (fits_less (holds_of c) (holds_of d) rest on.goes fits))
           (λ x i. another x (behind_all front rises x own i (subst (λ (l : Option Key). is_behind l own ≡ true) r.last_is later))
           (same_key x own) refl) where
@@ -161,7 +169,7 @@ module _ {F : Type 0} (Holds : F → List ObjectNode → Type 0) where
       pub answers : {T : Type 0} (told : List ObjectNode → ObjectNode → Option T) (answer : Option T)
           → ((nodes : List ObjectNode) → Holds kept.state nodes → IsAbsent own nodes
           → answer ≡ told_of told (nodes ++ object_nodes read.items) own)
-          → (last : Option Key) → kept.last ≡ last_before last own → Answers told s c d colours last own answer read
+          → (last : Option Key) → kept.last ≡ last_before last own → AnswersOwnNode told s c d colours last own answer read
       answers told answer tells last same = (
         f.reads.0,
         f.reads.1,
@@ -170,7 +178,7 @@ module _ {F : Type 0} (Holds : F → List ObjectNode → Type 0) where
               x.0,
               x.1,
               λ rest fits. (
-                subst (λ (l : Option Key). ReadsAs colours l read f.reads.0 (log_of (seen_of d) rest) (caller_of s d objects) before x.0)
+                subst (λ (l : Option Key). ReadsAs colours l read f.reads.0 (log_seen (seen_of d) rest) (caller_of s d objects) before x.0)
                     same (x.2 rest fits),
                 k.0 ++ object_nodes read.items,
                 all_appended law s c d colours kept.last k.0 read f.some on f.above f.reads k.2 rest fits,

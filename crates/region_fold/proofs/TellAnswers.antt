@@ -19,20 +19,23 @@ use Rattle.lawful_run.specs.Callers.{Caller, node_of}
 use Rattle.lawful_run.specs.Objects.{AreObjectNodes}
 use Rattle.lawful_run.specs.Reads.{HidesRead, RefusesRead}
 use Rattle.lawful_run.proofs.CallerLemmas.{append_later, unshown_later}
-use Rattle.client_law.specs.Knowing.{Rest, log_of}
+use Rattle.client_law.specs.Knowing.{Rest, log_seen}
 use Rattle.log_client.specs.declared.store.Store.{Store}
 use Rattle.log_client.specs.declared.client.Client.{Client}
 use Rattle.log_client.specs.declared.answers.Appended.{Appended}
 use Rattle.log_client.specs.declared.answers.StampedRead.{StampedRead}
 use Rattle.log_client.specs.declared.faults.SyncFault.{SyncFault}
 use Rattle.log_client.specs.declared.faults.SyncFault.TheVariants as sync_faults
+use Rattle.log_client.specs.declared.object_fault.ObjectFault.{ObjectFault}
+use Rattle.log_client.specs.declared.object_fault.ObjectFault.TheVariants as faults
 use Rattle.log_client.specs.Appends.{AppendsAs, piece_of}
 use Rattle.log_client.specs.Calls.{IsExplained}
 use Rattle.log_client.specs.Clients.{Keeps, caller_of, seen_of}
 use Rattle.log_client.specs.Reading.{RestsOn, home_seen}
 use Rattle.log_client.specs.StampedReads.{ReadRefused, ReadsAs}
+use Rattle.log_client.specs.Refusals.{RefusedBy}
 use Rattle.log_client.proofs.CallerLemmas.{append_unshown, explained_then, made_from, several_are_unshown, unshown}
-use Rattle.region_fold.specs.Reads.{Answers, AreOwn, TellsOwn, UntoldLeaves}
+use Rattle.region_fold.specs.Reads.{AnswersOwnNode, AreOfObject, TellRefused, TellsOwn, UntoldLeaves, tell_refusals}
 use Rattle.region_fold.proofs.OwnNodes.{is_own, key_itself, own_stands}
 
 -- WHERE THE APPEND IS NOT SHOWN
@@ -66,7 +69,7 @@ module _ (s : Store) (c m : Client) (set : Colours) (text : List ℕ) (a : Appen
       let r = stands objects kept finished keeps in (
         unshown m.region kept r.0,
         keeps_unshown s m objects m.region kept r.0 r.1,
-        λ rest fits. by_row row points its_row are several (log_of (seen_of m) rest) (caller_of s m objects) kept r.0
+        λ rest fits. by_row row points its_row are several (log_seen (seen_of m) rest) (caller_of s m objects) kept r.0
             (r.2 rest fits).2,
       ) where
         by_row : (row : Option ℕ) (points : List Point) → a.row ≡ row → a.stood.points ≡ points
@@ -126,13 +129,24 @@ untold_leaves s c m d set text a colours sync_faults.NoMemory x y stands points 
       (any_unshown s c m set text a stands points) why,
 )
 
+-- An object that says more of a client that is away, and of want of memory, says so of what was refused here.
+pub told_more : (s : Store) (c d : Client) (own text colours : List ℕ) (away : ℕ → Type 0) (memory : Type 0)
+    (fault : ObjectFault) → TellRefused s c d own text colours fault
+    → RefusedBy (record (tell_refusals s c d own text colours) { away = away; memory = memory }) fault
+told_more s c d own text colours away memory (faults.NotHome shown) why = absurd why
+told_more s c d own text colours away memory (faults.Append fault) why = why
+told_more s c d own text colours away memory (faults.Sync fault) why = why
+told_more s c d own text colours away memory (faults.Unread stamp fault) why = why
+told_more s c d own text colours away memory faults.NoTx why = why
+told_more s c d own text colours away memory faults.NoMemory why = absurd why
+
 -- WHAT IT IS TOLD
 
 module _ {T : Type 0} (told : List ObjectNode → ObjectNode → Option T) (s : Store) (c m d : Client) (colours : List ℕ)
-    (set : Colours) (text : List ℕ) (within : AreOwn colours (members set))
+    (set : Colours) (text : List ℕ) (within : AreOfObject colours (members set))
     (last : Option Key) (answer : Option T) (a : Appended) (read : StampedRead) (x : RestsOn s c m) (y : RestsOn s m d)
     (stands : IsExplained s c m (AppendsAs set text a))
-    (answers : Answers told s m d (rising colours) last a.stood.key answer read) where
+    (answers : AnswersOwnNode told s m d (rising colours) last a.stood.key answer read) where
   -- what the read says of it
   abbrev Told : Log → Caller → Kept → Kept → Type 0
   Told log caller kept after =
@@ -141,12 +155,12 @@ module _ {T : Type 0} (told : List ObjectNode → ObjectNode → Option T) (s : 
 
   -- the own node is among those that were read
   own_read : (objects : List Object) (kept stood : Kept) (rest : Rest)
-      → AppendsAs set text a (log_of (seen_of d) rest) (caller_of s d objects) kept stood → stood.floor ≤ read.stamp
+      → AppendsAs set text a (log_seen (seen_of d) rest) (caller_of s d objects) kept stood → stood.floor ≤ read.stamp
       → In a.stood.key answers.0
-      × (slice_get ((log_of (seen_of d) rest).nodes a.stood.key.id.client) a.stood.key.id.count
+      × (slice_get ((log_seen (seen_of d) rest).nodes a.stood.key.id.client) a.stood.key.id.count
       ≡ Some (node_of (caller_of s d objects) kept set text))
   own_read objects kept stood rest append above =
-      let log = log_of (seen_of d) rest in
+      let log = log_seen (seen_of d) rest in
       let caller = caller_of s d objects in
       let node = node_of caller kept set text in
       let own = own_stands log caller kept node a.stood.key.stamp a.row (map piece_of a.stood.points) stood append.2 in
@@ -180,7 +194,7 @@ module _ {T : Type 0} (told : List ObjectNode → ObjectNode → Option T) (s : 
         r.1,
         λ rest fits.
             let z = r.2 rest fits in
-            let log = log_of (seen_of d) rest in
+            let log = log_seen (seen_of d) rest in
             let caller = caller_of s d objects in
             let own = own_read objects kept z.0 rest z.1 z.2.0.0.above_floor in (
               z.0,

@@ -16,10 +16,10 @@ use Rattle.object_fold.specs.declared.verdict.Verdict.{Verdict}
 use Rattle.object_fold.specs.Maps.{Value}
 use Rattle.object_fold.specs.Nodes.{ObjectNode, nodes_before}
 use Rattle.object_fold.specs.States.{IsTxState}
-use Rattle.object_fold.specs.Transactions.{CanRead, form_verdict, ruling, value_of, verdict_among, verdict_of, verdict_on, values_after, versions_after, writes_after}
+use Rattle.object_fold.specs.Transactions.{CanRead, form_verdict, ruling, value_of, verdict_among, verdict_of, verdict_on, writes_after}
 use Rattle.object_fold.specs.Folds.{told_among, told_of}
 use Rattle.object_fold.proofs.CallerLemmas.{versions_fit}
-use Rattle.lawful_run.specs.Asks.{keys_of, rising, shards}
+use Rattle.lawful_run.specs.Asks.{keys_of_pairs, rising, shards}
 use Rattle.log_client.specs.declared.store.Store.{Store}
 use Rattle.log_client.specs.declared.client.Client.{Client}
 use Rattle.log_client.specs.declared.answers.Appended.{Appended}
@@ -32,27 +32,27 @@ use Rattle.log_client.specs.Reading.{RestsOn}
 use Rattle.log_client.specs.StampedReads.{ReadsGoOn}
 use Rattle.log_client.specs.Objects.{version_keys}
 use Rattle.log_client.proofs.CallerLemmas.{explained_less}
-use Rattle.region_fold.specs.Reads.{AreWriters, HasNodes, IsOwn, ReadsNodes, TellRefused, TellsOwn}
+use Rattle.region_fold.specs.Reads.{AreWriters, HasNodesRead, IsOwn, ReadsNodes, TellRefused, TellsOwn}
 use Rattle.region_fold.proofs.ReadAnswers.{colours_later, kept_later}
 use Rattle.region_fold.specs.declared.transactions.Tx.{Tx}
 use Rattle.region_fold.specs.declared.transactions.TxMap.{TxMap}
-use Rattle.region_fold.specs.Transactions.{CommitRefused, Commits, CommitsAs, IsTxMapOf, ReadsKeys, transaction_text}
+use Rattle.region_fold.specs.Transactions.{AreFound, CommitRefused, Commits, CommitsAs, IsTxMapOf, ReadsKeys, transaction_text}
 
 -- a transaction has keys
 pub some_keys : (versions : List Version) (pairs : List Pair) → AreVersions versions
-    → 0 < length (version_keys versions ++ keys_of pairs)
+    → 0 < length (version_keys versions ++ keys_of_pairs pairs)
 some_keys [] pairs are = absurd (let none = are.some in let f : ⊥ = omega (arith, none) in f)
 some_keys (version ∷ versions) pairs are = omega arith
 
 -- the set of the shards of these, of colours, versions and pairs that were read out of where they stand
 pub tx_set : (set : Colours) (a b : List ℕ) (v w : List Version) (p q : List Pair)
-    → members set ≡ shards a (version_keys v ++ keys_of p) → a ≡ b → v ≡ w → p ≡ q
-    → members set ≡ shards b (version_keys w ++ keys_of q)
+    → members set ≡ shards a (version_keys v ++ keys_of_pairs p) → a ≡ b → v ≡ w → p ≡ q
+    → members set ≡ shards b (version_keys w ++ keys_of_pairs q)
 tx_set set a b v w p q same colours versions pairs =
     same
-    ∙ (ap (λ (l : List ℕ). shards l (version_keys v ++ keys_of p)) colours
-    ∙ (ap (λ (l : List Version). shards b (version_keys l ++ keys_of p)) versions
-    ∙ ap (λ (l : List Pair). shards b (version_keys w ++ keys_of l)) pairs))
+    ∙ (ap (λ (l : List ℕ). shards l (version_keys v ++ keys_of_pairs p)) colours
+    ∙ (ap (λ (l : List Version). shards b (version_keys l ++ keys_of_pairs p)) versions
+    ∙ ap (λ (l : List Pair). shards b (version_keys w ++ keys_of_pairs l)) pairs))
 
 -- what is kept stays right
 pub map_later : ReadsGoOn → (s : Store) (c d : Client) → RestsOn s c d → (m : TxMap) → IsClient s c → IsTxMapOf c m
@@ -65,16 +65,14 @@ map_later law s c d on m is of = record {
 -- WHAT A READ FINDS OF KEYS
 
 module _ (keys : List (List ℕ)) (values : List Value) (tx : Tx) (state : TxState)
-    (found : (nodes : List ObjectNode) → IsTxState state nodes
-    → (values ≡ values_after nodes keys) × (tx.versions ≡ versions_after nodes keys)) where
+    (found : (nodes : List ObjectNode) → IsTxState state nodes → AreFound keys values tx nodes) where
   pub reads_keys : (s : Store) (c d : Client) (colours : List ℕ) (last : Option Key) (read : StampedRead)
       → tx.stamp ≡ read.stamp → ReadsNodes s c d colours last read (λ nodes. IsTxState state nodes × AreWriters nodes)
       → ReadsKeys s c d colours last keys values tx read
   reads_keys s c d colours last read stamp reads = (
     stamp,
-    explained_less s c d (HasNodes (rising colours) last read (λ nodes. IsTxState state nodes × AreWriters nodes))
-        (HasNodes (rising colours) last read
-        (λ nodes. (values ≡ values_after nodes keys) × (tx.versions ≡ versions_after nodes keys)))
+    explained_less s c d (HasNodesRead (rising colours) last read (λ nodes. IsTxState state nodes × AreWriters nodes))
+        (HasNodesRead (rising colours) last read (AreFound keys values tx))
         (λ log caller before after r. (r.0, r.1, r.2, r.3, found r.2 r.4.0)) reads,
   )
 
@@ -105,7 +103,7 @@ module _ (back : ReadsBack) (versions : List Version) (pairs : List Pair) (may :
       ruled ∙ ap (λ (v : Verdict). Some v) (sym (ap (λ (o : Option Verdict). unwrap_or o d) (own.answer_is ∙ same)))
 
   pub commits : (s : Store) (c d : Client) (colours : List ℕ) (last : Option Key) (set : Colours) (told : Option Verdict)
-      (other : Verdict) (a : Appended) (read : StampedRead) → members set ≡ shards colours (version_keys versions ++ keys_of pairs)
+      (other : Verdict) (a : Appended) (read : StampedRead) → members set ≡ shards colours (version_keys versions ++ keys_of_pairs pairs)
       → IsExplained s c d (TellsOwn ruling set (transaction_text versions pairs) (rising colours) last told a read)
       → Commits s c d colours last versions pairs (unwrap_or told other) a read
   commits s c d colours last set told other a read are tells = record {
@@ -123,13 +121,13 @@ module _ (back : ReadsBack) (versions : List Version) (pairs : List Pair) (may :
 
 -- why it was refused
 pub commit_refused : (home : ℕ) (s : Store) (c d : Client) (colours : List ℕ) (versions : List Version) (pairs : List Pair)
-    (own : List ℕ) (fault : ObjectFault) → own ≡ shards colours (version_keys versions ++ keys_of pairs)
+    (own : List ℕ) (fault : ObjectFault) → own ≡ shards colours (version_keys versions ++ keys_of_pairs pairs)
     → TellRefused s c d own (transaction_text versions pairs) colours fault
     → CommitRefused home s c d colours (Some versions) pairs fault
 commit_refused home s c d colours versions pairs own fault are why =
     by fault (subst (λ (l : List ℕ). TellRefused s c d l (transaction_text versions pairs) colours fault) are why) where
       by : (fault : ObjectFault)
-          → TellRefused s c d (shards colours (version_keys versions ++ keys_of pairs)) (transaction_text versions pairs) colours
+          → TellRefused s c d (shards colours (version_keys versions ++ keys_of_pairs pairs)) (transaction_text versions pairs) colours
           fault
           → CommitRefused home s c d colours (Some versions) pairs fault
       by (faults.NotHome shown) why = absurd why

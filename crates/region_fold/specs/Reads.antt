@@ -21,11 +21,12 @@ use Rattle.log_client.specs.declared.answers.StampedRead.{StampedRead}
 use Rattle.log_client.specs.declared.faults.SyncFault.{SyncFault}
 use Rattle.log_client.specs.declared.faults.SyncFault.TheVariants as sync_faults
 use Rattle.log_client.specs.declared.object_fault.ObjectFault.{ObjectFault}
-use Rattle.log_client.specs.declared.object_fault.ObjectFault.TheVariants as faults
 use Rattle.log_client.specs.Appends.{AppendsAs}
-use Rattle.log_client.specs.Calls.{IsExplained}
+use Rattle.log_client.specs.Calls.{AnswersEach, IsExplained}
+use Rattle.log_client.specs.Reading.{raised_colours, synced_colours}
 use Rattle.log_client.specs.StampedReads.{CanBeNamed, HasRead, IsAboveSeen, ReadsAs, ReadsOn}
-use Rattle.log_client.specs.Objects.{KeepsRead, StandsNot, StandsThen}
+use Rattle.log_client.specs.Refusals.{RefusedBy, Refusals, never}
+use Rattle.log_client.specs.Objects.{KeepsRead, NotAppended, StandsThen}
 
 -- each node's key is one that a version can name
 abbrev pub AreWriters : List ObjectNode → Type 0
@@ -45,25 +46,32 @@ pub record Fetches (s : Store) (c d : Client) (colours : List ℕ) (last : Optio
   pub named : CanBeNamed read.items
 
 -- each of these colours is one of the object's
-abbrev pub AreOwn : List ℕ → List ℕ → Type 0
-AreOwn colours own = (colour : ℕ) → Contains own colour → Contains (rising colours) colour
+abbrev pub AreOfObject : List ℕ → List ℕ → Type 0
+AreOfObject colours own = (colour : ℕ) → Contains own colour → Contains (rising colours) colour
 
 -- what a stamped read had, in the order of the region, of which it answers what comes behind the last key
-abbrev pub HasNodes : List ℕ → Option Key → StampedRead → (List ObjectNode → Type 0) → Log → Caller → Kept → Kept → Type 0
-HasNodes colours last read Has log caller kept after =
+abbrev pub HasNodesRead : List ℕ → Option Key → StampedRead → (List ObjectNode → Type 0) → Log → Caller → Kept → Kept → Type 0
+HasNodesRead colours last read Has log caller kept after =
     (keys : List Key) × ReadsAs colours last read keys log caller kept after
     × (nodes : List ObjectNode) × AreObjectNodes log keys nodes × Has nodes
 
 -- A stamped read of an object with these colours was made, it answers what comes behind the last key, and this is so of its
 -- nodes.
 abbrev pub ReadsNodes : Store → Client → Client → List ℕ → Option Key → StampedRead → (List ObjectNode → Type 0) → Type 0
-ReadsNodes s c d colours last read Has = IsExplained s c d (HasNodes (rising colours) last read Has)
+ReadsNodes s c d colours last read Has = IsExplained s c d (HasNodesRead (rising colours) last read Has)
+
+-- The answer of a stamped read of an object with these colours tells of a raise and a sync of each, in rising order, and of each
+-- sync as the client's own is answered.
+pub record ShowsEach (c d : Client) (colours : List ℕ) (read : StampedRead) : Type 0 where
+  pub raises : raised_colours read.raises ≡ rising colours
+  pub syncs : synced_colours read.syncs ≡ rising colours
+  pub played : AnswersEach c d read.syncs
 
 -- A stamped read of these colours was made, and that is what the node with this key among what it had is told. It answers what
 -- comes behind the last key, or all where the node was folded already.
-abbrev pub Answers : {T : Type 0} → (List ObjectNode → ObjectNode → Option T) → Store → Client → Client → List ℕ → Option Key
+abbrev pub AnswersOwnNode : {T : Type 0} → (List ObjectNode → ObjectNode → Option T) → Store → Client → Client → List ℕ → Option Key
     → Key → Option T → StampedRead → Type 0
-Answers told s c d colours last own answer read =
+AnswersOwnNode told s c d colours last own answer read =
     (keys : List Key) × HasRead d colours read.stamp keys
     × IsExplained s c d (λ log caller kept after.
     ReadsAs colours (last_before last own) read keys log caller kept after
@@ -83,7 +91,7 @@ abbrev pub TellsOwn : {T : Type 0} → (List ObjectNode → ObjectNode → Optio
     → Option T → Appended → StampedRead → Log → Caller → Kept → Kept → Type 0
 TellsOwn told set text colours last answer a read log caller kept after =
     (stood : Kept) × AppendsAs set text a log caller kept stood
-    × HasNodes colours (last_before last a.stood.key) read (IsOwn told a.stood.key text answer) log caller stood after
+    × HasNodesRead colours (last_before last a.stood.key) read (IsOwn told a.stood.key text answer) log caller stood after
 
 -- why the own node was told nothing, which stands under the stamp in these colours; the object has those
 abbrev pub UntoldLeaves : Store → Client → Client → List ℕ → List ℕ → ℕ → List ℕ → SyncFault → Type 0
@@ -95,11 +103,13 @@ UntoldLeaves s c d own text stamp colours sync_faults.NoMemory =
     (set : Colours) × (members set ≡ own)
     × IsExplained s c d (StandsThen set text stamp (λ log caller stood after. HidesRead log caller stood colours after))
 
--- why an append to these colours of an object with those, and the read behind it, were refused
+-- what is said where an append to these colours of an object with those was refused, or the read behind it
+abbrev pub tell_refusals : Store → Client → Client → List ℕ → List ℕ → List ℕ → Refusals
+tell_refusals s c d own text colours = record never {
+  append = NotAppended s c d own text;
+  unread = λ stamp why. UntoldLeaves s c d own text stamp (rising colours) why;
+}
+
+-- why these two were refused
 abbrev pub TellRefused : Store → Client → Client → List ℕ → List ℕ → List ℕ → ObjectFault → Type 0
-TellRefused s c d own text colours (faults.NotHome shown) = ⊥
-TellRefused s c d own text colours (faults.Append fault) = StandsNot s c d own text (faults.Append fault)
-TellRefused s c d own text colours (faults.Sync fault) = ⊥
-TellRefused s c d own text colours (faults.Unread stamp why) = UntoldLeaves s c d own text stamp (rising colours) why
-TellRefused s c d own text colours faults.NoTx = ⊥
-TellRefused s c d own text colours faults.NoMemory = ⊥
+TellRefused s c d own text colours = RefusedBy (tell_refusals s c d own text colours)

@@ -29,7 +29,8 @@ impl<F: NodeFold> RegionFold<F> {
     pub fn open(alloc: Global) -> RegionFold<F>
         ensures state { F.Holds result.kept.state [] }
         ensures last { result.kept.last ≡ None }
-        ensures kept { (client : Client) (colours : List ℕ) → KeepsFold F.Holds client colours result.kept }
+        ensures kept { (client : Client) (colours : List ℕ)
+            → KeepsFold F.Holds client colours result.kept }
     {
         RegionFold {
             kept: KeptFold::open(alloc),

@@ -5,12 +5,12 @@ ghost use Rattle.lawful_run.specs.Asks.{rising};
 ghost use Rattle.object_fold.specs.Nodes.{ObjectNode};
 ghost use Rattle.append_core.specs.declared.stood.Point.{Point};
 ghost use Rattle.log_client.specs.Appends.{AreColoursOf};
-ghost use Rattle.log_client.specs.Calls.{AnswersEach, IsExplained};
+ghost use Rattle.log_client.specs.Calls.{IsExplained};
 ghost use Rattle.log_client.specs.Clients.{IsClient};
-ghost use Rattle.log_client.specs.Reading.{RestsOn, raised_colours, synced_colours};
+ghost use Rattle.log_client.specs.Reading.{RestsOn};
 ghost use Rattle.log_client.specs.StampedReads.{ReadHidden, ReadRefused};
-ghost use Rattle.log_client.specs.Objects.{AreColours};
-ghost use Rattle.region_fold.specs.Reads.{AreOwn, AreWriters, Fetches, KeepsFold, ReadsNodes, Answers, TellsOwn, TellRefused};
+ghost use Rattle.log_client.specs.Objects.{HasColoursOf};
+ghost use Rattle.region_fold.specs.Reads.{AreOfObject, AreWriters, Fetches, KeepsFold, ReadsNodes, AnswersOwnNode, ShowsEach, TellsOwn, TellRefused};
 
 use crate::fold::RegionFold;
 use fuzzy_io::Gate;
@@ -30,13 +30,12 @@ fn fetch<R: Wait>(
     last: Option<Key>,
 ) -> Result<StampedRead, SyncFault>
     requires client { IsClient store.now client.old }
-    requires colours { AreColours client.old colours.now }
+    requires colours { HasColoursOf client.old colours.now }
     ensures client { RestsOn store.now client.old client.new }
     ensures ok { IfOk result (Fetches store.now client.old client.new (rising colours.now) last) }
-    ensures raises { IfOk result (λ read. raised_colours read.raises ≡ rising colours.now) }
-    ensures syncs { IfOk result (λ read. synced_colours read.syncs ≡ rising colours.now) }
-    ensures played { IfOk result (λ read. AnswersEach client.old client.new read.syncs) }
-    ensures hidden { IfOk result (λ read. ReadHidden store.now client.old client.new (rising colours.now)) }
+    ensures shows { IfOk result (ShowsEach client.old client.new colours.now) }
+    ensures hidden { IfOk result (λ read. ReadHidden store.now client.old client.new
+        (rising colours.now)) }
     ensures err { IfErr result (ReadRefused store.now client.old client.new (rising colours.now)) }
 {
     client.read_on(rt, alloc, store, Colours::of(colours), last)
@@ -54,17 +53,18 @@ impl<F: NodeFold> RegionFold<F> {
         colours: &[u8],
     ) -> Result<StampedRead, SyncFault>
         requires client { IsClient store.now client.old }
-        requires colours { AreColours client.old colours.now }
+        requires colours { HasColoursOf client.old colours.now }
         requires kept { KeepsFold F.Holds client.old (rising colours.now) self.old.kept }
         ensures client { RestsOn store.now client.old client.new }
         ensures kept { KeepsFold F.Holds client.new (rising colours.now) self.new.kept }
-        ensures ok { IfOk result (λ read. ReadsNodes store.now client.old client.new colours.now self.old.kept.last read
+        ensures ok { IfOk result (λ read. ReadsNodes store.now client.old client.new colours.now
+            self.old.kept.last read
             (λ nodes. F.Holds self.new.kept.state nodes × AreWriters nodes)) }
-        ensures raises { IfOk result (λ read. raised_colours read.raises ≡ rising colours.now) }
-        ensures syncs { IfOk result (λ read. synced_colours read.syncs ≡ rising colours.now) }
-        ensures played { IfOk result (λ read. AnswersEach client.old client.new read.syncs) }
-        ensures hidden { IfOk result (λ read. ReadHidden store.now client.old client.new (rising colours.now)) }
-        ensures err { IfErr result (ReadRefused store.now client.old client.new (rising colours.now)) }
+        ensures shows { IfOk result (ShowsEach client.old client.new colours.now) }
+        ensures hidden { IfOk result (λ read. ReadHidden store.now client.old client.new
+            (rising colours.now)) }
+        ensures err { IfErr result (ReadRefused store.now client.old client.new
+            (rising colours.now)) }
     {
         reads_go_on();
         match fetch(rt, alloc, client, store, colours, self.kept.last) {
@@ -89,16 +89,15 @@ impl<F: NodeFold> RegionFold<F> {
         own: Key,
     ) -> Result<(Option<F::Told>, StampedRead), SyncFault>
         requires client { IsClient store.now client.old }
-        requires colours { AreColours client.old colours.now }
+        requires colours { HasColoursOf client.old colours.now }
         requires kept { KeepsFold F.Holds client.old (rising colours.now) self.old.kept }
         ensures client { RestsOn store.now client.old client.new }
         ensures kept { KeepsFold F.Holds client.new (rising colours.now) self.new.kept }
-        ensures ok { IfOk result (λ r. Answers F.told store.now client.old client.new (rising colours.now) self.old.kept.last
-            own r.0 r.1) }
-        ensures raises { IfOk result (λ r. raised_colours r.1.raises ≡ rising colours.now) }
-        ensures syncs { IfOk result (λ r. synced_colours r.1.syncs ≡ rising colours.now) }
-        ensures played { IfOk result (λ r. AnswersEach client.old client.new r.1.syncs) }
-        ensures err { IfErr result (ReadRefused store.now client.old client.new (rising colours.now)) }
+        ensures ok { IfOk result (λ r. AnswersOwnNode F.told store.now client.old client.new
+            (rising colours.now) self.old.kept.last own r.0 r.1) }
+        ensures shows { IfOk result (λ r. ShowsEach client.old client.new colours.now r.1) }
+        ensures err { IfErr result (ReadRefused store.now client.old client.new
+            (rising colours.now)) }
     {
         reads_go_on();
         self.kept.stay_before(alloc, own);
@@ -125,19 +124,19 @@ impl<F: NodeFold> RegionFold<F> {
         text: Text,
     ) -> Result<(Option<F::Told>, Appended, StampedRead), ObjectFault>
         requires client { IsClient store.now client.old }
-        requires colours { AreColours client.old colours.now }
+        requires colours { HasColoursOf client.old colours.now }
         requires kept { KeepsFold F.Holds client.old (rising colours.now) self.old.kept }
         requires set { AreColoursOf store.now set }
-        requires own { AreOwn colours.now (members set) }
+        requires own { AreOfObject colours.now (members set) }
         ensures client { RestsOn store.now client.old client.new }
         ensures kept { KeepsFold F.Holds client.new (rising colours.now) self.new.kept }
         ensures ok { IfOk result (λ r. IsExplained store.now client.old client.new
             (TellsOwn F.told set text (rising colours.now) self.old.kept.last r.0 r.1 r.2)) }
-        ensures points { IfOk result (λ r. map (λ (p : Point). p.colour) r.1.stood.points ≡ members set) }
-        ensures raises { IfOk result (λ r. raised_colours r.2.raises ≡ rising colours.now) }
-        ensures syncs { IfOk result (λ r. synced_colours r.2.syncs ≡ rising colours.now) }
-        ensures played { IfOk result (λ r. AnswersEach client.old client.new r.2.syncs) }
-        ensures err { IfErr result (TellRefused store.now client.old client.new (members set) text colours.now) }
+        ensures points { IfOk result (λ r.
+            map (λ (p : Point). p.colour) r.1.stood.points ≡ members set) }
+        ensures shows { IfOk result (λ r. ShowsEach client.old client.new colours.now r.2) }
+        ensures err { IfErr result (TellRefused store.now client.old client.new
+            (members set) text colours.now) }
     {
         reads_go_on();
         match client.append(rt, alloc, store, gate, set, text, None) {

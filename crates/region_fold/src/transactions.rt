@@ -1,17 +1,17 @@
 // The transactional map.
-ghost use Rattle.std.specs.Prelude.{◌≡◌, ◌≢◌, ◌++◌, List, length, map, Some, None, Err, IfOk, IfErr, IfSome};
+ghost use Rattle.std.specs.Prelude.{◌≡◌, List, length, map, Some, None, Err, IfOk, IfErr, IfSome};
 ghost use Rattle.std.specs.Option.{option_map};
 ghost use Rattle.object_form.specs.Forms.{ArePairs, AreVersions};
-ghost use Rattle.lawful_run.specs.Asks.{rising, shards, keys_of};
+ghost use Rattle.lawful_run.specs.Asks.{rising};
 ghost use Rattle.object_fold.specs.Nodes.{ObjectNode};
 ghost use Rattle.object_fold.specs.States.{IsTxState};
-ghost use Rattle.object_fold.specs.Transactions.{CanRead, values_after, versions_after};
+ghost use Rattle.object_fold.specs.Transactions.{CanRead};
 ghost use Rattle.append_core.specs.declared.stood.Point.{Point};
 ghost use Rattle.log_client.specs.Calls.{AnswersEach};
 ghost use Rattle.log_client.specs.Clients.{IsClient};
 ghost use Rattle.log_client.specs.Reading.{RestsOn, raised_colours, synced_colours};
-ghost use Rattle.log_client.specs.Objects.{AreColours, version_keys};
-ghost use Rattle.region_fold.specs.Transactions.{IsTxMapOf, IsSameTx, ReadsKeys, KeysRefused, Commits, CommitRefused, transaction_text};
+ghost use Rattle.log_client.specs.Objects.{HasColoursOf, RefusesAway};
+ghost use Rattle.region_fold.specs.Transactions.{AreFound, IsTxMapOf, IsSameTx, ReadsKeys, KeysRefused, Commits, CommitRefused, transaction_colours, transaction_text};
 
 use crate::fold::RegionFold;
 use fuzzy_io::Gate;
@@ -55,7 +55,7 @@ impl TxMap {
     pub fn open(alloc: Global, home: u8, colours: ColourList) -> TxMap
         ensures of { (result.home ≡ home) × (result.colours ≡ colours) }
         ensures last { result.fold.kept.last ≡ None }
-        ensures map { (client : Client) → AreColours client colours → IsTxMapOf client result }
+        ensures map { (client : Client) → HasColoursOf client colours → IsTxMapOf client result }
     {
         TxMap {
             home,
@@ -74,8 +74,7 @@ impl TxMap {
     // What is held of keys, as of a stamp.
     fn found(&self, alloc: Global, stamp: u64, keys: &Keys) -> Result<(Values, Tx), AllocError>
         ensures found { IfOk result (λ r. (r.1.stamp ≡ stamp) × ((nodes : List ObjectNode)
-            → IsTxState self.now.fold.kept.state nodes
-            → (r.0 ≡ values_after nodes keys.now) × (r.1.versions ≡ versions_after nodes keys.now))) }
+            → IsTxState self.now.fold.kept.state nodes → AreFound keys.now r.0 r.1 nodes)) }
     {
         let writes = self.fold.state();
         let values = writes.values(alloc, keys)?;
@@ -100,15 +99,16 @@ impl TxMap {
         ensures client { RestsOn store.now client.old client.new }
         ensures map { IsTxMapOf client.new self.new }
         ensures same { IsSameTx self.old self.new }
-        ensures ok { IfOk result (λ r. ReadsKeys store.now client.old client.new self.old.colours self.old.fold.kept.last
-            keys.now r.0 r.1 r.2) }
+        ensures ok { IfOk result (λ r. ReadsKeys store.now client.old client.new
+            self.old.colours self.old.fold.kept.last keys.now r.0 r.1 r.2) }
         ensures many { IfOk result (λ r. length r.0 ≡ length keys.now) }
         ensures versions { CanRead keys.now → IfOk result (λ r. AreVersions r.1.versions) }
         ensures raises { IfOk result (λ r. raised_colours r.2.raises ≡ rising self.old.colours) }
         ensures syncs { IfOk result (λ r. synced_colours r.2.syncs ≡ rising self.old.colours) }
         ensures played { IfOk result (λ r. AnswersEach client.old client.new r.2.syncs) }
-        ensures away { client.old.region ≢ self.old.home → result ≡ Err (ObjectFault.NotHome self.old.home) }
-        ensures err { IfErr result (KeysRefused self.old.home store.now client.old client.new (rising self.old.colours)) }
+        ensures away { RefusesAway self.old.home client.old result }
+        ensures err { IfErr result (KeysRefused self.old.home store.now client.old client.new
+            (rising self.old.colours)) }
     {
         if client.region() != self.home {
             return Err(ObjectFault::NotHome { home: self.home });
@@ -146,18 +146,19 @@ impl TxMap {
         ensures map { IsTxMapOf client.new self.new }
         ensures same { IsSameTx self.old self.new }
         ensures ok { IfOk result (λ r. (rests : Tx) × (tx ≡ Some rests)
-            × Commits store.now client.old client.new self.old.colours self.old.fold.kept.last rests.versions writes.now
-            r.0 r.1 r.2) }
+            × Commits store.now client.old client.new self.old.colours self.old.fold.kept.last
+            rests.versions writes.now r.0 r.1 r.2) }
         ensures points { IfOk result (λ r. (rests : Tx) × (tx ≡ Some rests)
             × (map (λ (p : Point). p.colour) r.1.stood.points
-            ≡ shards self.old.colours (version_keys rests.versions ++ keys_of writes.now))) }
+            ≡ transaction_colours self.old.colours rests.versions writes.now)) }
         ensures raises { IfOk result (λ r. raised_colours r.2.raises ≡ rising self.old.colours) }
         ensures syncs { IfOk result (λ r. synced_colours r.2.syncs ≡ rising self.old.colours) }
         ensures played { IfOk result (λ r. AnswersEach client.old client.new r.2.syncs) }
-        ensures away { client.old.region ≢ self.old.home → result ≡ Err (ObjectFault.NotHome self.old.home) }
-        ensures no_tx { client.old.region ≡ self.old.home → tx ≡ None → result ≡ Err ObjectFault.NoTx }
-        ensures err { IfErr result (CommitRefused self.old.home store.now client.old client.new self.old.colours
-            (option_map (λ (t : Tx). t.versions) tx) writes.now) }
+        ensures away { RefusesAway self.old.home client.old result }
+        ensures no_tx { client.old.region ≡ self.old.home → tx ≡ None
+            → result ≡ Err ObjectFault.NoTx }
+        ensures err { IfErr result (CommitRefused self.old.home store.now client.old client.new
+            self.old.colours (option_map (λ (t : Tx). t.versions) tx) writes.now) }
     {
         reads_back();
         if client.region() != self.home {

@@ -17,7 +17,7 @@ use Rattle.chain_store.specs.declared.told.Told.{Told}
 use Rattle.chain_store.specs.Histories.{entries_in, maker}
 use Rattle.chain_store.specs.Passes.{SeesMore, MakesOne, IsLawfulTold}
 use Rattle.chain_store.specs.Moves.{held_in, base_in, GivesAt, ShowsGiven}
-use Rattle.region_pull.specs.Pulls.{Gave, told_gave, before_gave, MakesGives, AsksOn, IsTooLow, Asks}
+use Rattle.region_pull.specs.Pulls.{GiveOfPull, told_gave, before_gave, MakesGives, AsksOn, IsTooLow, AsksByGives}
 use Rattle.region_pull.specs.Origins.{IsHeldFor}
 use Rattle.region_pull.proofs.Lists.{prefix_same, prefix_then, prefix_long, prefix_get, prefix_take, taken_prefix, take_front, get_last, get_cases, get_split, got_mapped}
 use Rattle.region_pull.proofs.Seen.{held_longer, held_for_longer}
@@ -41,7 +41,7 @@ module _ (n region : ℕ) (old : List Told) where
     rising = λ i j x y lt e d. absurd (let f : ⊥ = cc (e) in f);
   }
 
-  module _ (mid new : List Told) (gives : List Gave) (g : MakesGives n region old mid gives) where
+  module _ (mid new : List Told) (gives : List GiveOfPull) (g : MakesGives n region old mid gives) where
     pub gives_seen : SeesMore n mid new → MakesGives n region old new gives
     gives_seen s = record {
       made = s.none ∙ g.made;
@@ -50,10 +50,10 @@ module _ (n region : ℕ) (old : List Told) where
     }
 
     -- its places lie within what was seen
-    pub gave_within : (i : ℕ) (x : Gave) → slice_get gives i ≡ Some x → x.place < length mid
+    pub gave_within : (i : ℕ) (x : GiveOfPull) → slice_get gives i ≡ Some x → x.place < length mid
     gave_within i x e = slice_get_within mid x.place (told_gave n region x) (g.there i x e).1
 
-    pub gives_more : (x : Gave) (at : At) → IsPrefix old mid → (m : MakesOne n (told_gave n region x) mid new at)
+    pub gives_more : (x : GiveOfPull) (at : At) → IsPrefix old mid → (m : MakesOne n (told_gave n region x) mid new at)
         → x.place ≡ length m.before → MakesGives n region old new (gives ++ x ∷ [])
     gives_more x at more m place =
         let told = told_gave n region x in
@@ -69,7 +69,7 @@ module _ (n region : ℕ) (old : List Told) where
                 let r = g.there i y before in
                 (r.0, prefix_get mid new (made_more n told mid new at m) y.place (told_gave n region y) r.1)
             | inr last ↦
-                subst (λ (z : Gave). (length old ≤ z.place) × (slice_get new z.place ≡ Some (told_gave n region z)))
+                subst (λ (z : GiveOfPull). (length old ≤ z.place) × (slice_get new z.place ≡ Some (told_gave n region z)))
                 last.1 (
                   omega (arith, place, early, first),
                   ap (slice_get new) place ∙ (ap (λ (l : List Told). slice_get l (length m.before)) m.adds
@@ -88,14 +88,14 @@ module _ (n region : ℕ) (old : List Told) where
                 elim (get_cases gives x i y e) [
                   | inl earlier ↦
                       let low = gave_within i y earlier in
-                      subst (λ (w : Gave). y.place < w.place) last.1 (omega (arith, low, early, place))
+                      subst (λ (w : GiveOfPull). y.place < w.place) last.1 (omega (arith, low, early, place))
                   | inr same ↦ absurd (let s = same.0 in let f : ⊥ = omega (arith, s, here, lt) in f)
                 ]
           ];
         }
 
 -- what is said of a give stays true as more is seen
-module _ (t u : Tag) (log log' old new new' : List Told) (x : Gave) (within : x.place ≤ length log)
+module _ (t u : Tag) (log log' old new new' : List Told) (x : GiveOfPull) (within : x.place ≤ length log)
     (more : IsPrefix log log') where
   pub same_before : before_gave log' x ≡ before_gave log x
   same_before = prefix_take log log' more x.place within
@@ -119,10 +119,10 @@ module _ (t u : Tag) (log log' old new new' : List Told) (x : Gave) (within : x.
   low_later low = subst (λ (l : List Told). x.from < at (base_in t l) t.region) (sym same_before) low
 
 -- The gives so far, all from too low a number.
-pub record Asked (t u : Tag) (n : ℕ) (old new to_old to_new : List Told) (gives : List Gave) : Type 0 where
+pub record Asked (t u : Tag) (n : ℕ) (old new to_old to_new : List Told) (gives : List GiveOfPull) : Type 0 where
   pub makes : MakesGives n u.region old new gives
-  pub on : (i : ℕ) (x : Gave) → slice_get gives i ≡ Some x → AsksOn t u new to_old to_new x
-  pub low : (i : ℕ) (x : Gave) → slice_get gives i ≡ Some x → IsTooLow t new x
+  pub on : (i : ℕ) (x : GiveOfPull) → slice_get gives i ≡ Some x → AsksOn t u new to_old to_new x
+  pub low : (i : ℕ) (x : GiveOfPull) → slice_get gives i ≡ Some x → IsTooLow t new x
 
 module _ (t u : Tag) (n : ℕ) (old : List Told) (to_old : List Told) where
   pub asked_none : Asked t u n old old to_old to_old []
@@ -132,13 +132,13 @@ module _ (t u : Tag) (n : ℕ) (old : List Told) (to_old : List Told) where
     low = λ i x e. absurd (let f : ⊥ = cc (e) in f);
   }
 
-  pub asks_alone : (new to_new : List Told) (gives : List Gave) → Asked t u n old new to_old to_new gives
-      → Asks t u n old new to_old to_new gives
+  pub asks_alone : (new to_new : List Told) (gives : List GiveOfPull) → Asked t u n old new to_old to_new gives
+      → AsksByGives t u n old new to_old to_new gives
   asks_alone new to_new gives a = record { makes = a.makes; on = a.on; again = λ i x e lt. a.low i x e }
 
-  module _ (new to_new : List Told) (gives : List Gave) (a : Asked t u n old new to_old to_new gives) where
+  module _ (new to_new : List Told) (gives : List GiveOfPull) (a : Asked t u n old new to_old to_new gives) where
     -- the place of each lies within what was seen
-    within : (i : ℕ) (x : Gave) → slice_get gives i ≡ Some x → x.place ≤ length new
+    within : (i : ℕ) (x : GiveOfPull) → slice_get gives i ≡ Some x → x.place ≤ length new
     within i x e = let lt = gave_within n u.region old new new gives a.makes i x e in omega (arith, lt)
 
     -- the other region was looked at
@@ -161,7 +161,7 @@ module _ (t u : Tag) (n : ℕ) (old : List Told) (to_old : List Told) where
     module _ (later : List Told) (from : ℕ) (place : At) (given : Given) (more : IsPrefix old new)
         (to_more : IsPrefix to_old to_new) (is : from ≡ held_in u to_new t.region)
         (gave : GivesAt t n u.region from new later place given) where
-      abbrev pub last : Gave
+      abbrev pub last : GiveOfPull
       last = record {
         place = length gave.made.before;
         from = min from (length (line (entries_in gave.made.before)));
@@ -195,7 +195,7 @@ module _ (t u : Tag) (n : ℕ) (old : List Told) (to_old : List Told) where
                 (omega (arith, is, held));
           }
 
-      all_on : (i : ℕ) (x : Gave) → slice_get (gives ++ last ∷ []) i ≡ Some x → AsksOn t u later to_old to_new x
+      all_on : (i : ℕ) (x : GiveOfPull) → slice_get (gives ++ last ∷ []) i ≡ Some x → AsksOn t u later to_old to_new x
       all_on i x e = elim (get_cases gives last i x e) [
         | inl before ↦
             asks_later t u new later to_old to_new to_new x (within i x before)
@@ -203,12 +203,12 @@ module _ (t u : Tag) (n : ℕ) (old : List Told) (to_old : List Told) where
         | inr same ↦ subst (AsksOn t u later to_old to_new) same.1 asks_on_last
       ]
 
-      old_low : (i : ℕ) (x : Gave) → slice_get gives i ≡ Some x → IsTooLow t later x
+      old_low : (i : ℕ) (x : GiveOfPull) → slice_get gives i ≡ Some x → IsTooLow t later x
       old_low i x e =
           low_later t u new later to_old to_new to_new x (within i x e)
           (made_more n (told_gave n u.region last) new later place makes_it) (a.low i x e)
 
-      pub asks_last : Asks t u n old later to_old to_new (gives ++ last ∷ [])
+      pub asks_last : AsksByGives t u n old later to_old to_new (gives ++ last ∷ [])
       asks_last = record {
         makes = makes_all;
         on = all_on;
@@ -237,8 +237,8 @@ module _ (t u : Tag) (n : ℕ) (old : List Told) (to_old : List Told) where
       shows_last = subst (λ (l : List Told). ShowsGiven t l from given) (sym same_past) gave.shows
 
 -- the asking column has gone on
-pub asks_further : (t u : Tag) (n : ℕ) (old new to_old to_new later : List Told) (gives : List Gave)
-    → Asks t u n old new to_old to_new gives → IsPrefix to_new later → Asks t u n old new to_old later gives
+pub asks_further : (t u : Tag) (n : ℕ) (old new to_old to_new later : List Told) (gives : List GiveOfPull)
+    → AsksByGives t u n old new to_old to_new gives → IsPrefix to_new later → AsksByGives t u n old new to_old later gives
 asks_further t u n old new to_old to_new later gives a more = record {
   makes = a.makes;
   on = λ i x e.
@@ -248,8 +248,8 @@ asks_further t u n old new to_old to_new later gives a more = record {
 }
 
 -- what a pull asks for is held
-pub asks_held : (t u : Tag) (n : ℕ) (old new to_old to_new : List Told) (gives : List Gave)
-    → Asks t u n old new to_old to_new gives → IsPrefix to_old to_new → IsLawfulTold u to_new
+pub asks_held : (t u : Tag) (n : ℕ) (old new to_old to_new : List Told) (gives : List GiveOfPull)
+    → AsksByGives t u n old new to_old to_new gives → IsPrefix to_old to_new → IsLawfulTold u to_new
     → ((k : ℕ) (told : Told) → slice_get (made_by maker n old) k ≡ Some told → IsHeldFor u to_old t.region told)
     → (k : ℕ) (told : Told) → slice_get (made_by maker n new) k ≡ Some told → IsHeldFor u to_new t.region told
 asks_held t u n old new to_old to_new gives a more lawful h k told e =

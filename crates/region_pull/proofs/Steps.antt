@@ -21,7 +21,7 @@ use Rattle.region_pull.specs.declared.pulled.Pulled.{Pulled}
 use Rattle.chain_store.specs.Going.{GoesOnIn}
 use Rattle.region_pull.specs.Stores.{AreOfOneStore}
 use Rattle.region_pull.specs.Origins.{OfOrigin, AsksForHeld}
-use Rattle.region_pull.specs.Pulls.{Gave, before_gave, Asks, CarriesLine, Pulls, GivesAlone}
+use Rattle.region_pull.specs.Pulls.{GiveOfPull, before_gave, AsksByGives, CarriesLine, PullsByHolds, GivesAlone}
 use Rattle.region_pull.specs.Inside.{HasAsked}
 use Rattle.region_pull.proofs.Lists.{prefix_same, prefix_then, taken_prefix}
 use Rattle.chain_store.proofs.CallerLemmas.{lawful_seen}
@@ -70,7 +70,7 @@ pub record SoFar (from to : Region) (k : ℕ) (g g' h h' : Hold) : Type 0 where
   pub from_goes : GoesOnIn from k g g'
   pub to_goes : GoesOnIn to k h h'
   pub looks : SeesMoreIn k h h'
-  pub gives : List Gave
+  pub gives : List GiveOfPull
   pub asked : Asked (tag_at from k) (tag_at to k) g.passes.number (seen_in g k) (seen_in g' k) (seen_in h k)
       (seen_in h' k) gives
 
@@ -166,8 +166,8 @@ module _ (from to : Region) (k : ℕ) (g g' h h' : Hold) (store : AreOfOneStore 
 module _ (from to : Region) (k : ℕ) (g g' h h' : Hold) (store : AreOfOneStore from to k)
     (from_goes : GoesOnIn from k g g') (to_goes : GoesOnIn to k h h') (looks : SeesMoreIn k h h')
     (i : Hold) (is : IsHold to i) (but : SameBut k h' i) (same : (i.seat ≡ h'.seat) × (i.next ≡ h'.next)) where
-  asks_then : IsPrefix (seen_in h' k) (seen_in i k) → (gives : List Gave) → Asks (tag_at from k) (tag_at to k)
-      g.passes.number (seen_in g k) (seen_in g' k) (seen_in h k) (seen_in h' k) gives → Asks (tag_at from k) (tag_at to k)
+  asks_then : IsPrefix (seen_in h' k) (seen_in i k) → (gives : List GiveOfPull) → AsksByGives (tag_at from k) (tag_at to k)
+      g.passes.number (seen_in g k) (seen_in g' k) (seen_in h k) (seen_in h' k) gives → AsksByGives (tag_at from k) (tag_at to k)
       g.passes.number (seen_in g k) (seen_in g' k) (seen_in h k) (seen_in i k) gives
   asks_then more gives a =
       asks_further (tag_at from k) (tag_at to k) g.passes.number (seen_in g k) (seen_in g' k) (seen_in h k)
@@ -201,7 +201,7 @@ module _ (from to : Region) (k : ℕ) (g g' h h' : Hold) (store : AreOfOneStore 
     carried_goes = goes_then to k h h' i to_goes is but same carried_more
 
     pub pulled : (place : At) (p : Pulled) → p.nodes ≡ nodes → p.give ≡ place → p.carry ≡ carry
-        → HasAsked from to k g g' h h' place given → Pulls from to k g g' h i p
+        → HasAsked from to k g g' h h' place given → PullsByHolds from to k g g' h i p
     pulled place p count give_is carry_is a =
         let t = tag_at from k in
         let u = tag_at to k in
@@ -243,7 +243,7 @@ module _ (from to : Region) (k : ℕ) (g g' h h' : Hold) (store : AreOfOneStore 
       (seen_in h' k) was same n told
       (ap (λ (l : List Told). slice_get l n) (sym (made_now to h h' to_goes)) ∙ e)
 
-  pub origin_pulled : (p : Pulled) → Pulls from to k g g' h h' p → OfOrigin from k g h → OfOrigin from k g' h'
+  pub origin_pulled : (p : Pulled) → PullsByHolds from to k g g' h h' p → OfOrigin from k g h → OfOrigin from k g' h'
   origin_pulled p pulls was n told e =
       origin_carried (tag_at from k) (seen_in g k) (seen_in g' k) from_goes.more
       (lawful_seen from g' k from_goes.rests store.from_colour) (tag_at to k) h.passes.number (seen_in h k)
@@ -252,14 +252,14 @@ module _ (from to : Region) (k : ℕ) (g g' h h' : Hold) (store : AreOfOneStore 
       (seen_in h' k) p.carry p.nodes pulls.looks pulls.carries) n told
       (ap (λ (l : List Told). slice_get l n) (sym (made_now to h h' to_goes)) ∙ e)
 
-  pub held_asked : (gives : List Gave) → Asks (tag_at from k) (tag_at to k) g.passes.number (seen_in g k)
+  pub held_asked : (gives : List GiveOfPull) → AsksByGives (tag_at from k) (tag_at to k) g.passes.number (seen_in g k)
       (seen_in g' k) (seen_in h k) (seen_in h' k) gives → AsksForHeld from to k g h → AsksForHeld from to k g' h'
   held_asked gives a was n told e =
       asks_held (tag_at from k) (tag_at to k) g.passes.number (seen_in g k) (seen_in g' k) (seen_in h k) (seen_in h' k)
       gives a to_goes.more (lawful_seen to h' k to_goes.rests store.to_colour) was n told
       (ap (λ (l : List Told). slice_get l n) (sym (made_now from g g' from_goes)) ∙ e)
 
-  pub held_pulled : (p : Pulled) → Pulls from to k g g' h h' p → AsksForHeld from to k g h → AsksForHeld from to k g' h'
+  pub held_pulled : (p : Pulled) → PullsByHolds from to k g g' h h' p → AsksForHeld from to k g h → AsksForHeld from to k g' h'
   held_pulled p pulls =
       let gives = pulls.too_low ++ pulls.last ∷ [] in
       held_asked gives

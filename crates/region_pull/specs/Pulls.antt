@@ -23,45 +23,45 @@ use Rattle.region_pull.specs.declared.pulled.PullFault.TheVariants.{SameRegion, 
 use Rattle.region_pull.specs.Origins.{AreOfLine}
 
 -- a give of a pull: its place, and the number from which the line is given
-pub record Gave : Type 0 where
+pub record GiveOfPull : Type 0 where
   pub place : ℕ
   pub from : ℕ
 
 -- its entry, which the client n made for a region
-abbrev pub told_gave : ℕ → ℕ → Gave → Told
+abbrev pub told_gave : ℕ → ℕ → GiveOfPull → Told
 told_gave n region x = told_event n (Give region x.from)
 
 -- what the history has before it
-abbrev pub before_gave : List Told → Gave → List Told
+abbrev pub before_gave : List Told → GiveOfPull → List Told
 before_gave log x = take x.place log
 
 -- The client n gave to a region: between the two histories it made just these gives, in this order, each at a place that
 -- it had not seen before.
-pub record MakesGives (n region : ℕ) (old new : List Told) (gives : List Gave) : Type 0 where
+pub record MakesGives (n region : ℕ) (old new : List Told) (gives : List GiveOfPull) : Type 0 where
   pub made : made_by maker n new ≡ made_by maker n old ++ map (told_gave n region) gives
-  pub there : (i : ℕ) (x : Gave) → slice_get gives i ≡ Some x
+  pub there : (i : ℕ) (x : GiveOfPull) → slice_get gives i ≡ Some x
       → (length old ≤ x.place) × (slice_get new x.place ≡ Some (told_gave n region x))
-  pub rising : (i j : ℕ) (x y : Gave) → i < j → slice_get gives i ≡ Some x → slice_get gives j ≡ Some y
+  pub rising : (i j : ℕ) (x y : GiveOfPull) → i < j → slice_get gives i ≡ Some x → slice_get gives j ≡ Some y
       → x.place < y.place
 
 -- A give asks on: its number is what the asking column held of the line at a look, after no fewer events than its old
 -- history has and no more than its new one; or the line's length, if that is less.
-pub record AsksOn (t u : Tag) (log old new : List Told) (x : Gave) : Type 0 where
+pub record AsksOn (t u : Tag) (log old new : List Told) (x : GiveOfPull) : Type 0 where
   pub looked : ℕ
   pub unseen : length old ≤ looked
   pub there : looked ≤ length new
   pub number : x.from ≡ min (length (line (entries_in (before_gave log x)))) (held_in u (take looked new) t.region)
 
 -- its number is below the base by then
-abbrev pub IsTooLow : Tag → List Told → Gave → Type 0
+abbrev pub IsTooLow : Tag → List Told → GiveOfPull → Type 0
 IsTooLow t log x = x.from < at (base_in t (before_gave log x)) t.region
 
 -- The gives of a client n who pulls from the column with the tag t, of which it had seen `old` and then `new`, to the one
 -- with the tag u: each asks on, and another comes only after one that was too low.
-pub record Asks (t u : Tag) (n : ℕ) (old new to_old to_new : List Told) (gives : List Gave) : Type 0 where
+pub record AsksByGives (t u : Tag) (n : ℕ) (old new to_old to_new : List Told) (gives : List GiveOfPull) : Type 0 where
   pub makes : MakesGives n u.region old new gives
-  pub on : (i : ℕ) (x : Gave) → slice_get gives i ≡ Some x → AsksOn t u new to_old to_new x
-  pub again : (i : ℕ) (x : Gave) → slice_get gives i ≡ Some x → i + 1 < length gives → IsTooLow t new x
+  pub on : (i : ℕ) (x : GiveOfPull) → slice_get gives i ≡ Some x → AsksOn t u new to_old to_new x
+  pub again : (i : ℕ) (x : GiveOfPull) → slice_get gives i ≡ Some x → i + 1 < length gives → IsTooLow t new x
 
 -- The client n carried so many nodes of the line that the history of the column with the tag t has, from where those held
 -- ended in the column with the tag u; or none, at a look.
@@ -75,13 +75,13 @@ CarriesLine t log u n old new at nodes =
 -- A pull of a client, by its holds g of the region that is pulled from and h of the other one, which are g' and h' then:
 -- it gave from too low a number some times, gave, and then carried; all is held then that stood in the line at its last
 -- give.
-pub record Pulls (from to : Region) (colour : ℕ) (g g' h h' : Hold) (p : Pulled) : Type 0 where
-  pub too_low : List Gave
-  pub last : Gave
+pub record PullsByHolds (from to : Region) (colour : ℕ) (g g' h h' : Hold) (p : Pulled) : Type 0 where
+  pub too_low : List GiveOfPull
+  pub last : GiveOfPull
   -- what it had seen of the asking column before it carried
   pub looked : List Told
   pub looks : SeesMore h.passes.number (seen_in h colour) looked
-  pub asks : Asks (tag_at from colour) (tag_at to colour) g.passes.number (seen_in g colour) (seen_in g' colour)
+  pub asks : AsksByGives (tag_at from colour) (tag_at to colour) g.passes.number (seen_in g colour) (seen_in g' colour)
       (seen_in h colour) looked (too_low ++ last ∷ [])
   pub give : p.give ≡ Event last.place
   pub carries : CarriesLine (tag_at from colour) (seen_in g' colour) (tag_at to colour) h.passes.number looked
@@ -92,10 +92,10 @@ pub record Pulls (from to : Region) (colour : ℕ) (g g' h h' : Hold) (p : Pulle
 -- it only gave
 abbrev pub GivesAlone : Region → Region → ℕ → Hold → Hold → Hold → Hold → Type 0
 GivesAlone from to colour g g' h h' =
-    (gives : List Gave) × Asks (tag_at from colour) (tag_at to colour) g.passes.number (seen_in g colour)
+    (gives : List GiveOfPull) × AsksByGives (tag_at from colour) (tag_at to colour) g.passes.number (seen_in g colour)
     (seen_in g' colour) (seen_in h colour) (seen_in h' colour) gives
 
 -- what a pull leaves that is refused: nothing was carried
-abbrev pub Leaves : Region → Region → ℕ → Hold → Hold → Hold → Hold → PullFault → Type 0
-Leaves from to colour g g' h h' SameRegion = (g' ≡ g) × (h' ≡ h)
-Leaves from to colour g g' h h' NoMemory = GivesAlone from to colour g g' h h' × SeesMoreIn colour h h'
+abbrev pub CarriesNothing : Region → Region → ℕ → Hold → Hold → Hold → Hold → PullFault → Type 0
+CarriesNothing from to colour g g' h h' SameRegion = (g' ≡ g) × (h' ≡ h)
+CarriesNothing from to colour g g' h h' NoMemory = GivesAlone from to colour g g' h h' × SeesMoreIn colour h h'

@@ -4,7 +4,7 @@ ghost use Rattle.chain_store.specs.Holds.{IsHold};
 ghost use Rattle.chain_store.specs.Going.{GoesOnIn};
 ghost use Rattle.region_pull.specs.Stores.{AreOfOneStore};
 ghost use Rattle.region_pull.specs.Origins.{OfOrigin, AsksForHeld};
-ghost use Rattle.region_pull.specs.Pulls.{Pulls, Leaves};
+ghost use Rattle.region_pull.specs.Pulls.{PullsByHolds, CarriesNothing};
 
 use crate::asking::ask;
 use crate::pulled::{PullFault, Pulled};
@@ -30,9 +30,9 @@ pub fn pull<R: Wait>(
     requires store { AreOfOneStore from.now to.now colour }
     ensures from_hold { GoesOnIn from.now colour from_hold.old from_hold.new }
     ensures to_hold { GoesOnIn to.now colour to_hold.old to_hold.new }
-    ensures ok { IfOk result (Pulls from.now to.now colour from_hold.old from_hold.new to_hold.old to_hold.new) }
+    ensures ok { IfOk result (PullsByHolds from.now to.now colour from_hold.old from_hold.new to_hold.old to_hold.new) }
     ensures same_region { (result ≡ Err PullFault.SameRegion) ↔ (from.now.number ≡ to.now.number) }
-    ensures err { IfErr result (Leaves from.now to.now colour from_hold.old from_hold.new to_hold.old to_hold.new) }
+    ensures err { IfErr result (CarriesNothing from.now to.now colour from_hold.old from_hold.new to_hold.old to_hold.new) }
 
     // What it carries is of its origin, and what it asks for is held, as before.
     ensures origin { OfOrigin from.now colour from_hold.old to_hold.old

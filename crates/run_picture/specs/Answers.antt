@@ -12,7 +12,7 @@ use Rattle.report_text.specs.declared.report.Answer.TheVariants.{Stood, StampEnd
 use Rattle.report_text.specs.declared.report.ColumnReport.{ColumnReport}
 use Rattle.report_text.specs.declared.report.Report.{Report}
 use Rattle.report_text.specs.Names.{client_name}
-use Rattle.run_picture.specs.Pieces.{text_shown, joined}
+use Rattle.run_picture.specs.Pieces.{text_shown, texts_joined}
 use Rattle.run_picture.specs.Labels.{field_label}
 
 -- the region of a client; 0 where the number names no client
@@ -20,12 +20,14 @@ abbrev pub home_of : Script → ℕ → ℕ
 home_of script client = slice_index script.shape.homes client
 
 -- the column is that of the region and the colour
-abbrev pub is_of : ℕ → ℕ → ColumnReport → Bool
-is_of region colour column = (column.region == region) && (column.colour == colour)
+abbrev pub is_column_of : ℕ → ℕ → ColumnReport → Bool
+is_column_of region colour column = (column.region == region) && (column.colour == colour)
 
+-- the column of a region and a colour, if the report has it
 abbrev pub column_of : Report → ℕ → ℕ → Option ColumnReport
-column_of report region colour = find (is_of region colour) report.columns
+column_of report region colour = find (is_column_of region colour) report.columns
 
+-- the id at a position of the column's own line, if there is one
 abbrev pub id_on : ℕ → Option ColumnReport → Option Id
 id_on position None = None
 id_on position (Some column) = option_map (λ key. key.id) (slice_get column.line position)
@@ -43,30 +45,32 @@ first_id report region (point ∷ points) = id_at report region point
 abbrev pub id_label : Report → Option Id → List ℕ
 id_label report None = []
 id_label report (Some id) =
-    joined (text_shown (client_name report id.client) ∷ codes "." ∷ decimal id.count ∷ codes " " ∷ [])
+    texts_joined (text_shown (client_name report id.client) ∷ codes "." ∷ decimal id.count ∷ codes " " ∷ [])
 
 -- a value, or that there is none
 abbrev pub value_label : Option (List ℕ) → List ℕ
-value_label None = joined (codes "none" ∷ [])
-value_label (Some value) = joined (text_shown value ∷ [])
+value_label None = texts_joined (codes "none" ∷ [])
+value_label (Some value) = texts_joined (text_shown value ∷ [])
 
 -- values, or that there is none
 abbrev pub values_label : List (List ℕ) → List ℕ
-values_label [] = joined (codes "none" ∷ [])
+values_label [] = texts_joined (codes "none" ∷ [])
 values_label (value ∷ values) = flat_map field_label (value ∷ values)
 
 -- the number of a base for a region
 abbrev pub count_label : Counts → ℕ → List ℕ
-count_label base region = joined (codes " " ∷ decimal (at base (min region 255)) ∷ [])
+count_label base region = texts_joined (codes " " ∷ decimal (at base (min region 255)) ∷ [])
 
+-- the same for a region that is given with its name
 abbrev pub region_label : Counts → ℕ × List ℕ → List ℕ
 region_label base placed = count_label base placed.0
 
 -- the base that a trim left, a number for each region
 abbrev pub based_label : Script → Counts → List ℕ
 based_label script base =
-    joined (codes "base" ∷ []) ++ flat_map (region_label base) (enumerate_from 0 script.regions)
+    texts_joined (codes "base" ∷ []) ++ flat_map (region_label base) (enumerate_from 0 script.regions)
 
+-- a value, and `-` where there is none
 abbrev pub value_or_dash : Option (List ℕ) → List ℕ
 value_or_dash None = codes "-"
 value_or_dash (Some value) = value
@@ -74,16 +78,16 @@ value_or_dash (Some value) = value
 -- KEY=VALUE, or KEY=-
 abbrev pub found_label : KeyAnswer → List ℕ
 found_label found =
-    joined (codes " " ∷ text_shown found.key ∷ codes "=" ∷ text_shown (value_or_dash found.value) ∷ [])
+    texts_joined (codes " " ∷ text_shown found.key ∷ codes "=" ∷ text_shown (value_or_dash found.value) ∷ [])
 
 -- the verdict on a transaction
 abbrev pub verdict_label : Option (List ℕ) → ℕ → List ℕ
-verdict_label None stamp = joined (codes "committed " ∷ decimal stamp ∷ [])
-verdict_label (Some key) stamp = joined (codes "conflict " ∷ text_shown key ∷ [])
+verdict_label None stamp = texts_joined (codes "committed " ∷ decimal stamp ∷ [])
+verdict_label (Some key) stamp = texts_joined (codes "conflict " ∷ text_shown key ∷ [])
 
 -- a node that was made under this stamp
 abbrev pub stood_label : Report → Option Id → ℕ → List ℕ
-stood_label report id stamp = id_label report id ++ joined (codes "stamp " ∷ decimal stamp ∷ [])
+stood_label report id stamp = id_label report id ++ texts_joined (codes "stamp " ∷ decimal stamp ∷ [])
 
 -- a transaction's node, and its verdict
 abbrev pub ruled_label : Report → Option Id → Option (List ℕ) → ℕ → List ℕ
@@ -103,16 +107,16 @@ answer_label script report region (Got value _) = value_label value
 answer_label script report region (GotMany values _) = values_label values
 answer_label script report region (GotKeys _ keys _ _) = flat_map found_label keys
 answer_label script report region (Based _ base) = based_label script base
-answer_label script report region (Stopped steps) = joined (codes "stops after step " ∷ decimal steps ∷ [])
-answer_label script report region (Synced _ plays) = joined (codes "plays " ∷ decimal plays ∷ [])
-answer_label script report region (Scanned _ nodes _ _) = joined (codes "nodes " ∷ decimal nodes ∷ [])
-answer_label script report region (Pulled nodes _ _) = joined (codes "carries " ∷ decimal nodes ∷ [])
-answer_label script report region (StampEnd _) = joined (codes "stampend" ∷ [])
-answer_label script report region (Full _) = joined (codes "full" ∷ [])
-answer_label script report region SameRegion = joined (codes "sameregion" ∷ [])
-answer_label script report region NoTx = joined (codes "notx" ∷ [])
-answer_label script report region (UnreadTrimmed _ _ _) = joined (codes "unread" ∷ [])
-answer_label script report region (UnreadNoMemory _) = joined (codes "unread" ∷ [])
-answer_label script report region (Trimmed _ _) = joined (codes "trimmed" ∷ [])
-answer_label script report region (NotHome _) = joined (codes "nothome" ∷ [])
-answer_label script report region NoMemory = joined (codes "nomemory" ∷ [])
+answer_label script report region (Stopped steps) = texts_joined (codes "stops after step " ∷ decimal steps ∷ [])
+answer_label script report region (Synced _ plays) = texts_joined (codes "plays " ∷ decimal plays ∷ [])
+answer_label script report region (Scanned _ nodes _ _) = texts_joined (codes "nodes " ∷ decimal nodes ∷ [])
+answer_label script report region (Pulled nodes _ _) = texts_joined (codes "carries " ∷ decimal nodes ∷ [])
+answer_label script report region (StampEnd _) = texts_joined (codes "stampend" ∷ [])
+answer_label script report region (Full _) = texts_joined (codes "full" ∷ [])
+answer_label script report region SameRegion = texts_joined (codes "sameregion" ∷ [])
+answer_label script report region NoTx = texts_joined (codes "notx" ∷ [])
+answer_label script report region (UnreadTrimmed _ _ _) = texts_joined (codes "unread" ∷ [])
+answer_label script report region (UnreadNoMemory _) = texts_joined (codes "unread" ∷ [])
+answer_label script report region (Trimmed _ _) = texts_joined (codes "trimmed" ∷ [])
+answer_label script report region (NotHome _) = texts_joined (codes "nothome" ∷ [])
+answer_label script report region NoMemory = texts_joined (codes "nomemory" ∷ [])

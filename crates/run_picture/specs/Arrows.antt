@@ -14,7 +14,7 @@ use Rattle.report_text.specs.declared.report.Answer.TheVariants.{Stood, StampEnd
 use Rattle.report_text.specs.declared.report.ClientReport.{ClientReport}
 use Rattle.report_text.specs.declared.report.ColumnReport.{ColumnReport}
 use Rattle.report_text.specs.declared.report.Report.{Report}
-use Rattle.run_picture.specs.Pieces.{joined}
+use Rattle.run_picture.specs.Pieces.{texts_joined}
 use Rattle.run_picture.specs.Places.{x_of, top_of}
 use Rattle.run_picture.specs.Makers.{last_row, replies_of}
 use Rattle.run_picture.specs.Answers.{home_of}
@@ -63,6 +63,7 @@ plays_point answer region point = plays answer region point.colour point.positio
 abbrev pub place_in : Id → List Key → Option ℕ
 place_in id line = position (λ key. same_id key.id id) line
 
+-- it has played the node at this position of the column, which is one of the region, if there is one
 abbrev pub plays_place : Answer → ℕ → ColumnReport → Option ℕ → Bool
 plays_place answer region column None = false
 plays_place answer region column (Some place) = (column.region == region) && plays answer region column.colour place
@@ -71,6 +72,7 @@ plays_place answer region column (Some place) = (column.region == region) && pla
 abbrev pub plays_column : Answer → ℕ → Id → ColumnReport → Bool
 plays_column answer region id column = plays_place answer region column (place_in id column.line)
 
+-- it has played the node of this region with the id, in whatever column, if there is one
 abbrev pub plays_any_id : Report → Answer → ℕ → Option Id → Bool
 plays_any_id report answer region None = false
 plays_any_id report answer region (Some id) = list_any (plays_column answer region id) report.columns
@@ -102,6 +104,7 @@ plays_made report answer region client (Trimmed _ _) = false
 plays_made report answer region client (NotHome _) = false
 plays_made report answer region client NoMemory = false
 
+-- the second of two answers has played what the command made that got the first one; both are there
 abbrev pub plays_both : Script → Report → Command → Option Answer → Option Answer → Bool
 plays_both script report maker None answer = false
 plays_both script report maker (Some made) None = false
@@ -127,7 +130,7 @@ side_of lane other = if nat_lt lane other then top_of lane + 48 else top_of lane
 -- an arrow from a command to one of another lane
 abbrev pub arrow_label : ℕ → ℕ → ℕ → ℕ → List ℕ
 arrow_label from maker to reader =
-    joined (codes "<path class='arrow' d='M" ∷ decimal (x_of from + 110) ∷ codes " " ∷ decimal (side_of maker reader)
+    texts_joined (codes "<path class='arrow' d='M" ∷ decimal (x_of from + 110) ∷ codes " " ∷ decimal (side_of maker reader)
     ∷ codes "L" ∷ decimal (x_of to + 26) ∷ codes " " ∷ decimal (side_of reader maker) ∷ codes "'/>\n" ∷ [])
 
 -- the arrow to a client's command where there is one, and the client is another
@@ -140,6 +143,7 @@ abbrev pub reader_arrow : Script → Report → List Command → ℕ → Command
 reader_arrow script report commands from maker client =
     arrow_to from maker.client (read_place script report commands maker client) client
 
+-- the same for a client that is given with its number
 abbrev pub maker_arrow : Script → Report → List Command → ℕ → Command → ℕ × ClientReport → List ℕ
 maker_arrow script report commands from maker reader = reader_arrow script report commands from maker reader.0
 

@@ -34,6 +34,7 @@ entry_wants (Give _ _) = zeros
 entry_wants (Carry _ _ _) = zeros
 entry_wants (Trim _) = zeros
 
+-- what the node of an entry wants; nothing where there is no entry
 abbrev pub wants_in : Option Entry → Counts
 wants_in None = zeros
 wants_in (Some entry) = entry_wants entry.event
@@ -56,6 +57,7 @@ settles id (Trim _) = false
 abbrev pub is_help : Id → Entry → Bool
 is_help id entry = settles id entry.event && not (entry.by == id.client)
 
+-- the client that made the entry, if there is one
 abbrev pub maker_of : Option Entry → Option ℕ
 maker_of None = None
 maker_of (Some entry) = Some entry.by

@@ -8,6 +8,7 @@ use Rattle.run_picture.specs.Boxes.{boxes}
 use Rattle.run_picture.specs.Svg.{svg_text}
 use Rattle.run_picture.specs.Timeline.{timeline_text}
 
+-- the text of a drawing
 abbrev pub drawing_text : Drawing → Script → Report → List ℕ
 drawing_text Picture script report = svg_text script report (boxes script report)
 drawing_text Timeline script report = timeline_text script report

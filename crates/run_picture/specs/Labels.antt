@@ -14,8 +14,9 @@ use Rattle.script_text.specs.Uses.{use_of}
 use Rattle.script_text.specs.Words.{word_text, word_of}
 use Rattle.report_text.specs.declared.report.Answer.{Answer}
 use Rattle.report_text.specs.declared.report.Answer.TheVariants.{Stood, StampEnd, Full, Stopped, Synced, Scanned, Pulled, SameRegion, Based, Got, GotMany, GotKeys, Ruled, NoTx, Took, UnreadTrimmed, UnreadNoMemory, Trimmed, NotHome, NoMemory}
-use Rattle.run_picture.specs.Pieces.{text_shown, joined}
+use Rattle.run_picture.specs.Pieces.{text_shown, texts_joined}
 
+-- a name, and no bytes where there is none
 abbrev pub text_or_none : Option (List ℕ) → List ℕ
 text_or_none None = []
 text_or_none (Some name) = name
@@ -26,16 +27,17 @@ name_among names number = text_or_none (slice_get names number)
 
 -- the command's word
 abbrev pub word_label : What → List ℕ
-word_label what = joined (text_shown (word_text (word_of what)) ∷ [])
+word_label what = texts_joined (text_shown (word_text (word_of what)) ∷ [])
 
 -- a field
 abbrev pub field_label : List ℕ → List ℕ
-field_label field = joined (codes " " ∷ text_shown field ∷ [])
+field_label field = texts_joined (codes " " ∷ text_shown field ∷ [])
 
 -- KEY=VALUE
 abbrev pub pair_label : List ℕ → List ℕ → List ℕ
-pair_label key value = joined (codes " " ∷ text_shown key ∷ codes "=" ∷ text_shown value ∷ [])
+pair_label key value = texts_joined (codes " " ∷ text_shown key ∷ codes "=" ∷ text_shown value ∷ [])
 
+-- pairs, one after another
 abbrev pub pairs_label : List Pair → List ℕ
 pairs_label pairs = flat_map (λ pair. pair_label pair.key pair.value) pairs
 
@@ -43,6 +45,7 @@ pairs_label pairs = flat_map (λ pair. pair_label pair.key pair.value) pairs
 abbrev pub colours_label : Script → Colours → List ℕ
 colours_label script colours = flat_map (λ colour. field_label (name_among script.colours colour)) (members colours)
 
+-- the name of an object; an empty field where there is none
 abbrev pub name_of_object : Option Object → List ℕ
 name_of_object None = field_label []
 name_of_object (Some object) = field_label object.name
@@ -54,7 +57,7 @@ object_label script object = name_of_object (slice_get script.objects object)
 -- a region and a colour
 abbrev pub source_label : Script → ℕ → ℕ → List ℕ
 source_label script region colour =
-    joined (codes " " ∷ text_shown (name_among script.regions region)
+    texts_joined (codes " " ∷ text_shown (name_among script.regions region)
     ∷ codes " " ∷ text_shown (name_among script.colours colour) ∷ [])
 
 -- the object that a command is of
@@ -102,14 +105,14 @@ saying_label what = short_label what
 
 -- a command whose object could not be read
 abbrev pub unread_label : What → List ℕ
-unread_label what = joined (text_shown (word_text (word_of what)) ∷ codes ": unread" ∷ [])
+unread_label what = texts_joined (text_shown (word_text (word_of what)) ∷ codes ": unread" ∷ [])
 
 -- What the node says that a command made: what the command says, or what was answered to a `deq`, to a `commit` in a
 -- conflict, and to one of these that could not read its object.
 abbrev pub node_label : What → Answer → List ℕ
-node_label what (Took (Some value) _ _) = joined (codes "deq: " ∷ text_shown value ∷ [])
-node_label what (Took None _ _) = joined (codes "deq: none" ∷ [])
-node_label what (Ruled (Some key) _ _ _ _ _ _) = joined (codes "commit: conflict " ∷ text_shown key ∷ [])
+node_label what (Took (Some value) _ _) = texts_joined (codes "deq: " ∷ text_shown value ∷ [])
+node_label what (Took None _ _) = texts_joined (codes "deq: none" ∷ [])
+node_label what (Ruled (Some key) _ _ _ _ _ _) = texts_joined (codes "commit: conflict " ∷ text_shown key ∷ [])
 node_label what (Ruled None _ _ _ _ _ _) = saying_label what
 node_label what (UnreadTrimmed _ _ _) = unread_label what
 node_label what (UnreadNoMemory _) = unread_label what

@@ -7,7 +7,7 @@ use Rattle.col_core.specs.Cuts.{carried}
 use Rattle.script_text.specs.declared.script.Script.{Script}
 use Rattle.report_text.specs.declared.report.ColumnReport.{ColumnReport}
 use Rattle.report_text.specs.declared.report.Report.{Report}
-use Rattle.run_picture.specs.Pieces.{text_shown, joined}
+use Rattle.run_picture.specs.Pieces.{text_shown, texts_joined}
 use Rattle.run_picture.specs.Marks.{left_out}
 use Rattle.run_picture.specs.Boxes.{lane_of}
 use Rattle.run_picture.specs.Spots.{lane_top}
@@ -23,7 +23,7 @@ held_of column region = if region == column.region then length column.line else 
 -- a lane: its colour, its region, and its clock
 abbrev pub lane_start : Script → ColumnReport → List ℕ
 lane_start script column =
-    joined (codes "<g transform='translate(0," ∷ decimal (lane_top (lane_of script column)) ∷ codes ")' class='lane r"
+    texts_joined (codes "<g transform='translate(0," ∷ decimal (lane_top (lane_of script column)) ∷ codes ")' class='lane r"
     ∷ decimal column.region ∷ codes "'><use href='#l'/><text x='18' y='25'>" ∷ text_shown column.colour_name
     ∷ codes "</text><text x='18' y='43'>in " ∷ text_shown column.region_name
     ∷ codes "</text><text x='18' y='59'>clock " ∷ decimal column.clock ∷ codes "</text>" ∷ [])
@@ -31,17 +31,18 @@ lane_start script column =
 -- how many of its nodes are not shown, where there are any
 abbrev pub left_out_text : ℕ → List ℕ
 left_out_text count =
-    if count == 0 then joined (codes "</g>\n" ∷ [])
-    else joined (codes "<text x='18' y='75'>" ∷ decimal count ∷ codes " not shown</text></g>\n" ∷ [])
+    if count == 0 then texts_joined (codes "</g>\n" ∷ [])
+    else texts_joined (codes "<text x='18' y='75'>" ∷ decimal count ∷ codes " not shown</text></g>\n" ∷ [])
 
 -- what a column holds of the chain of another column of its colour, or of its own
 abbrev pub holding_text : Script → ColumnReport → ColumnReport → List ℕ
 holding_text script column origin =
-    joined (codes "<text x='130' y='" ∷ decimal (lane_top (lane_of script column) + 25 + 16 * origin.region) ∷ codes "'>"
+    texts_joined (codes "<text x='130' y='" ∷ decimal (lane_top (lane_of script column) + 25 + 16 * origin.region) ∷ codes "'>"
     ∷ text_shown origin.region_name ∷ codes ": holds " ∷ decimal (held_of column origin.region)
     ∷ codes ", plays " ∷ decimal (at column.cut origin.region)
     ∷ codes ", dropped " ∷ decimal (at column.base origin.region) ∷ codes "</text>\n" ∷ [])
 
+-- the same where the other column is of its colour, else nothing
 abbrev pub origin_text : Script → ColumnReport → ColumnReport → List ℕ
 origin_text script column origin = if origin.colour == column.colour then holding_text script column origin else []
 

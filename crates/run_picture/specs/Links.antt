@@ -7,7 +7,7 @@ use Rattle.run_picture.specs.declared.picture.NodeBox.{NodeBox}
 use Rattle.run_picture.specs.declared.picture.Tie.{Tie}
 use Rattle.run_picture.specs.declared.picture.Tie.TheVariants.{Band, Chain, Edge}
 use Rattle.run_picture.specs.declared.picture.Spot.{Spot}
-use Rattle.run_picture.specs.Pieces.{joined}
+use Rattle.run_picture.specs.Pieces.{texts_joined}
 use Rattle.run_picture.specs.Spots.{slot_x, spot_y, tie_class, tie_start, tie_end}
 use Rattle.run_picture.specs.Marks.{is_in_line}
 
@@ -59,7 +59,7 @@ edge_to boxes node region =
 -- a line from the one box to the other
 abbrev pub link_text : Tie → Spot → Spot → List ℕ
 link_text tie from to =
-    joined (codes "<path class='" ∷ tie_class tie ∷ codes "' d='M" ∷ decimal (slot_x from.slot + tie_start tie)
+    texts_joined (codes "<path class='" ∷ tie_class tie ∷ codes "' d='M" ∷ decimal (slot_x from.slot + tie_start tie)
     ∷ codes " " ∷ decimal (spot_y from + 18) ∷ codes "L" ∷ decimal (slot_x to.slot + tie_end tie)
     ∷ codes " " ∷ decimal (spot_y to + 18) ∷ codes "'/>\n" ∷ [])
 

@@ -25,6 +25,7 @@ later_row client last row = if row.id.client == client then Some row.id else las
 abbrev pub last_row : ℕ → List RowReport → Option Id
 last_row client rows = fold (later_row client) None rows
 
+-- there is another id, and it is this one
 abbrev pub is_same : Id → Option Id → Bool
 is_same id None = false
 is_same id (Some other) = same_id other id
@@ -58,6 +59,7 @@ makes report colour position key (Trimmed _ _) = false
 makes report colour position key (NotHome _) = false
 makes report colour position key NoMemory = false
 
+-- the replies to a client; none where there is no client
 abbrev pub replies_by : Option ClientReport → List ReplyLine
 replies_by None = []
 replies_by (Some client) = client.replies

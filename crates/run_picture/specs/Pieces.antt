@@ -22,5 +22,5 @@ piece_text (Number number) = decimal number
 piece_text (Text text) = text_shown text.now
 
 -- one text after another
-abbrev pub joined : List (List ℕ) → List ℕ
-joined texts = flat_map (λ text. text) texts
+abbrev pub texts_joined : List (List ℕ) → List ℕ
+texts_joined texts = flat_map (λ text. text) texts

@@ -11,7 +11,7 @@ use Rattle.log_node.specs.declared.marks.Outcome.{Outcome}
 use Rattle.log_node.specs.declared.marks.Outcome.TheVariants as outcomes
 use Rattle.run_picture.specs.declared.picture.NodeBox.{NodeBox}
 use Rattle.run_picture.specs.declared.look.TheConstants.{PICTURE_LEGEND}
-use Rattle.run_picture.specs.Pieces.{text_shown, joined}
+use Rattle.run_picture.specs.Pieces.{text_shown, texts_joined}
 use Rattle.run_picture.specs.Look.{start_text}
 use Rattle.run_picture.specs.Marks.{greatest_clock, first_stamp, slots}
 use Rattle.run_picture.specs.Lanes.{column_text}
@@ -23,7 +23,7 @@ use Rattle.run_picture.specs.Spots.{slot_x, lane_top, spot_y, kind_class, kind_n
 -- a stamp of the axis
 abbrev pub stamp_text : ℕ → ℕ → List ℕ
 stamp_text slot stamp =
-    joined (codes "<text class='axis' x='" ∷ decimal (slot_x slot) ∷ codes "' y='86'>stamp " ∷ decimal stamp
+    texts_joined (codes "<text class='axis' x='" ∷ decimal (slot_x slot) ∷ codes "' y='86'>stamp " ∷ decimal stamp
     ∷ codes "</text><path class='tick' d='M" ∷ decimal (slot_x slot - 10) ∷ codes " 90V9999'/>\n" ∷ [])
 
 -- a place of the axis, which begins with this stamp
@@ -33,11 +33,12 @@ slot_text first slot = stamp_text slot (min (first + slot) (2 ^ 64 - 1))
 -- the beginning of a box: the node's id
 abbrev pub box_start : Report → NodeBox → List ℕ
 box_start report node =
-    joined (codes "<svg x='" ∷ decimal (slot_x node.at.slot) ∷ codes "' y='" ∷ decimal (spot_y node.at)
+    texts_joined (codes "<svg x='" ∷ decimal (slot_x node.at.slot) ∷ codes "' y='" ∷ decimal (spot_y node.at)
     ∷ codes "' width='130' height='36' class='box r" ∷ decimal node.region ∷ codes " " ∷ kind_class node.mark.kind
     ∷ codes "'><use href='#b'/><svg width='123' height='36'><text x='8' y='15'>" ∷ text_shown (client_name report node.mark.key.id.client)
     ∷ codes "." ∷ decimal node.mark.key.id.count ∷ kind_note node.mark.kind ∷ codes "</text><text x='8' y='29'>" ∷ [])
 
+-- what the node of a command says that was answered so; nothing where there is no command
 abbrev pub command_text : ReplyLine → Option Command → List ℕ
 command_text reply None = []
 command_text reply (Some command) = node_label command.what reply.answer
@@ -46,6 +47,7 @@ command_text reply (Some command) = node_label command.what reply.answer
 abbrev pub reply_text : Script → ReplyLine → List ℕ
 reply_text script reply = command_text reply (command_at reply.line script.commands)
 
+-- what the node says of which the reply tells, if there is one
 abbrev pub maker_text : Script → Option ReplyLine → List ℕ
 maker_text script None = []
 maker_text script (Some reply) = reply_text script reply
@@ -57,14 +59,16 @@ said_text script report node = maker_text script (maker report node.colour node.
 -- the end of a box, and who completed its node, to the right of the band
 abbrev pub by_text : Report → NodeBox → ℕ → List ℕ
 by_text report node helper =
-    joined (codes "</text></svg></svg><text class='note' x='" ∷ decimal (slot_x node.at.slot + 76) ∷ codes "' y='"
+    texts_joined (codes "</text></svg></svg><text class='note' x='" ∷ decimal (slot_x node.at.slot + 76) ∷ codes "' y='"
     ∷ decimal (spot_y node.at + 49) ∷ codes "'>completed by " ∷ text_shown (client_name report helper)
     ∷ codes "</text>\n" ∷ [])
 
+-- the end of a box: who helped, if anyone did
 abbrev pub ending_text : Report → NodeBox → Option ℕ → List ℕ
-ending_text report node None = joined (codes "</text></svg></svg>\n" ∷ [])
+ending_text report node None = texts_joined (codes "</text></svg></svg>\n" ∷ [])
 ending_text report node (Some helper) = by_text report node helper
 
+-- the same of the node's own helper
 abbrev pub helper_text : Report → NodeBox → List ℕ
 helper_text report node = ending_text report node node.helper
 
@@ -80,8 +84,9 @@ is_gone (outcomes.Final _) = false
 
 -- the id of an append that came to nothing
 abbrev pub gone_id : Report → RowReport → List ℕ
-gone_id report row = joined (codes " " ∷ text_shown (client_name report row.id.client) ∷ codes "." ∷ decimal row.id.count ∷ [])
+gone_id report row = texts_joined (codes " " ∷ text_shown (client_name report row.id.client) ∷ codes "." ∷ decimal row.id.count ∷ [])
 
+-- the id of a row that is gone, and nothing for another one
 abbrev pub gone_row : Report → RowReport → List ℕ
 gone_row report row = if is_gone row.last then gone_id report row else []
 
@@ -92,8 +97,8 @@ any_gone rows = list_any (λ row. is_gone row.last) rows
 -- the appends that came to nothing, at this height
 abbrev pub gone_list : ℕ → Report → List ℕ
 gone_list height report =
-    joined (codes "<text x='18' y='" ∷ decimal height ∷ codes "'>gone:" ∷ [])
-    ++ flat_map (gone_row report) report.rows ++ joined (codes "</text>\n" ∷ [])
+    texts_joined (codes "<text x='18' y='" ∷ decimal height ∷ codes "'>gone:" ∷ [])
+    ++ flat_map (gone_row report) report.rows ++ texts_joined (codes "</text>\n" ∷ [])
 
 -- the same where there are any
 abbrev pub gone_text : ℕ → Report → List ℕ
@@ -119,7 +124,7 @@ parts_text script report last boxes =
     ++ flat_map (column_text script report last) report.columns
     ++ flat_map (links_of boxes) boxes
     ++ flat_map (box_text script report) boxes
-    ++ gone_text (bottom_of script) report ++ joined (codes "</svg>\n" ∷ [])
+    ++ gone_text (bottom_of script) report ++ texts_joined (codes "</svg>\n" ∷ [])
 
 -- the whole text, with these boxes
 abbrev pub svg_text : Script → Report → List NodeBox → List ℕ

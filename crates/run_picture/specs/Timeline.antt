@@ -10,7 +10,7 @@ use Rattle.report_text.specs.declared.report.ClientReport.{ClientReport}
 use Rattle.report_text.specs.declared.report.Report.{Report}
 use Rattle.run_picture.specs.declared.look.TheConstants.{TIMELINE_LEGEND}
 use Rattle.run_picture.specs.declared.timeline.TheConstants.{COMMANDS_SHOWN}
-use Rattle.run_picture.specs.Pieces.{text_shown, joined}
+use Rattle.run_picture.specs.Pieces.{text_shown, texts_joined}
 use Rattle.run_picture.specs.Look.{start_text}
 use Rattle.run_picture.specs.Places.{x_of, top_of}
 use Rattle.run_picture.specs.Labels.{name_among, heading_label, content_label}
@@ -24,14 +24,14 @@ shown_of script = take COMMANDS_SHOWN script.commands
 -- the number of a command's line, above the lanes
 abbrev pub line_text : ℕ × Command → List ℕ
 line_text placed =
-    joined (codes "<text class='axis' x='" ∷ decimal (x_of placed.0 + 8) ∷ codes "' y='70'>line "
+    texts_joined (codes "<text class='axis' x='" ∷ decimal (x_of placed.0 + 8) ∷ codes "' y='70'>line "
     ∷ decimal placed.1.line ∷ codes "</text>\n" ∷ [])
 
 -- the lane of a client
 abbrev pub client_text : Script → ℕ × ClientReport → List ℕ
 client_text script placed =
     let region = home_of script (min placed.0 255) in
-    joined (codes "<g transform='translate(0," ∷ decimal (top_of placed.0) ∷ codes ")' class='lane r" ∷ decimal region
+    texts_joined (codes "<g transform='translate(0," ∷ decimal (top_of placed.0) ∷ codes ")' class='lane r" ∷ decimal region
     ∷ codes "'><use href='#l'/><path class='time' d='M130 30H9999'/><text x='18' y='28'>" ∷ text_shown placed.1.name
     ∷ codes "</text><text x='18' y='46'>in " ∷ text_shown (name_among script.regions region)
     ∷ codes "</text></g>\n" ∷ [])
@@ -57,21 +57,22 @@ look_of (whats.Read _ _) = codes "asks'><use href='#o'/><svg width='123' height=
 -- the beginning of a command's box
 abbrev pub box_start : Script → ℕ → Command → List ℕ
 box_start script place command =
-    joined (codes "<svg x='" ∷ decimal (x_of place) ∷ codes "' y='" ∷ decimal (top_of command.client + 12)
+    texts_joined (codes "<svg x='" ∷ decimal (x_of place) ∷ codes "' y='" ∷ decimal (top_of command.client + 12)
     ∷ codes "' width='130' height='36' class='box r" ∷ decimal (home_of script command.client) ∷ codes " "
     ∷ look_of command.what ∷ [])
 
 -- what a command says
 abbrev pub said_text : Script → What → List ℕ
 said_text script what =
-    heading_label script what ++ joined (codes "</text><text x='12' y='29'>" ∷ []) ++ content_label what
+    heading_label script what ++ texts_joined (codes "</text><text x='12' y='29'>" ∷ []) ++ content_label what
 
 -- the beginning of an answer, below the box
 abbrev pub note_start : ℕ → Command → List ℕ
 note_start place command =
-    joined (codes "</text></svg></svg><svg x='" ∷ decimal (x_of place) ∷ codes "' y='" ∷ decimal (top_of command.client + 50)
+    texts_joined (codes "</text></svg></svg><svg x='" ∷ decimal (x_of place) ∷ codes "' y='" ∷ decimal (top_of command.client + 50)
     ∷ codes "' width='148' height='18'><text class='note' x='12' y='12'>" ∷ [])
 
+-- how a command was answered; nothing where it was not
 abbrev pub answer_text : Script → Report → Command → Option Answer → List ℕ
 answer_text script report command None = []
 answer_text script report command (Some answer) = answer_label script report (home_of script command.client) answer
@@ -84,17 +85,17 @@ told_text script report command = answer_text script report command (answer_to r
 abbrev pub point_text : Script → Report → ℕ × Command → List ℕ
 point_text script report placed =
     box_start script placed.0 placed.1 ++ said_text script placed.1.what ++ note_start placed.0 placed.1
-    ++ told_text script report placed.1 ++ joined (codes "</text></svg>\n" ∷ [])
+    ++ told_text script report placed.1 ++ texts_joined (codes "</text></svg>\n" ∷ [])
 
 -- how many commands are left out, below the lanes, and the end
 abbrev pub end_text : ℕ → ℕ → List ℕ
 end_text lanes more =
-    joined (codes "<text x='18' y='" ∷ decimal (top_of lanes + 8) ∷ codes "'>" ∷ decimal more
+    texts_joined (codes "<text x='18' y='" ∷ decimal (top_of lanes + 8) ∷ codes "'>" ∷ decimal more
     ∷ codes " more commands are not shown</text>\n</svg>\n" ∷ [])
 
 -- the same where any are left out
 abbrev pub more_text : ℕ → ℕ → List ℕ
-more_text lanes more = if more == 0 then joined (codes "</svg>\n" ∷ []) else end_text lanes more
+more_text lanes more = if more == 0 then texts_joined (codes "</svg>\n" ∷ []) else end_text lanes more
 
 -- the beginning, for these commands and clients
 abbrev pub head_text : List Command → List ClientReport → List ℕ

@@ -26,8 +26,8 @@ pub record IsReportOf (script : Script) (report : Report) : Type 0 where
   pub lawful : LawfulRun script report
 
 -- the drawing of such a report was written whole
-abbrev pub Shows : Drawing → Script → Option (List ℕ) → Option (List ℕ) → Type 0
-Shows drawing script old new =
+abbrev pub ShowsDrawing : Drawing → Script → Option (List ℕ) → Option (List ℕ) → Type 0
+ShowsDrawing drawing script old new =
     (report : Report) × IsReportOf script report × Appends old new (drawing_text drawing script report)
 
 -- The bytes are a script, and the drawing of its run was written whole; where the source tells what was left, these are
@@ -35,7 +35,7 @@ Shows drawing script old new =
 abbrev pub Draws : Drawing → Option (List ℕ) → Option (List ℕ) → Option (List ℕ) → Type 0
 Draws drawing left old new =
     (bytes : List ℕ) × (script : Script) × IfSome left (λ all. all ≡ bytes) × IsScript bytes script
-    × Shows drawing script old new
+    × ShowsDrawing drawing script old new
 
 -- a drawing was asked for, and it was written
 abbrev pub DrawsAsAsked : Option Drawing → Option (List ℕ) → Option (List ℕ) → Option (List ℕ) → Type 0

@@ -6,7 +6,7 @@ ghost use Rattle.script_text.specs.Fitting.{IsFitting};
 ghost use Rattle.script_meaning.specs.States.{StopsAreLast};
 ghost use Rattle.report_text.specs.ReportText.{refusal_bytes};
 ghost use Rattle.run_picture.specs.Asked.{drawing_of};
-ghost use Rattle.run_picture.specs.TopCall.{code_of, Shows, Draws, DrawsAsAsked};
+ghost use Rattle.run_picture.specs.TopCall.{code_of, ShowsDrawing, Draws, DrawsAsAsked};
 
 use crate::asked::{Drawing, read_words};
 use crate::boxes::boxes_of;
@@ -81,7 +81,7 @@ fn draw_script<K: Sink>(alloc: Global, drawing: Drawing, script: &Script, sink: 
     requires fits { IsFitting script.now }
     requires rows { script.now.shape.rows ≤ MAX_ROWS }
     requires stops { StopsAreLast script.now }
-    ensures done { result ≡ Status.Done → Shows drawing script.now (K.holds sink.old) (K.holds sink.new) }
+    ensures done { result ≡ Status.Done → ShowsDrawing drawing script.now (K.holds sink.old) (K.holds sink.new) }
     ensures write_fault { result ≡ Status.WriteFault → Rose (K.faults sink.old) (K.faults sink.new) }
     ensures no_memory { result ≡ Status.NoMemory → sink.new ≡ sink.old }
     ensures no_other { (result ≢ Status.ReadFault) × (result ≢ Status.BadWords) }

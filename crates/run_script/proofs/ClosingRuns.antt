@@ -33,7 +33,7 @@ use Rattle.report_text.specs.declared.report.Report.{Report}
 use Rattle.report_text.specs.declared.report.ReplyLine.{ReplyLine}
 use Rattle.report_text.specs.declared.report.RowReport.{RowReport}
 use Rattle.lawful_run.specs.Callers.{Caller, caller_of, commands_of}
-use Rattle.lawful_run.specs.Columns.{AreColumns, AreCopies, AreRows, IsClientIn, IsColumnReport, row_report}
+use Rattle.lawful_run.specs.Columns.{AreColumns, HoldsTrueCopies, AreRowReports, IsClientIn, IsColumnReport, row_report}
 use Rattle.lawful_run.specs.Explains.{Explained}
 use Rattle.lawful_run.specs.Lawful.{HasHelping, HasStopped, IsClientRun, IsComplete, IsHelp, LawfulRun, LeavesOpen}
 use Rattle.client_law.proofs.CallerLemmas.{explained_at_end}
@@ -45,13 +45,13 @@ use Rattle.closing_report.specs.Columns.{HasNames, column_shown, waiting_shown}
 use Rattle.log_client.specs.declared.client.Client.{Client}
 use Rattle.log_client.specs.declared.closed.Closed.{Closed}
 use Rattle.log_client.specs.declared.store.Store.{Store}
-use Rattle.log_client.specs.Clients.{holds_of, rows_of, seen_of}
+use Rattle.log_client.specs.Clients.{holds_of, nodes_of_rows, seen_of}
 use Rattle.log_client.specs.Clients.{caller_of as client_caller}
-use Rattle.log_client.specs.Closes.{Closes, EndsFor}
+use Rattle.log_client.specs.Closes.{ClosesAsLog, EndsFor}
 use Rattle.log_client.specs.Closing.{AreHoldsAt, EndsColumn, EndsRegion}
-use Rattle.log_client.specs.Fits.{Fits}
+use Rattle.log_client.specs.Fits.{FitsHolds}
 use Rattle.log_client.proofs.CallerLemmas.{open_row}
-use Rattle.run_script.specs.EndReports.{CanShow, HaveNodes, client_shown, columns_shown, end_report, id_of, node_at, nodes_in, nodes_of, row_shown, rows_shown}
+use Rattle.run_script.specs.EndReports.{CanShow, HaveNodes, replies_shown, region_shown, end_report, id_of, node_at, nodes_in, closing_nodes, row_shown, rows_shown}
 use Rattle.run_script.specs.Serving.{AreServed, HasStopped as Stopped, WasServed}
 use Rattle.run_script.proofs.ByPlace.{all_flat, flat_numbered, map_flat, map_numbered, mapped, numbered_at, numbered_get, numbered_second, unmapped}
 use Rattle.log_node.proofs.CallerLemmas.{get_range as range_is}
@@ -72,7 +72,7 @@ shown_back [] = refl
 shown_back (e ∷ s) = ap (λ (l : List Standing). e ∷ l) (shown_back s)
 
 module _ (script : Script) (fits : IsFitting script) (s : Store) (clients : List Client) (replies : List (List ReplyLine))
-    (served : AreServed script s clients replies) (closed : Closed) (closes : Closes s clients closed) where
+    (served : AreServed script s clients replies) (closed : Closed) (closes : ClosesAsLog s clients closed) where
   abbrev log : Log
   log = closes.log
 
@@ -106,7 +106,7 @@ module _ (script : Script) (fits : IsFitting script) (s : Store) (clients : List
 
   names : map (λ (c : ClientReport). c.name) report.clients ≡ script.clients
   names =
-      map-map (λ (c : ClientReport). c.name) (client_shown replies) (enumerate_from 0 script.clients)
+      map-map (λ (c : ClientReport). c.name) (replies_shown replies) (enumerate_from 0 script.clients)
       ∙ numbered_second 0 script.clients
 
   caller_is : (n : ℕ) (c : Client) → slice_get clients n ≡ Some c → client_caller s c script.objects ≡ caller_of script n
@@ -127,7 +127,7 @@ module _ (script : Script) (fits : IsFitting script) (s : Store) (clients : List
         kept = v.kept;
         explained = subst (λ (who : Caller). Explained log who (commands_of script n) (slice_index_or replies n []) v.kept)
             (caller_is n c at)
-            (explained_at_end (seen_of c) (Fits (holds_of c)) (client_caller s c script.objects) (commands_of script n)
+            (explained_at_end (seen_of c) (FitsHolds (holds_of c)) (client_caller s c script.objects) (commands_of script n)
             (slice_index_or replies n []) v.kept log (e.on script.objects) e.fits v.explained);
         made = λ region colour lt lc. subst (λ (k : ℕ). places_of k (log.histories region colour) ≡ v.kept.made region colour)
             number (e.steps script.objects v.kept v.by region colour);
@@ -144,7 +144,7 @@ module _ (script : Script) (fits : IsFitting script) (s : Store) (clients : List
   shown_at : (n : ℕ) (c : ClientReport) → slice_get report.clients n ≡ Some c
       → (n < length script.shape.homes) × (slice_index_or replies n [] ≡ c.replies)
   shown_at n c there =
-      let p = unmapped (client_shown replies) (enumerate_from 0 script.clients) n c there in
+      let p = unmapped (replies_shown replies) (enumerate_from 0 script.clients) n c there in
       let number = numbered_get 0 script.clients n p.0 p.1 in
       let lt = slice_get_within script.clients n p.0.1 number.1 in
       let many = fits.clients in
@@ -278,7 +278,7 @@ module _ (script : Script) (fits : IsFitting script) (s : Store) (clients : List
       (column n k c.0 (omega (arith, lt, many)) (omega (arith, lc, count)) (r.2.columns k c.0 c.1)))
 
   numbers_of_region : (n : ℕ) (e : ClosedRegion) → slice_get closed.regions n ≡ Some e
-      → map numbers (columns_shown script.regions script.colours e) ≡ region_numbers n
+      → map numbers (region_shown script.regions script.colours e) ≡ region_numbers n
   numbers_of_region n e at =
       let r = region_at n e at in
       map-map numbers (column_shown script.regions script.colours) e.columns
@@ -289,18 +289,18 @@ module _ (script : Script) (fits : IsFitting script) (s : Store) (clients : List
   columns : AreColumns log script report.columns
   columns = record {
     all =
-        map_flat numbers (columns_shown script.regions script.colours) closed.regions
-        ∙ (flat_numbered (λ (e : ClosedRegion). map numbers (columns_shown script.regions script.colours e)) region_numbers
+        map_flat numbers (region_shown script.regions script.colours) closed.regions
+        ∙ (flat_numbered (λ (e : ClosedRegion). map numbers (region_shown script.regions script.colours e)) region_numbers
         closed.regions (λ n e at. numbers_of_region n e at)
         ∙ ap (λ (k : ℕ). flat_map region_numbers (range_with_len 0 k)) many_regions);
-    each = all_flat (IsColumnReport log script) (columns_shown script.regions script.colours) closed.regions columns_of_region;
+    each = all_flat (IsColumnReport log script) (region_shown script.regions script.colours) closed.regions columns_of_region;
   }
 
   -- ROWS
 
   -- a row's node is among those that its client had, at the row's number
   node_there : (region : ℕ) (lt : region < regions) (b : BegunRow) → Contains (log.rows region) b
-      → node_at (nodes_of closed) b.row ≡ Some b.node
+      → node_at (closing_nodes closed) b.row ≡ Some b.node
   node_there region lt b among =
       let c = row_client region lt b among in
       let e = ends_for b.row.client c.0 c.1 in
@@ -312,20 +312,20 @@ module _ (script : Script) (fits : IsFitting script) (s : Store) (clients : List
       (let k = range_is 0 (length own) place.0 b.row.number
       (ap (λ (l : List ℕ). slice_get l place.0) (sym (r.3.lawful_rows.in_order b.row.client))
       ∙ mapped (λ (d : BegunRow). d.row.number) own place.0 b place.1) in omega (arith, k)) in
-      let its : map (λ (d : BegunRow). d.node) own ≡ rows_of c.0 =
+      let its : map (λ (d : BegunRow). d.node) own ≡ nodes_of_rows c.0 =
       (λ i. map (λ (d : BegunRow). d.node) (filter (is_of (sym c.2 i)) (log.rows (c.3 i)))) ∙ e.rows in
-      let at : slice_get (rows_of c.0) b.row.number ≡ Some b.node =
-      ap (slice_get (rows_of c.0)) number
+      let at : slice_get (nodes_of_rows c.0) b.row.number ≡ Some b.node =
+      ap (slice_get (nodes_of_rows c.0)) number
       ∙ (ap (λ (l : List Node). slice_get l place.0) (sym its) ∙ mapped (λ (d : BegunRow). d.node) own place.0 b place.1) in
-      let lists : slice_get (nodes_of closed) b.row.client ≡ Some (rows_of c.0) =
+      let lists : slice_get (closing_nodes closed) b.row.client ≡ Some (nodes_of_rows c.0) =
       ap (λ l. slice_get (nodes_in l) b.row.client) closes.nodes
       ∙ mapped (map (λ shared. shared.value)) (map (λ (d : Client). d.rows.items) clients) b.row.client
       c.0.rows.items (mapped (λ (d : Client). d.rows.items) clients b.row.client c.0 c.1) in
       ap (λ (l : List Node). slice_get l b.row.number)
-      (get_or_from_slice_get (nodes_of closed) b.row.client (rows_of c.0) [] lists) ∙ at
+      (get_or_from_slice_get (closing_nodes closed) b.row.client (nodes_of_rows c.0) [] lists) ∙ at
 
   shown_row : (region : ℕ) (lt : region < regions) (b : BegunRow) → Contains (log.rows region) b
-      → row_shown (nodes_of closed) region (closed_of b) ≡ row_report region b
+      → row_shown (closing_nodes closed) region (closed_of b) ≡ row_report region b
   shown_row region lt b among = λ i. record {
     region = region;
     row = b.row;
@@ -335,14 +335,14 @@ module _ (script : Script) (fits : IsFitting script) (s : Store) (clients : List
   }
 
   rows_of_region : (n : ℕ) (e : ClosedRegion) → slice_get closed.regions n ≡ Some e
-      → map (row_shown (nodes_of closed) n) e.rows ≡ map (row_report n) (log.rows n)
+      → map (row_shown (closing_nodes closed) n) e.rows ≡ map (row_report n) (log.rows n)
   rows_of_region n e at =
       let r = region_at n e at in
       let lt = slice_get_within closed.regions n e at in
       let many = many_regions in
-      ap (map (row_shown (nodes_of closed) n)) r.2.rows
-      ∙ (map-map (row_shown (nodes_of closed) n) closed_of (log.rows n)
-      ∙ same_maps (λ (b : BegunRow). row_shown (nodes_of closed) n (closed_of b)) (row_report n) (log.rows n)
+      ap (map (row_shown (closing_nodes closed) n)) r.2.rows
+      ∙ (map-map (row_shown (closing_nodes closed) n) closed_of (log.rows n)
+      ∙ same_maps (λ (b : BegunRow). row_shown (closing_nodes closed) n (closed_of b)) (row_report n) (log.rows n)
       (λ k b there. shown_row n (omega (arith, lt, many)) b (contains_in (log.rows n) b (slice_in (log.rows n) k b there)))) where
         same_maps : (f g : BegunRow → RowReport) (bs : List BegunRow)
             → ((k : ℕ) (b : BegunRow) → slice_get bs k ≡ Some b → f b ≡ g b) → map f bs ≡ map g bs
@@ -355,15 +355,15 @@ module _ (script : Script) (fits : IsFitting script) (s : Store) (clients : List
   rows_in_range P region lt each = all_by P (log.rows region)
       (λ k b there. each b (contains_in (log.rows region) b (slice_in (log.rows region) k b there)))
 
-  begun : AreRows log script report.rows
+  begun : AreRowReports log script report.rows
   begun = record {
     all =
-        flat_numbered (rows_shown (nodes_of closed))
+        flat_numbered (rows_shown (closing_nodes closed))
         (λ region. map (row_report region) (log.rows region)) (enumerate_from 0 closed.regions)
         (λ n p at.
         let is = numbered_get 0 closed.regions n p at in
         let number : p.0 ≡ n = (let e = is.0 in omega (arith, e)) in
-        ap (λ (k : ℕ). map (row_shown (nodes_of closed) k) p.1.rows) number ∙ rows_of_region n p.1 is.1)
+        ap (λ (k : ℕ). map (row_shown (closing_nodes closed) k) p.1.rows) number ∙ rows_of_region n p.1 is.1)
         ∙ ap (λ (k : ℕ). flat_map (λ region. map (row_report region) (log.rows region)) (range_with_len 0 k))
         (length-enumerate_from 0 closed.regions ∙ many_regions);
     by_client = λ region lt. (region_of region lt).3.by_client;
@@ -376,7 +376,7 @@ module _ (script : Script) (fits : IsFitting script) (s : Store) (clients : List
     lawful = λ region lt. (region_of region lt).3.lawful_rows;
   }
 
-  copies : AreCopies log script
+  copies : HoldsTrueCopies log script
   copies colour lt = subst (λ (k : ℕ). AreTrueCopies k (λ region. dated region (log.histories region colour))) served.regions
       (closes.ends.copies colour (within_colours colour lt))
 
@@ -418,7 +418,7 @@ module _ (script : Script) (fits : IsFitting script) (s : Store) (clients : List
       let shown : slice_index_or replies p.0.0 [] ≡ stop.earlier ++ stop.reply ∷ [] =
       ap (λ (k : ℕ). slice_index_or replies k []) is ∙ stop.replied in record {
         shown = record { name = p.0.1; replies = slice_index_or replies p.0.0 [] };
-        of_client = mapped (client_shown replies) (enumerate_from 0 script.clients) n p.0 p.1;
+        of_client = mapped (replies_shown replies) (enumerate_from 0 script.clients) n p.0 p.1;
         before = length stop.earlier;
         reply = stop.reply;
         last = ap length shown ∙ length-append stop.earlier (stop.reply ∷ []);
@@ -481,7 +481,7 @@ module _ (script : Script) (fits : IsFitting script) (s : Store) (clients : List
     left_open = left_open;
   }
 
-  row_nodes_there : (n : ℕ) (e : ClosedRegion) → slice_get closed.regions n ≡ Some e → HaveNodes (nodes_of closed) e.rows
+  row_nodes_there : (n : ℕ) (e : ClosedRegion) → slice_get closed.regions n ≡ Some e → HaveNodes (closing_nodes closed) e.rows
   row_nodes_there n e at i r there =
       let end = region_at n e at in
       let lt = slice_get_within closed.regions n e at in
@@ -489,7 +489,7 @@ module _ (script : Script) (fits : IsFitting script) (s : Store) (clients : List
       let b = unmapped closed_of (log.rows n) i r (subst (λ l. slice_get l i ≡ Some r) end.2.rows there) in
       let among = contains_in (log.rows n) b.0 (slice_in (log.rows n) i b.0 b.1) in (
         b.0.node,
-        ap (λ (q : ClosedRow). node_at (nodes_of closed) q.row) (sym b.2) ∙ node_there n (omega (arith, lt, many)) b.0 among,
+        ap (λ (q : ClosedRow). node_at (closing_nodes closed) q.row) (sym b.2) ∙ node_there n (omega (arith, lt, many)) b.0 among,
       )
 
   pub can_be_shown : CanShow script.regions script.colours closed

@@ -20,12 +20,12 @@ use Rattle.report_text.specs.declared.report.Answer.TheVariants as answers
 use Rattle.report_text.specs.declared.report.PointPiece.{PointPiece}
 use Rattle.report_text.specs.declared.report.RaisePiece.{RaisePiece}
 use Rattle.report_text.specs.declared.report.SyncPiece.{SyncPiece}
-use Rattle.lawful_run.specs.Appends.{Appends, HasNoStamp, IsFull, IsGoneForMemory}
-use Rattle.lawful_run.specs.Asks.{object_home, kind_in, home_asked}
+use Rattle.lawful_run.specs.Appends.{Appends, HasNoStamp, HasNoRowLeft, IsGoneForMemory}
+use Rattle.lawful_run.specs.Asks.{object_home, kind_used, home_asked}
 use Rattle.lawful_run.specs.Callers.{Caller, node_of}
 use Rattle.lawful_run.specs.Explains.{Explains}
-use Rattle.lawful_run.specs.Moves.{OnlyGives, Pulls, Trims, kept_after_pull, kept_after_giving, GivesAt, GivesTooLow, with_places}
-use Rattle.lawful_run.specs.Reads.{AreRead, HidesRead, IsTrimmed, ReadsAt, ShowsKey, ShowsPlayed, Syncs, greatest_stamp, RefusesRead}
+use Rattle.lawful_run.specs.Moves.{OnlyGives, Pulls, Trims, kept_after_pull, kept_after_giving, GivesFrom, GivesTooLow, with_places}
+use Rattle.lawful_run.specs.Reads.{AreKeysRead, HidesRead, IsTrimmed, ReadsAt, ShowsKey, ShowsPlayed, Syncs, greatest_stamp, RefusesRead}
 use Rattle.lawful_run.specs.Refusals.{FindsNoMemory, IsAway, gave, gone, hidden, before_by, behind_by, kept_before, kept_behind, nothing}
 use Rattle.lawful_run.specs.Stops.{Stops}
 use Rattle.run_script.specs.Opened.{object_in, object_asked}
@@ -39,7 +39,7 @@ pub of_log : (what : What) (kept : Kept) → IsOfLog what → (kept_before what 
     × ((caller : Caller) → IsAway caller (home_asked caller what) → ⊥)
 of_log what kept = by (use_of what) where
   by : (u : Use) → object_in u ≡ None → (before_by u kept ≡ kept) × (behind_by u kept ≡ kept)
-      × ((caller : Caller) → IsAway caller (object_home (kind_in caller u)) → ⊥)
+      × ((caller : Caller) → IsAway caller (object_home (kind_used caller u)) → ⊥)
   by (OfLog stops) of = (refl, refl, λ caller away. away)
   by (OfObject object read) of = absurd (let f : ⊥ = cc (of) in f)
 
@@ -56,7 +56,7 @@ module _ (log : Log) (caller : Caller) (kept after : Kept) where
         → Explains log caller kept (whats.Append colours text) (answers.StampEnd colour) [] after
     ended colour is = (refl, λ e. let f : ⊥ = cc (e) in f, (colours, text, (refl, refl), is))
 
-    pub full : (used : ℕ) → IsFull caller kept colours used → after ≡ kept
+    pub full : (used : ℕ) → HasNoRowLeft caller kept colours used → after ≡ kept
         → Explains log caller kept (whats.Append colours text) (answers.Full used) [] after
     full used is same = (refl, λ c t e. let f : ⊥ = cc (e) in f, same, (colours, text, (refl, refl), is))
 
@@ -76,7 +76,7 @@ module _ (log : Log) (caller : Caller) (kept after : Kept) where
         → Explains log caller kept (whats.Stop steps colours text) (answers.Stopped steps) [] after
     stopped steps is = (refl, colours, text, refl, is)
 
-    pub full_stop : (steps used : ℕ) → steps ≢ 0 → IsFull caller kept colours used → after ≡ kept
+    pub full_stop : (steps used : ℕ) → steps ≢ 0 → HasNoRowLeft caller kept colours used → after ≡ kept
         → Explains log caller kept (whats.Stop steps colours text) (answers.Full used) [] after
     full_stop steps used later is same = (refl, λ c t e. later (cc (e)), same, (colours, text, (refl, refl), is))
 
@@ -102,7 +102,7 @@ module _ (log : Log) (caller : Caller) (kept after : Kept) where
 
   module _ (colours : Colours) where
     pub scanned : (stamp : ℕ) (raises : List RaisePiece) (syncs : List SyncPiece) (keys : List Key) (nodes : List PlacedNode)
-        → ReadsAt log caller kept (members colours) stamp raises syncs after → AreRead log caller stamp syncs keys
+        → ReadsAt log caller kept (members colours) stamp raises syncs after → AreKeysRead log caller stamp syncs keys
         → AllZip (ShowsKey log) keys nodes
         → Explains log caller kept (whats.Scan colours) (answers.Scanned stamp (length nodes) raises syncs) nodes after
     scanned stamp raises syncs keys nodes reads are shows = (colours, refl, refl, reads, keys, are, shows)

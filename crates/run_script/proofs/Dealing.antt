@@ -8,11 +8,11 @@ use Rattle.std.proofs.lemmas.Slice.Zip.{firsts-zip, seconds-zip}
 use Rattle.script_text.specs.declared.script.Kind.{Kind}
 use Rattle.script_text.specs.declared.script.Command.{Command}
 use Rattle.script_text.specs.declared.script.Object.{Object}
-use Rattle.script_beside.specs.Dealt.{commands_in}
+use Rattle.script_beside.specs.Dealt.{share_commands}
 use Rattle.log_client.specs.declared.client.Client.{Client}
 use Rattle.run_script.specs.declared.serving.opened.Opened.{Opened}
 use Rattle.run_script.specs.declared.serving.served.Served.{Served}
-use Rattle.run_script.specs.Dealing.{AreFew, AreIdle, IsIdle}
+use Rattle.run_script.specs.Dealing.{AreFewCommands, AreIdle, IsIdle}
 use Rattle.run_script.specs.Opened.{IsUnfolded, kind_opened}
 use Rattle.run_script.proofs.EndsShown.{flat_more}
 
@@ -53,36 +53,36 @@ idle_more objects pairs old new x was is same =
 
 -- one piece more
 pub counted_more : (pieces : List (Vec Command Global)) (n count more : ℕ) (piece : Vec Command Global) → n < length pieces
-    → piece ≡ get_or pieces n piece → count ≡ length (commands_in (take n pieces)) → more ≡ count + length piece.items
-    → more ≡ length (commands_in (take (n + 1) pieces))
+    → piece ≡ get_or pieces n piece → count ≡ length (share_commands (take n pieces)) → more ≡ count + length piece.items
+    → more ≡ length (share_commands (take (n + 1) pieces))
 counted_more pieces n count more piece lt at was is =
-    let here : commands_in (take (n + 1) pieces) ≡ commands_in (take n pieces) ++ piece.items =
-    ap commands_in (take_more pieces n piece lt)
-    ∙ (ap (λ (p : Vec Command Global). commands_in (take n pieces ++ p ∷ [])) (sym at)
+    let here : share_commands (take (n + 1) pieces) ≡ share_commands (take n pieces) ++ piece.items =
+    ap share_commands (take_more pieces n piece lt)
+    ∙ (ap (λ (p : Vec Command Global). share_commands (take n pieces ++ p ∷ [])) (sym at)
     ∙ flat_more (λ (p : Vec Command Global). p.items) (take n pieces) piece) in
     let long = ap length here in
-    let parts = length-append (commands_in (take n pieces)) piece.items in
+    let parts = length-append (share_commands (take n pieces)) piece.items in
     omega (arith, is, was, long, parts)
 
 -- so many pieces, and the next, have no more commands than all
-pub few_counted : (pieces : List (Vec Command Global)) (n count : ℕ) (piece : Vec Command Global) → AreFew pieces → n < length pieces
-    → piece ≡ get_or pieces n piece → count ≡ length (commands_in (take n pieces)) → count + length piece.items < 2 ^ 15
+pub few_counted : (pieces : List (Vec Command Global)) (n count : ℕ) (piece : Vec Command Global) → AreFewCommands pieces → n < length pieces
+    → piece ≡ get_or pieces n piece → count ≡ length (share_commands (take n pieces)) → count + length piece.items < 2 ^ 15
 few_counted pieces n count piece few lt at was =
     let here = counted_more pieces n count (count + length piece.items) piece lt at was refl in
     let less = parts_few pieces (n + 1) in
     omega (arith, few, here, less) where
-      parts_few : (l : List (Vec Command Global)) (k : ℕ) → length (commands_in (take k l)) ≤ length (commands_in l)
+      parts_few : (l : List (Vec Command Global)) (k : ℕ) → length (share_commands (take k l)) ≤ length (share_commands l)
       parts_few l k =
-          let all = ap (λ (m : List (Vec Command Global)). length (commands_in m)) (take-append-drop k l) in
+          let all = ap (λ (m : List (Vec Command Global)). length (share_commands m)) (take-append-drop k l) in
           let both = ap length (flat_map-append (λ (p : Vec Command Global). p.items) (take k l) (drop k l)) in
-          let long = length-append (commands_in (take k l)) (commands_in (drop k l)) in
+          let long = length-append (share_commands (take k l)) (share_commands (drop k l)) in
           omega (arith, all, both, long)
 
 -- all pieces
 pub counted_all : (pieces : List (Vec Command Global)) (n count : ℕ) → length pieces ≤ n
-    → count ≡ length (commands_in (take n pieces)) → count ≡ length (commands_in pieces)
+    → count ≡ length (share_commands (take n pieces)) → count ≡ length (share_commands pieces)
 counted_all pieces n count long is =
-    is ∙ ap (λ (l : List (Vec Command Global)). length (commands_in l)) (take_all n pieces long)
+    is ∙ ap (λ (l : List (Vec Command Global)). length (share_commands l)) (take_all n pieces long)
 
 -- clients and shares beside one another
 pub idle_zip : (objects : List Object) (clients : List Client) (shares : List Share) (pairs : List (Client × Share))

@@ -7,7 +7,7 @@ use Rattle.log_node.specs.declared.forms.Version.{Version}
 use Rattle.object_form.specs.Forms.{AreVersions}
 use Rattle.object_fold.specs.declared.verdict.Verdict.{Verdict}
 use Rattle.object_fold.specs.Maps.{Value}
-use Rattle.lawful_run.specs.Asks.{keys_of, rising, shards}
+use Rattle.lawful_run.specs.Asks.{keys_of_pairs, rising, shards}
 use Rattle.append_core.specs.declared.stood.Point.{Point}
 use Rattle.log_client.specs.declared.answers.Appended.{Appended}
 use Rattle.log_client.specs.declared.answers.Raised.{Raised}
@@ -72,13 +72,13 @@ pub points_few : (colours : List ℕ) (call : Result (Verdict × Appended × Sta
     (pairs : List Pair) (most room : ℕ)
     → ((rests : Tx) → found ≡ Some rests → most ≡ length rests.versions + length pairs) → most ≤ room
     → IfOk call (λ r. (rests : Tx) × (found ≡ Some rests)
-    × (map (λ (p : Point). p.colour) r.1.stood.points ≡ shards colours (version_keys rests.versions ++ keys_of pairs)))
+    × (map (λ (p : Point). p.colour) r.1.stood.points ≡ shards colours (version_keys rests.versions ++ keys_of_pairs pairs)))
     → IfOk call (λ r. length r.1.stood.points ≤ room)
 points_few colours (Ok r) found pairs most room count enough points =
     let rests = points.0 in
-    let keys = version_keys rests.versions ++ keys_of pairs in
+    let keys = version_keys rests.versions ++ keys_of_pairs pairs in
     let few = shards_few colours keys in
-    let both = length-append (version_keys rests.versions) (keys_of pairs) in
+    let both = length-append (version_keys rests.versions) (keys_of_pairs pairs) in
     let read = length-map rests.versions (λ (v : Version). v.key) in
     let written = length-map pairs (λ (p : Pair). p.key) in
     let is = count rests points.1 in

@@ -1,8 +1,7 @@
 -- What a client gives to appends, stops, pulls and trims, by what its calls left.
-use Rattle.std.proofs.Common.{◌≡◌, ◌≢◌, ◌⊎◌, ℕ, zero, suc, ◌+◌, ◌^◌, ◌<◌, ◌≤◌, List, [], map, true, Some, None, Err, refl, ap, sym, subst, ◌∙◌, inl, inr, arith, append-nil}
-use Rattle.std.specs.Prelude.{IsTrue, Result}
+use Rattle.std.proofs.Common.{◌≡◌, ◌≢◌, ◌⊎◌, ℕ, ◌^◌, ◌<◌, ◌≤◌, List, [], map, true, Some, None, Err, refl, ap, sym, subst, ◌∙◌, inl, inr, arith}
+use Rattle.std.specs.Prelude.{Result}
 use Rattle.std.specs.List.{range_with_len}
-use Rattle.std.proofs.lemmas.Bool.{cases_eq, cases_lt}
 use Rattle.std.proofs.lemmas.List.Elements.{All-contains}
 use Rattle.log_node.specs.declared.ids.Colours.{Colours}
 use Rattle.log_node.specs.declared.ids.Counts.{Counts}
@@ -12,21 +11,17 @@ use Rattle.log_node.specs.Sets.{has, members}
 use Rattle.log_node.proofs.CallerLemmas.{has-low}
 use Rattle.col_core.specs.Keeping.{Kept}
 use Rattle.col_core.specs.Log.{Log}
-use Rattle.col_core.proofs.CallerLemmas.{In, in_filter-back, contains_in}
+use Rattle.col_core.proofs.CallerLemmas.{in_filter-back, contains_in}
 use Rattle.script_text.specs.Fitting.{AreBelow, HasColours}
-use Rattle.script_text.specs.Items.{is_stop}
 use Rattle.script_text.specs.declared.script.What.{What}
 use Rattle.script_text.specs.declared.script.What.TheVariants as whats
 use Rattle.report_text.specs.declared.report.Answer.{Answer}
 use Rattle.report_text.specs.declared.report.Answer.TheVariants as answers
-use Rattle.lawful_run.specs.Asks.{may_help}
-use Rattle.lawful_run.specs.Deeds.{manner_of}
 use Rattle.lawful_run.specs.Callers.{Caller, node_of}
-use Rattle.lawful_run.specs.Appends.{HasNoStamp, IsFull}
+use Rattle.lawful_run.specs.Appends.{HasNoStamp, HasNoRowLeft}
 use Rattle.lawful_run.specs.Explains.{Explains}
 use Rattle.lawful_run.specs.Stops.{Stops}
-use Rattle.client_law.specs.Knowing.{log_of}
-use Rattle.chain_store.specs.declared.hold.Hold.{Hold}
+use Rattle.client_law.specs.Knowing.{log_seen}
 use Rattle.append_core.specs.declared.several.MultiFault.{MultiFault}
 use Rattle.append_core.specs.declared.several.MultiFault.TheVariants as faults
 use Rattle.region_pull.specs.declared.pulled.Pulled.{Pulled}
@@ -35,15 +30,16 @@ use Rattle.lawful_run.specs.Moves.{TrimsBy}
 use Rattle.log_client.specs.declared.store.Store.{Store}
 use Rattle.log_client.specs.declared.client.Client.{Client}
 use Rattle.log_client.specs.declared.answers.Appended.{Appended}
-use Rattle.log_client.specs.Fits.{HasGoneOn, HaveGoneOn}
+use Rattle.log_client.specs.Fits.{HaveGoneOn}
 use Rattle.log_client.specs.Growing.{HasGrown}
 use Rattle.log_client.specs.Clients.{IsClient, Finished, Helps, Keeps, caller_of, holds_of, seen_of, starts_of}
 use Rattle.log_client.specs.Calls.{IsExplained, IsSame, PullsAs, PullRefused, GaveAlone, TrimsAs}
-use Rattle.log_client.specs.Appends.{AppendsAs, AppendRefused, AreColoursOf, FindsNoMemory, HasStopped, piece_of}
-use Rattle.log_client.proofs.CallerLemmas.{grown_same}
-use Rattle.run_script.specs.Serving.{Gives, IsStopped}
+use Rattle.log_client.specs.Appends.{AppendsAs, AppendRefused, AreColoursOf, AppendFindsNoMemory, AppendStopped, piece_of}
+use Rattle.log_client.proofs.CallerLemmas.{rests_same}
+use Rattle.run_script.specs.Serving.{ServesLog}
 use Rattle.run_script.proofs.CommandAnswers as commands
-use Rattle.run_script.proofs.Giving.{gives}
+use Rattle.run_script.proofs.CommandAnswers.{IsOfLog}
+use Rattle.run_script.proofs.Giving.{did_nothing, gives, gives_nothing, gives_so}
 use Rattle.col_core.proofs.CallerLemmas.{range_has as in_range}
 
 -- SETS OF COLOURS
@@ -67,39 +63,16 @@ colours_of s colours least some has below =
 
 -- APPENDS
 
--- a client of which nothing was asked has gone on
-gone_same : (hs : List Hold) → HaveGoneOn hs hs
-gone_same hs = (
-  refl,
-  λ region g h at later.
-      let same : g ≡ h = (let both : Some g ≡ Some h = sym at ∙ later in cc (both)) in
-      subst (HasGoneOn g) same (record {
-        number = refl;
-        more = λ colour. ([], append-nil _);
-        size = refl;
-        learns = record { known = λ i n k. k; begun = λ r x k. k };
-      }),
-)
-
 -- memory was refused before anything was asked of the client
-pub gives_unasked : (s : Store) (c : Client) (what : What) → IsClient s c → Gives s c c what answers.NoMemory []
-gives_unasked s c what rests = record {
-  rests = rests;
-  same = (refl, refl);
-  goes = gone_same (holds_of c);
-  grows = grown_same c c refl;
-  explained = λ objects kept done keeps. (
-    kept,
-    keeps,
-    λ rest fits. commands.no_memory (log_of (seen_of c) rest) (caller_of s c objects) kept kept what refl,
-  );
-  finished = λ done. inl done;
-  helps = λ helps. inl helps;
-}
+pub gives_unasked : (s : Store) (c : Client) (what : What) → IsOfLog what → IsClient s c
+    → ServesLog s c c what answers.NoMemory []
+gives_unasked s c what of is =
+    let on = rests_same s c is in
+    gives_nothing s c c on.client on.same on.goes on.grows (λ done. done) (λ helps. helps) what of (did_nothing s c c refl)
 
 -- an append that answered otherwise than that it stopped has left its client finished
 pub not_stopped : (c d : Client) (result : Result Appended MultiFault)
-    → ((steps : ℕ) → result ≢ Err (faults.Stopped steps)) → (Finished c → Finished d ⊎ HasStopped result)
+    → ((steps : ℕ) → result ≢ Err (faults.Stopped steps)) → (Finished c → Finished d ⊎ AppendStopped result)
     → Finished c → Finished d
 not_stopped c d result other finished done = elim (finished done) [
   | inl still ↦ still
@@ -108,66 +81,46 @@ not_stopped c d result other finished done = elim (finished done) [
 
 module _ (s : Store) (c d : Client) (rests : IsClient s d) (same : IsSame c d)
     (goes : HaveGoneOn (holds_of c) (holds_of d)) (grows : HasGrown c d) where
-  -- a call that helped nobody, or may have helped
-  gives_so : (what : What) (answer : Answer) (Record : Log → Caller → Kept → Kept → Type 0)
-      → (Helps d → Helps c ⊎ IsTrue (may_help (manner_of what)))
-      → (Finished c → Finished d ⊎ (IsTrue (is_stop what) × IsStopped answer))
-      → IsExplained s c d Record
-      → ((log : Log) (caller : Caller) (kept after : Kept) → Record log caller kept after
-      → Explains log caller kept what answer [] after)
-      → Gives s c d what answer []
-  gives_so what answer Record helps finished is explains = record {
-    rests = rests;
-    same = same;
-    goes = goes;
-    grows = grows;
-    explained = λ objects kept done keeps.
-        let e = is objects kept done keeps in (e.0, e.1, λ rest fits. explains _ _ kept e.0 (e.2 rest fits));
-    finished = finished;
-    helps = helps;
-  }
-
-  -- one that may have helped
-  pub gives_helping : (what : What) (answer : Answer) (Record : Log → Caller → Kept → Kept → Type 0)
-      → IsTrue (may_help (manner_of what))
-      → (Finished c → Finished d ⊎ (IsTrue (is_stop what) × IsStopped answer))
-      → IsExplained s c d Record
-      → ((log : Log) (caller : Caller) (kept after : Kept) → Record log caller kept after
-      → Explains log caller kept what answer [] after)
-      → Gives s c d what answer []
-  gives_helping what answer Record may = gives_so what answer Record (λ helps. inr may)
-
   module _ (colours : Colours) (text : List ℕ) where
+    -- an append, which may have helped
+    gives_append : (answer : Answer) (Record : Log → Caller → Kept → Kept → Type 0) → (Finished c → Finished d)
+        → IsExplained s c d Record
+        → ((log : Log) (caller : Caller) (kept after : Kept) → Record log caller kept after
+        → Explains log caller kept (whats.Append colours text) answer [] after)
+        → ServesLog s c d (whats.Append colours text) answer []
+    gives_append answer Record finished =
+        gives_so s c d rests same goes grows (whats.Append colours text) answer [] Record refl (λ done. inl (finished done))
+        (λ helps. inr refl)
+
     pub gives_stood : (a : Appended) → (Finished c → Finished d) → IsExplained s c d (AppendsAs colours text a)
-        → Gives s c d (whats.Append colours text)
+        → ServesLog s c d (whats.Append colours text)
         (answers.Stood a.stood.key.stamp a.row (map piece_of a.stood.points)) []
     gives_stood a finished is =
-        gives_helping (whats.Append colours text) (answers.Stood a.stood.key.stamp a.row (map piece_of a.stood.points))
-        (AppendsAs colours text a) refl (λ done. inl (finished done)) is
+        gives_append (answers.Stood a.stood.key.stamp a.row (map piece_of a.stood.points)) (AppendsAs colours text a) finished
+        is
         (λ log caller kept after r.
         commands.stood log caller kept after colours text a.stood.key.stamp a.row (map piece_of a.stood.points) r.2)
 
     pub gives_full : (used : ℕ) → (Finished c → Finished d)
         → AppendRefused s c d colours text None (faults.Full used)
-        → Gives s c d (whats.Append colours text) (answers.Full used) []
+        → ServesLog s c d (whats.Append colours text) (answers.Full used) []
     gives_full used finished is =
-        gives_helping (whats.Append colours text) (answers.Full used)
-        (λ log caller kept after. IsFull caller kept colours used × (after ≡ kept)) refl (λ done. inl (finished done)) is.1
+        gives_append (answers.Full used) (λ log caller kept after. HasNoRowLeft caller kept colours used × (after ≡ kept)) finished
+        is.1
         (λ log caller kept after r. commands.full log caller kept after colours text used r.0 r.1)
 
     pub gives_ended : (colour : ℕ) → (Finished c → Finished d)
         → AppendRefused s c d colours text None (faults.StampEnd colour)
-        → Gives s c d (whats.Append colours text) (answers.StampEnd colour) []
+        → ServesLog s c d (whats.Append colours text) (answers.StampEnd colour) []
     gives_ended colour finished is =
-        gives_helping (whats.Append colours text) (answers.StampEnd colour)
-        (λ log caller kept after. HasNoStamp log caller kept (node_of caller kept colours text) colour after) refl (λ done. inl (finished done)) is.1
+        gives_append (answers.StampEnd colour)
+        (λ log caller kept after. HasNoStamp log caller kept (node_of caller kept colours text) colour after) finished is.1
         (λ log caller kept after r. commands.ended log caller kept after colours text colour r)
 
     pub gives_gone : (Finished c → Finished d) → AppendRefused s c d colours text None faults.NoMemory
-        → Gives s c d (whats.Append colours text) answers.NoMemory []
+        → ServesLog s c d (whats.Append colours text) answers.NoMemory []
     gives_gone finished is =
-        gives_helping (whats.Append colours text) answers.NoMemory (FindsNoMemory colours text None) refl
-        (λ done. inl (finished done)) is
+        gives_append answers.NoMemory (AppendFindsNoMemory colours text None) finished is
         (λ log caller kept after r. elim r [
           | inl none ↦ commands.no_memory log caller kept after (whats.Append colours text) none
           | inr gone ↦ commands.gone_for_memory log caller kept after colours text gone.1 gone.2 gone.3
@@ -178,28 +131,27 @@ module _ (s : Store) (c d : Client) (rests : IsClient s d) (same : IsSame c d)
     module _ (steps : ℕ) (idle : Helps d → Helps c) where
       pub gives_full_stop : (used : ℕ) → steps ≢ 0 → (Finished c → Finished d)
           → AppendRefused s c d colours text (Some steps) (faults.Full used)
-          → Gives s c d (whats.Stop steps colours text) (answers.Full used) []
+          → ServesLog s c d (whats.Stop steps colours text) (answers.Full used) []
       gives_full_stop used later finished is =
-          gives_so (whats.Stop steps colours text) (answers.Full used)
-          (λ log caller kept after. IsFull caller kept colours used × (after ≡ kept)) (λ helps. inl (idle helps))
-          (λ done. inl (finished done)) is.1
+          gives s c d rests same goes grows finished idle (whats.Stop steps colours text) (answers.Full used) []
+          (λ log caller kept after. HasNoRowLeft caller kept colours used × (after ≡ kept)) refl is.1
           (λ log caller kept after r. commands.full_stop log caller kept after colours text steps used later r.0 r.1)
 
       pub gives_stopped : (shown : ℕ) → AppendRefused s c d colours text (Some steps) (faults.Stopped shown)
-          → Gives s c d (whats.Stop steps colours text) (answers.Stopped shown) []
+          → ServesLog s c d (whats.Stop steps colours text) (answers.Stopped shown) []
       gives_stopped shown is =
           let so : steps ≡ shown = (let e = is.0 in cc (e)) in
-          subst (λ (k : ℕ). Gives s c d (whats.Stop k colours text) (answers.Stopped shown) []) (sym so)
-          (gives_so (whats.Stop shown colours text) (answers.Stopped shown)
-          (λ log caller kept after. Stops log caller kept (node_of caller kept colours text) shown after)
-          (λ helps. inl (idle helps)) (λ done. inr (refl, (shown, refl))) is.1
+          subst (λ (k : ℕ). ServesLog s c d (whats.Stop k colours text) (answers.Stopped shown) []) (sym so)
+          (gives_so s c d rests same goes grows (whats.Stop shown colours text) (answers.Stopped shown) []
+          (λ log caller kept after. Stops log caller kept (node_of caller kept colours text) shown after) refl
+          (λ done. inr (refl, (shown, refl))) (λ helps. inl (idle helps)) is.1
           (λ log caller kept after r. commands.stopped log caller kept after colours text shown r))
 
       pub gives_no_stop : (Finished c → Finished d) → AppendRefused s c d colours text (Some steps) faults.NoMemory
-          → Gives s c d (whats.Stop steps colours text) answers.NoMemory []
+          → ServesLog s c d (whats.Stop steps colours text) answers.NoMemory []
       gives_no_stop finished is =
-          gives_so (whats.Stop steps colours text) answers.NoMemory (FindsNoMemory colours text (Some steps))
-          (λ helps. inl (idle helps)) (λ done. inl (finished done)) is
+          gives s c d rests same goes grows finished idle (whats.Stop steps colours text) answers.NoMemory []
+          (AppendFindsNoMemory colours text (Some steps)) refl is
           (λ log caller kept after r. elim r [
             | inl none ↦ commands.no_memory log caller kept after (whats.Stop steps colours text) none
             | inr gone ↦ absurd (let e = gone.0 in let f : ⊥ = cc (e) in f)
@@ -209,56 +161,47 @@ module _ (s : Store) (c d : Client) (rests : IsClient s d) (same : IsSame c d)
 
   module _ (finished : Finished c → Finished d) (idle : Helps d → Helps c) where
     pub gives_pulled : (region colour : ℕ) (p : Pulled) → IsExplained s c d (PullsAs region colour p)
-        → Gives s c d (whats.Pull region colour) (answers.Pulled p.nodes p.give p.carry) []
+        → ServesLog s c d (whats.Pull region colour) (answers.Pulled p.nodes p.give p.carry) []
     gives_pulled region colour p is =
         gives s c d rests same goes grows finished idle (whats.Pull region colour)
-        (answers.Pulled p.nodes p.give p.carry) [] (PullsAs region colour p) is
+        (answers.Pulled p.nodes p.give p.carry) [] (PullsAs region colour p) refl is
         (λ log caller kept after r.
         commands.pulled log caller kept after region colour p.nodes r.0 p.give p.carry r.1 r.2 r.3 r.4)
 
     pub gives_same_region : (region colour : ℕ) → PullRefused s c d region colour pull_faults.SameRegion
-        → Gives s c d (whats.Pull region colour) answers.SameRegion []
-    gives_same_region region colour is = record {
-      rests = rests;
-      same = same;
-      goes = goes;
-      grows = grows;
-      explained = λ objects kept done keeps. (
-        kept,
-        subst (λ (x : Client). Keeps s x objects kept) (sym is.1) keeps,
-        λ rest fits. commands.same_region (log_of (seen_of d) rest) (caller_of s d objects) kept kept region colour
-            (is.0 ∙ ap (λ (x : Client). x.region) (sym is.1)) refl,
-      );
-      finished = λ done. inl (finished done);
-      helps = λ helps. inl (idle helps);
-    }
+        → ServesLog s c d (whats.Pull region colour) answers.SameRegion []
+    gives_same_region region colour is =
+        gives s c d rests same goes grows finished idle (whats.Pull region colour) answers.SameRegion []
+        (λ log caller kept after. (region ≡ caller.own) × (after ≡ kept)) refl
+        (λ objects kept done keeps. (
+          kept,
+          subst (λ (x : Client). Keeps s x objects kept) (sym is.1) keeps,
+          λ rest fits. (is.0 ∙ ap (λ (x : Client). x.region) (sym is.1), refl),
+        ))
+        (λ log caller kept after r. commands.same_region log caller kept after region colour r.0 r.1)
 
     pub gives_gave : (region colour : ℕ) → PullRefused s c d region colour pull_faults.NoMemory
-        → Gives s c d (whats.Pull region colour) answers.NoMemory []
+        → ServesLog s c d (whats.Pull region colour) answers.NoMemory []
     gives_gave region colour is =
         gives s c d rests same goes grows finished idle (whats.Pull region colour) answers.NoMemory []
-        (GaveAlone region colour) is.1
+        (GaveAlone region colour) refl is.1
         (λ log caller kept after r.
         commands.pull_no_memory log caller kept after region colour r.0 r.1 r.2 r.3 r.4)
 
     pub gives_trimmed : (colour : ℕ) (counts : Counts) (at : At) (base : Counts) → counts ≡ starts_of c colour
         → IsExplained s c d (TrimsAs colour counts at base)
-        → Gives s c d (whats.Trim colour) (answers.Based at base) []
-    gives_trimmed colour counts at base own is = record {
-      rests = rests;
-      same = same;
-      goes = goes;
-      grows = grows;
-      explained = λ objects kept done keeps.
-          let e = is objects kept done keeps in (
-            e.0,
-            e.1,
-            λ rest fits.
-                let r = e.2 rest fits in
-                commands.trimmed (log_of (seen_of d) rest) (caller_of s d objects) kept e.0 colour r.0 at base r.1
-                (subst (λ (v : Counts). TrimsBy (log_of (seen_of d) rest) (caller_of s d objects) kept colour r.0 v base)
-                (own ∙ sym (keeps.starts colour)) r.2) r.3,
-          );
-      finished = λ done. inl (finished done);
-      helps = λ helps. inl (idle helps);
-    }
+        → ServesLog s c d (whats.Trim colour) (answers.Based at base) []
+    gives_trimmed colour counts at base own is =
+        gives s c d rests same goes grows finished idle (whats.Trim colour) (answers.Based at base) []
+        (λ log caller kept after. Explains log caller kept (whats.Trim colour) (answers.Based at base) [] after) refl
+        (λ objects kept done keeps.
+        let e = is objects kept done keeps in (
+          e.0,
+          e.1,
+          λ rest fits.
+              let r = e.2 rest fits in
+              commands.trimmed (log_seen (seen_of d) rest) (caller_of s d objects) kept e.0 colour r.0 at base r.1
+              (subst (λ (v : Counts). TrimsBy (log_seen (seen_of d) rest) (caller_of s d objects) kept colour r.0 v base)
+              (own ∙ sym (keeps.starts colour)) r.2) r.3,
+        ))
+        (λ log caller kept after r. r)

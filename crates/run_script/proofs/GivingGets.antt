@@ -35,7 +35,7 @@ use Rattle.log_client.specs.declared.object_fault.ObjectFault.TheVariants as fau
 use Rattle.log_client.specs.Appends.{piece_of}
 use Rattle.log_client.specs.Calls.{IsExplained}
 use Rattle.log_client.specs.Clients.{Helps, caller_of}
-use Rattle.log_client.specs.Objects.{AreColours, GetRefused, HidesOne, StandsThen}
+use Rattle.log_client.specs.Objects.{HasColoursOf, GetRefused, HidesOne, StandsThen}
 use Rattle.log_client.specs.Reading.{RestsOn}
 use Rattle.log_client.specs.StampedReads.{sync_piece}
 use Rattle.log_client.proofs.CallerLemmas.{none_hidden, nothing_hidden, untold_hidden}
@@ -44,7 +44,7 @@ use Rattle.log_queue.specs.Queues.{DeqRefused, Dequeues, TakesAs, dequeue_text}
 use Rattle.causal_map.specs.CausalMaps.{GetsMany, GetsManyAs}
 use Rattle.run_script.specs.Replying.{fault_answer, get_answer, many_answer}
 use Rattle.run_script.specs.Serving.{GivesFor, GivesOf}
-use Rattle.run_script.proofs.GivingObjects.{LetsNoneGo, away_by, gives_away, gives_by, gives_none, gives_refused, told_home, who}
+use Rattle.run_script.proofs.GivingObjects.{away_by, away_from, gives_away, gives_by, gives_none, gives_refused, told_home, who}
 use Rattle.run_script.proofs.GivingPuts.{only_shard, shard_alone}
 
 -- one colour is among the one that is synced
@@ -62,7 +62,7 @@ a_point s c d colour (Err fault) ok = tt
 module _ (s : Store) (c d : Client) (on : RestsOn s c d) (objects : List Object) where
   -- GETS
 
-  module _ (what : What) (none : LetsNoneGo what) (getting : manner_of what ≡ Getting) (idle : Helps d → Helps c)
+  module _ (what : What) (getting : manner_of what ≡ Getting) (idle : Helps d → Helps c)
       (home : Option ℕ) (homes : home_asked (who s c d on objects) what ≡ home) (colour : ℕ)
       (synced : colours_synced (who s c d on objects) what ≡ colour ∷ []) where
     abbrev caller : Caller
@@ -75,17 +75,17 @@ module _ (s : Store) (c d : Client) (on : RestsOn s c d) (objects : List Object)
     without : IsExplained s c d (HidesOne colour) → (IsAway caller (home_asked caller what) → IsHomeRefusal answers.NoMemory)
         → GivesOf s objects c d what answers.NoMemory []
     without is away =
-        gives_by s c d on objects what answers.NoMemory (HidesOne colour) none (inr idle) away is
+        gives_by s c d on objects what answers.NoMemory (HidesOne colour) (inr idle) away is
         (λ log kept after r. explains_get_without log caller kept what after getting (hides log kept after r))
 
     pub get_refused : (fault : ObjectFault) → GetRefused home s c d colour fault
         → (IsAway caller (home_asked caller what) → IsHomeRefusal (fault_answer fault))
         → GivesOf s objects c d what (fault_answer fault) []
-    get_refused (faults.NotHome shown) is away = gives_away s c d on objects what none (inr idle) home shown homes is
+    get_refused (faults.NotHome shown) is away = gives_away s c d on objects what (inr idle) home shown homes is
     get_refused (faults.Append fault) is away = absurd is
     get_refused (faults.Sync (sync_faults.Trimmed shown base)) is away =
         gives_by s c d on objects what (answers.Trimmed shown base)
-        (λ log who kept after. IsTrimmed log who kept colour base × (after ≡ kept)) none (inr idle) away is.1
+        (λ log who kept after. IsTrimmed log who kept colour base × (after ≡ kept)) (inr idle) away is.1
         (λ log kept after r. explains_get_trimmed log caller kept what shown base after getting
         (among (colours_synced caller what) colour shown synced is.0)
         (subst (λ (k : ℕ). IsTrimmed log caller kept k base) (sym is.0) r.0)
@@ -95,14 +95,9 @@ module _ (s : Store) (c d : Client) (on : RestsOn s c d) (objects : List Object)
     get_refused faults.NoTx is away = absurd is
     get_refused faults.NoMemory is away = without (untold_hidden s c d colour is) away
 
--- the answer to a dequeue that was refused
-abbrev refusal : Result (Value × Appended × Synced) ObjectFault → Answer
-refusal (Ok r) = answers.NoMemory
-refusal (Err fault) = fault_answer fault
-
 module _ (s : Store) (c d : Client) (on : RestsOn s c d) (answer : Answer) where
   pub gives_map_get : (home : ℕ) (colours key : List ℕ) (call : Result (Value × Synced) ObjectFault)
-      → answer ≡ get_answer call → AreColours c colours → (Helps d → Helps c)
+      → answer ≡ get_answer call → HasColoursOf c colours → (Helps d → Helps c)
       → (c.region ≢ home → call ≡ Err (faults.NotHome home))
       → IfOk call (λ r. Gets s c d colours (shard_of colours key) key r.0 r.1)
       → IfErr call (GetRefused (Some home) s c d (shard_of colours key))
@@ -118,12 +113,12 @@ module _ (s : Store) (c d : Client) (on : RestsOn s c d) (answer : Answer) where
             → GivesOf s objects c d (whats.Get object key) (get_answer call) []
         by (Ok got) tells ok err =
             gives_by s c d on objects (whats.Get object key) (get_answer (Ok got)) (GetsAs colours key got.1 got.0)
-            (λ kept. (refl, refl)) (inr idle)
+            (inr idle)
             (away_by s c d on objects (whats.Get object key) (Some home) (Ok got) get_answer (λ h. refl)
             (ap object_home at) (told_home c home (Ok got) tells)) ok.explained
             (λ log kept after r. (refl, object, key, refl, home, colours, at, synced ∙ ap (λ (k : ℕ). k ∷ []) (sym ok.synced), r.0, r.1, r.2))
         by (Err fault) tells ok err =
-            get_refused s c d on objects (whats.Get object key) (λ kept. (refl, refl)) refl idle (Some home)
+            get_refused s c d on objects (whats.Get object key) refl idle (Some home)
             (ap object_home at) (shard_of colours key) synced fault err
             (away_by s c d on objects (whats.Get object key) (Some home) (Err fault) get_answer (λ h. refl)
             (ap object_home at) (told_home c home (Err fault) tells))
@@ -143,7 +138,7 @@ module _ (s : Store) (c d : Client) (on : RestsOn s c d) (answer : Answer) where
             → GivesOf s objects c d (whats.Get object key) (many_answer call) []
         by (Ok got) ok err =
             gives_by s c d on objects (whats.Get object key) (many_answer (Ok got)) (GetsManyAs key got.1 got.0)
-            (λ kept. (refl, refl)) (inr idle) (no_home (many_answer (Ok got))) ok.explained
+            (inr idle) (no_home (many_answer (Ok got))) ok.explained
             (λ log kept after r. (
               refl,
               object,
@@ -155,7 +150,7 @@ module _ (s : Store) (c d : Client) (on : RestsOn s c d) (answer : Answer) where
               r.2,
             ))
         by (Err fault) ok err =
-            get_refused s c d on objects (whats.Get object key) (λ kept. (refl, refl)) refl idle None
+            get_refused s c d on objects (whats.Get object key) refl idle None
             (ap object_home at) colour
             (ap (λ (k : Option Kind). shards (object_colours k) (key ∷ [])) at ∙ only_shard colour key low) fault err
             (no_home (fault_answer fault))
@@ -177,26 +172,19 @@ module _ (s : Store) (c d : Client) (on : RestsOn s c d) (answer : Answer) where
         → HidesSyncs log (caller_of s d objects) kept (colours_synced (caller_of s d objects) (whats.Deq object)) after
     hides log kept after h = subst (λ (l : List ℕ). HidesSyncs log (caller_of s d objects) kept l after) (sym (ap object_colours at)) h
 
-    away : (call : Result (Value × Appended × Synced) ObjectFault) (fault : ObjectFault)
-        → (c.region ≢ home → call ≡ Err (faults.NotHome home)) → call ≡ Err fault
-        → IsAway (caller_of s d objects) (home_asked (caller_of s d objects) (whats.Deq object)) → IsHomeRefusal (fault_answer fault)
-    away call fault tells is =
-        away_by s c d on objects (whats.Deq object) (Some home) (Err fault) refusal (λ h. refl) (ap object_home at)
-        (told_home c home (Err fault) (λ far. sym is ∙ tells far))
-
     refused : (fault : ObjectFault) → DeqRefused home s c d colour fault
         → (IsAway (caller_of s d objects) (home_asked (caller_of s d objects) (whats.Deq object)) → IsHomeRefusal (fault_answer fault))
         → GivesOf s objects c d (whats.Deq object) (fault_answer fault) []
     refused (faults.NotHome shown) is far =
-        gives_away s c d on objects (whats.Deq object) (λ kept. (refl, refl)) (inl refl) (Some home) shown (ap object_home at) is
+        gives_away s c d on objects (whats.Deq object) (inl refl) (Some home) shown (ap object_home at) is
     refused (faults.Append fault) is far =
-        gives_refused s c d on objects (whats.Deq object) (λ kept. (refl, refl)) (inl refl) (colour ∷ []) dequeue_text
+        gives_refused s c d on objects (whats.Deq object) (inl refl) (colour ∷ []) dequeue_text
         (λ e. let f : ⊥ = cc (e) in f) asks fault is far
     refused (faults.Sync fault) is far = absurd is
     refused (faults.Unread stamp (sync_faults.Trimmed shown base)) is far =
         gives_by s c d on objects (whats.Deq object) (answers.UnreadTrimmed stamp shown base)
         (StandsThen is.1 dequeue_text stamp (λ log who stood after.
-        IsTrimmed log who stood colour base × (after ≡ stood))) (λ kept. (refl, refl)) (inl refl) far
+        IsTrimmed log who stood colour base × (after ≡ stood))) (inl refl) far
         is.3
         (λ log kept after r. explains_unread log (caller_of s d objects) kept (whats.Deq object) is.1 dequeue_text stamp shown base r.0 after refl
         (among (colours_synced (caller_of s d objects) (whats.Deq object)) colour shown (ap object_colours at) is.0) (asks kept is.1 is.2) r.1
@@ -204,12 +192,12 @@ module _ (s : Store) (c d : Client) (on : RestsOn s c d) (answer : Answer) where
         (hides log r.0 after (none_hidden colour log (caller_of s d objects) r.0 after r.2.1)))
     refused (faults.Unread stamp sync_faults.NoMemory) is far =
         gives_by s c d on objects (whats.Deq object) (answers.UnreadNoMemory stamp)
-        (StandsThen is.0 dequeue_text stamp (HidesOne colour)) (λ kept. (refl, refl)) (inl refl) far is.2
+        (StandsThen is.0 dequeue_text stamp (HidesOne colour)) (inl refl) far is.2
         (λ log kept after r. explains_unread_without log (caller_of s d objects) kept (whats.Deq object) is.0 dequeue_text stamp r.0 after refl
         (asks kept is.0 is.1) r.1 (hides log r.0 after r.2))
     refused faults.NoTx is far = absurd is
     refused faults.NoMemory is far =
-        gives_none s c d on objects (whats.Deq object) (λ kept. (refl, refl)) (inl refl) is
+        gives_none s c d on objects (whats.Deq object) (inl refl) is
 
     by : (call : Result (Value × Appended × Synced) ObjectFault)
         → IfOk call (λ r. (p : Point) → r.1.stood.points ≡ p ∷ []
@@ -221,14 +209,13 @@ module _ (s : Store) (c d : Client) (on : RestsOn s c d) (answer : Answer) where
     by (Ok r) took shown tells ok err =
         subst (λ (a : Answer). GivesOf s objects c d (whats.Deq object) a []) (sym (took ok.point ok.point_is))
         (gives_by s c d on objects (whats.Deq object) (answers.Took r.0 (piece_of ok.point) (sync_piece r.2))
-        (TakesAs ok.set r.1 ok.point r.2 r.0) (λ kept. (refl, refl)) (inl refl)
-        (λ far. absurd (let e = tells (λ own. (subst (IsAway (caller_of s d objects)) (ap object_home at) far) (on.same.1 ∙ own)) in
-        let f : ⊥ = cc (e) in f))
-        ok.explained
+        (TakesAs ok.set r.1 ok.point r.2 r.0) (inl refl)
+        (away_from s c d on objects (whats.Deq object) home (Ok r) _ (ap object_home at) tells tt) ok.explained
         (λ log kept after r'. subst (λ (k : Kept). Explains log (caller_of s d objects) kept (whats.Deq object)
         (answers.Took r.0 (piece_of ok.point) (sync_piece r.2)) [] k) (sym r'.4)
         (explains_take log (caller_of s d objects) kept (whats.Deq object) ok.set dequeue_text r.1.stood.key.stamp (piece_of ok.point) (sync_piece r.2) r.0
         r'.0 refl (ok.synced ∙ sym ok.point_there) (asks kept ok.set ok.members_are) r'.1 r'.2 r'.3)))
     by (Err fault) took shown tells ok err =
         subst (λ (a : Answer). GivesOf s objects c d (whats.Deq object) a []) (sym shown)
-        (refused fault err (away (Err fault) fault tells refl))
+        (refused fault err
+        (away_from s c d on objects (whats.Deq object) home (Err fault) (fault_answer fault) (ap object_home at) tells refl))

@@ -11,7 +11,7 @@ use Rattle.script_text.specs.declared.script.Kind.{Kind}
 use Rattle.script_text.specs.declared.script.Kind.TheVariants as kinds
 use Rattle.script_text.specs.declared.script.What.TheVariants as whats
 use Rattle.report_text.specs.declared.report.Answer.{Answer}
-use Rattle.lawful_run.specs.Asks.{keys_of, object_colours, object_home, put_form, shards}
+use Rattle.lawful_run.specs.Asks.{keys_of_pairs, object_colours, object_home, put_form, shards}
 use Rattle.lawful_run.proofs.CallerLemmas.{one_shard}
 use Rattle.append_core.specs.declared.stood.Point.{Point}
 use Rattle.log_client.specs.declared.store.Store.{Store}
@@ -19,7 +19,7 @@ use Rattle.log_client.specs.declared.client.Client.{Client}
 use Rattle.log_client.specs.declared.answers.Appended.{Appended}
 use Rattle.log_client.specs.declared.object_fault.ObjectFault.{ObjectFault}
 use Rattle.log_client.specs.declared.object_fault.ObjectFault.TheVariants as faults
-use Rattle.log_client.specs.Objects.{AreColours, PutRefused, StandsIn}
+use Rattle.log_client.specs.Objects.{HasColoursOf, PutRefused, StandsIn}
 use Rattle.log_client.specs.Reading.{RestsOn}
 use Rattle.log_client.proofs.CallerLemmas.{shard_low}
 use Rattle.run_script.specs.Replying.{append_answer}
@@ -36,7 +36,7 @@ points_fit s c d colours text (Ok a) room ok fits =
 points_fit s c d colours text (Err fault) room ok fits = tt
 
 -- the one shard of a key
-pub shard_alone : (c : Client) (colours key : List ℕ) → AreColours c colours
+pub shard_alone : (c : Client) (colours key : List ℕ) → HasColoursOf c colours
     → shards colours (key ∷ []) ≡ shard_of colours key ∷ []
 shard_alone c colours key are =
     let low = shard_low colours key are.some are.few in one_shard colours key (omega (arith, low))
@@ -50,7 +50,7 @@ only_shard colour key low =
 
 module _ (s : Store) (c d : Client) (on : RestsOn s c d) (call : Result Appended ObjectFault) (answer : Answer)
     (shown : answer ≡ append_answer call) where
-  module _ (home : ℕ) (colours : List ℕ) (are : AreColours c colours)
+  module _ (home : ℕ) (colours : List ℕ) (are : HasColoursOf c colours)
       (tells : c.region ≢ home → call ≡ Err (faults.NotHome home)) (key : List ℕ) where
     pub gives_map_put : (value : List ℕ)
         → IfOk call (StandsIn s c d (shard_of colours key ∷ []) (form_text (forms.Put key value)))
@@ -58,7 +58,7 @@ module _ (s : Store) (c d : Client) (on : RestsOn s c d) (call : Result Appended
         → GivesFor s c d (kinds.Map home colours) (λ object. whats.Put object key value) answer
     gives_map_put value ok err objects object at =
         subst (λ (a : Answer). GivesOf s objects c d (whats.Put object key value) a []) (sym shown)
-        (gives_put s c d on objects (whats.Put object key value) (λ kept. (refl, refl)) refl (Some home)
+        (gives_put s c d on objects (whats.Put object key value) refl (Some home)
         (ap object_home at) (shard_of colours key ∷ []) (form_text (forms.Put key value))
         (λ kept set is. (
           is ∙ (sym (shard_alone c colours key are)
@@ -72,7 +72,7 @@ module _ (s : Store) (c d : Client) (on : RestsOn s c d) (call : Result Appended
         → GivesFor s c d (kinds.Map home colours) (λ object. whats.Del object key) answer
     gives_map_del ok err objects object at =
         subst (λ (a : Answer). GivesOf s objects c d (whats.Del object key) a []) (sym shown)
-        (gives_put s c d on objects (whats.Del object key) (λ kept. (refl, refl)) refl (Some home)
+        (gives_put s c d on objects (whats.Del object key) refl (Some home)
         (ap object_home at) (shard_of colours key ∷ []) (form_text (forms.Delete key))
         (λ kept set is. (
           is ∙ (sym (shard_alone c colours key are)
@@ -83,14 +83,14 @@ module _ (s : Store) (c d : Client) (on : RestsOn s c d) (call : Result Appended
 
   pub gives_map_put_all : (home : ℕ) (colours : List ℕ) (pairs : List Pair)
       → (c.region ≢ home → call ≡ Err (faults.NotHome home))
-      → IfOk call (StandsIn s c d (shards colours (keys_of pairs)) (form_text (forms.PutAll pairs)))
-      → IfErr call (PutRefused (Some home) s c d (shards colours (keys_of pairs)) (form_text (forms.PutAll pairs)))
+      → IfOk call (StandsIn s c d (shards colours (keys_of_pairs pairs)) (form_text (forms.PutAll pairs)))
+      → IfErr call (PutRefused (Some home) s c d (shards colours (keys_of_pairs pairs)) (form_text (forms.PutAll pairs)))
       → GivesFor s c d (kinds.Map home colours) (λ object. whats.PutAll object pairs) answer
   gives_map_put_all home colours pairs tells ok err objects object at =
       subst (λ (a : Answer). GivesOf s objects c d (whats.PutAll object pairs) a []) (sym shown)
-      (gives_put s c d on objects (whats.PutAll object pairs) (λ kept. (refl, refl)) refl (Some home)
-      (ap object_home at) (shards colours (keys_of pairs)) (form_text (forms.PutAll pairs))
-      (λ kept set is. (is ∙ ap (λ (k : Option Kind). shards (object_colours k) (keys_of pairs)) (sym at), refl))
+      (gives_put s c d on objects (whats.PutAll object pairs) refl (Some home)
+      (ap object_home at) (shards colours (keys_of_pairs pairs)) (form_text (forms.PutAll pairs))
+      (λ kept set is. (is ∙ ap (λ (k : Option Kind). shards (object_colours k) (keys_of_pairs pairs)) (sym at), refl))
       call (told_home c home call tells) ok err)
 
   pub gives_causal_put : (colour : ℕ) (key value : List ℕ) → colour < MAX_COLOURS
@@ -99,7 +99,7 @@ module _ (s : Store) (c d : Client) (on : RestsOn s c d) (call : Result Appended
       → GivesFor s c d (kinds.Causal colour) (λ object. whats.Put object key value) answer
   gives_causal_put colour key value low ok err objects object at =
       subst (λ (a : Answer). GivesOf s objects c d (whats.Put object key value) a []) (sym shown)
-      (gives_put s c d on objects (whats.Put object key value) (λ kept. (refl, refl)) refl None
+      (gives_put s c d on objects (whats.Put object key value) refl None
       (ap object_home at) (colour ∷ []) (form_text (forms.Causal key value))
       (λ kept set is. (
         is ∙ (sym (only_shard colour key low)
@@ -114,6 +114,6 @@ module _ (s : Store) (c d : Client) (on : RestsOn s c d) (call : Result Appended
       → GivesFor s c d (kinds.Queue home colour) (λ object. whats.Enq object value) answer
   gives_enq home colour value tells ok err objects object at =
       subst (λ (a : Answer). GivesOf s objects c d (whats.Enq object value) a []) (sym shown)
-      (gives_put s c d on objects (whats.Enq object value) (λ kept. (refl, refl)) refl (Some home)
+      (gives_put s c d on objects (whats.Enq object value) refl (Some home)
       (ap object_home at) (colour ∷ []) (form_text (forms.Enqueue value))
       (λ kept set is. (is ∙ ap object_colours (sym at), refl)) call (told_home c home call tells) ok err)

@@ -12,6 +12,7 @@ mod ReplyRoom
 mod GivingGets
 mod FewShown
 mod FewerRows
+mod GivingTold
 mod GivingReads
 mod ReadsFound
 mod ObjectFrames

@@ -1,5 +1,5 @@
 -- A client's objects while it is served: each stays open, and what is asked of one is answered by that one.
-use Rattle.std.proofs.Common.{◌≡◌, ◌⊎◌, ℕ, zero, suc, List, [], ◌∷◌, length, map, set, get_or, Some, None, slice_get, refl, ap, sym, subst, ◌∙◌, inl, inr, arith}
+use Rattle.std.proofs.Common.{◌≡◌, ◌⊎◌, ℕ, zero, suc, List, [], ◌∷◌, length, map, set, get_or, Some, slice_get, refl, ap, sym, subst, ◌∙◌, inl, inr, arith}
 use Rattle.std.specs.Prelude.{Bool, IsTrue, false, ◌<◌, ◌≤◌}
 use Rattle.std.specs.List.{All}
 use Rattle.std.proofs.lemmas.Simd.{map-map}
@@ -10,21 +10,18 @@ use Rattle.script_text.specs.Fitting.{HasObject, IsKindWithin, UsesOne, UsesObje
 use Rattle.script_text.specs.declared.script.Kind.{Kind}
 use Rattle.script_text.specs.declared.script.Kind.TheVariants as kinds
 use Rattle.script_text.specs.declared.script.Object.{Object}
-use Rattle.script_text.specs.declared.script.Command.{Command}
 use Rattle.script_text.specs.declared.script.What.{What}
+use Rattle.script_text.specs.declared.uses.ReadUse.TheVariants.{Leaves}
 use Rattle.script_text.specs.declared.uses.Use.{Use}
 use Rattle.script_text.specs.declared.uses.Use.TheVariants.{OfLog, OfObject}
 use Rattle.script_text.specs.Table.{is_of}
 use Rattle.script_text.specs.Uses.{use_of}
-use Rattle.script_text.specs.Words.{word_of}
 use Rattle.report_text.specs.declared.report.Answer.{Answer}
-use Rattle.report_text.specs.declared.report.ReplyLine.{ReplyLine}
-use Rattle.lawful_run.specs.Refusals.{kept_behind}
 use Rattle.script_meaning.specs.States.{kind_in}
 use Rattle.log_client.specs.declared.store.Store.{Store}
 use Rattle.log_client.specs.declared.client.Client.{Client}
 use Rattle.log_client.specs.Clients.{Finished, IsClient, tracks_of}
-use Rattle.log_client.specs.Objects.{AreColours}
+use Rattle.log_client.specs.Objects.{HasColoursOf}
 use Rattle.log_client.specs.Reading.{RestsOn}
 use Rattle.log_client.specs.StampedReads.{ReadsGoOn}
 use Rattle.log_map.proofs.CallerLemmas.{map_later}
@@ -34,16 +31,15 @@ use Rattle.atomic_map.proofs.CallerLemmas.{map_later as atomic_later}
 use Rattle.region_fold.proofs.CallerLemmas.{map_later as tx_later}
 use Rattle.run_script.specs.declared.serving.opened.Opened.{Opened}
 use Rattle.run_script.specs.declared.serving.opened.Opened.TheVariants as opened
-use Rattle.run_script.specs.Opened.{AreKept, AreOf, HasBy, HasCommand, IsKept, IsOfOne, IsUnfolded, StaysOpen, kind_opened, object_in, object_asked}
-use Rattle.run_script.specs.Serving.{Gives, GivesAll, GivesAt, GivesFor, GivesTo, IsAnswered}
+use Rattle.run_script.specs.Opened.{AreKept, AreOf, HasBy, HasCommand, IsOpenedOf, IsOfOne, IsUnfolded, StaysOpen, kind_opened, object_in, object_asked}
+use Rattle.run_script.specs.Serving.{ServesLog, ServesObject, GivesFor, GivesTo}
 use Rattle.run_script.proofs.ByPlace.{mapped, unmapped}
-use Rattle.run_script.proofs.GivingObjects.{LetsNoneGo}
-use Rattle.run_script.proofs.ReadsFound.{IsNoRead, finds_same, given_at}
+use Rattle.run_script.proofs.ReadsFound.{finds_same, given_at}
 
 -- THEY STAY OPEN
 
-pub kept_later : ReadsGoOn → (s : Store) (c d : Client) (x : Opened) → IsClient s c → RestsOn s c d → IsKept c x
-    → IsKept d x
+pub kept_later : ReadsGoOn → (s : Store) (c d : Client) (x : Opened) → IsClient s c → RestsOn s c d → IsOpenedOf c x
+    → IsOpenedOf d x
 kept_later law s c d (opened.Map single several) is on kept =
     (map_later s c d single is on kept.0, atomic_later law s c d on several is kept.1, kept.2, kept.3)
 kept_later law s c d (opened.Tx map found) is on kept = (tx_later law s c d on map is kept.0, kept.1)
@@ -56,10 +52,11 @@ all_later law s c d xs is on kept n x at = kept_later law s c d x is on (kept n 
 
 -- after a command of the log, of a client who has then finished
 pub kept_on : ReadsGoOn → (s : Store) (c d : Client) (what : What) (answer : Answer) (nodes : List PlacedNode)
-    (xs : List Opened) → IsClient s c → Gives s c d what answer nodes → AreKept c xs → Finished d → AreKept d xs
+    (xs : List Opened) → IsClient s c → ServesLog s c d what answer nodes → AreKept c xs → Finished d → AreKept d xs
 kept_on law s c d what answer nodes xs is v kept done =
+    let left = v.of [] in
     all_later law s c d xs is
-    (record { client = v.rests; same = v.same; goes = v.goes; grows = v.grows; finished = λ before. done }) kept
+    (record { client = left.rests; same = left.same; goes = left.goes; grows = left.grows; finished = λ before. done }) kept
 
 set_cases : (xs : List Opened) (n j : ℕ) (x y : Opened) → slice_get (set xs n x) j ≡ Some y
     → (x ≡ y) ⊎ (slice_get xs j ≡ Some y)
@@ -71,9 +68,9 @@ set_cases (z ∷ xs) (suc n) (suc j) x y e = set_cases xs n j x y e
 
 -- after a command of one of them
 pub kept_with : ReadsGoOn → (s : Store) (c d : Client) (xs : List Opened) (n : ℕ) (y : Opened) → IsClient s c
-    → RestsOn s c d → AreKept c xs → IsKept d y → AreKept d (set xs n y)
+    → RestsOn s c d → AreKept c xs → IsOpenedOf d y → AreKept d (set xs n y)
 kept_with law s c d xs n y is on kept new j x at = elim (set_cases xs n j y x at) [
-  | inl same ↦ subst (IsKept d) same new
+  | inl same ↦ subst (IsOpenedOf d) same new
   | inr old ↦ kept_later law s c d x is on (kept j x old)
 ]
 
@@ -103,7 +100,7 @@ kept_unfolded c regions colours objects xs long few within of unfolded n x at =
 
 -- the colours of a map, and of an object of one colour
 pub map_colours : (c : Client) (regions home : ℕ) (colours : List ℕ) → length (tracks_of c) ≤ MAX_COLOURS
-    → IsKindWithin regions (length (tracks_of c)) (kinds.Map home colours) → AreColours c colours
+    → IsKindWithin regions (length (tracks_of c)) (kinds.Map home colours) → HasColoursOf c colours
 map_colours c regions home colours few within = record {
   some = let some = within.1.some in omega (arith, some);
   within = within.1.below;
@@ -174,48 +171,18 @@ some_objects xs = (
 pub gives_asked : (s : Store) (c d : Client) (x y : Opened) (what : What) (asks : ℕ → What) (n : ℕ) (answer : Answer)
     → what ≡ asks n → ((k : ℕ) → object_asked (asks k) ≡ Some k) → GivesTo s c d x y asks answer
     → (objects : List Object) (object : ℕ) → object_asked what ≡ Some object
-    → kind_in objects object ≡ Some (kind_opened x) → GivesAt s objects c d object x y what answer
+    → kind_in objects object ≡ Some (kind_opened x) → ServesObject s objects c d object x y what answer
 gives_asked s c d x y what asks n answer is numbered gives objects object asked at =
     let same = named n object (sym (numbered n) ∙ (sym (ap object_asked is) ∙ asked)) in
-    subst (λ (w : What). GivesAt s objects c d object x y w answer) (sym (is ∙ ap asks same)) (gives objects object at)
+    subst (λ (w : What). ServesObject s objects c d object x y w answer) (sym (is ∙ ap asks same)) (gives objects object at)
 
 -- the same of a command that neither lets a read go nor uses it up, of an object that has none
 pub gives_unread : (s : Store) (c d : Client) (x y : Opened) (what : What) (asks : ℕ → What) (n : ℕ) (answer : Answer)
-    → what ≡ asks n → ((k : ℕ) → object_asked (asks k) ≡ Some k) → ((k : ℕ) → LetsNoneGo (asks k))
-    → ((k : ℕ) → IsNoRead (asks k)) → is_tx (kind_opened x) ≡ false → StaysOpen d x y
+    → what ≡ asks n → ((k : ℕ) → use_of (asks k) ≡ OfObject k Leaves) → is_tx (kind_opened x) ≡ false → StaysOpen d x y
     → GivesFor s c d (kind_opened x) asks answer
     → (objects : List Object) (object : ℕ) → object_asked what ≡ Some object
-    → kind_in objects object ≡ Some (kind_opened x) → GivesAt s objects c d object x y what answer
-gives_unread s c d x y what asks n answer is numbered none other no_tx stays gives =
-    gives_asked s c d x y what asks n answer is numbered (λ objects object at.
-    given_at s objects c d object x y (asks object) answer (none object) (other object) (finds_same x y no_tx stays.0)
+    → kind_in objects object ≡ Some (kind_opened x) → ServesObject s objects c d object x y what answer
+gives_unread s c d x y what asks n answer is uses no_tx stays gives =
+    gives_asked s c d x y what asks n answer is (λ k. ap object_in (uses k)) (λ objects object at.
+    given_at s objects c d object x y (asks object) answer (uses object) (finds_same x y no_tx stays.0)
     (gives objects object at))
-
--- what is given to a command is its reply
-pub given_answers : (s : Store) (objects : List Object) (c d : Client) (xs ys : List Opened) (command : Command)
-    (reply : ReplyLine) → reply.line ≡ command.line → reply.word ≡ word_of command.what
-    → GivesAll s objects c d xs ys command.what reply.answer reply.nodes → IsAnswered s objects c d xs ys command reply
-given_answers s objects c d xs ys command reply line word v = record {
-  rests = v.rests;
-  same = v.same;
-  goes = v.goes;
-  explained = λ kept done keeps knows.
-      let e = v.explained kept done keeps knows in (
-        kept_behind command.what e.0,
-        e.1,
-        λ rest fits.
-            let r = e.2 rest fits in (
-              record {
-                line = line;
-                word = word;
-                answered = e.0;
-                explained = r.0;
-                after_is = refl;
-                away = v.away;
-              },
-              r.1,
-            ),
-      );
-  finished = v.finished;
-  helps = v.helps;
-}

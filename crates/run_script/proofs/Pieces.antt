@@ -7,7 +7,7 @@ use Rattle.std.specs.Iterator.Adapters.{flatten_steps}
 use Rattle.std.proofs.lemmas.Iterator.{YieldsList}
 use Rattle.std.proofs.lemmas.Iterator.Adapters.{YieldsList-from_flatten, YieldsList-from_vec}
 use Rattle.script_text.specs.declared.script.Command.{Command}
-use Rattle.script_beside.specs.Dealt.{commands_in}
+use Rattle.script_beside.specs.Dealt.{share_commands}
 
 abbrev Piece : Type 0
 Piece = Vec Command Global
@@ -27,7 +27,7 @@ pub all_pieces : {becomes : Piece → Commands → Type 0} (t u : Flatten Pieces
     → flat.back ≡ None → flat.done ≡ false → {moved pieces : Vec Piece Global} → moved ≡ pieces
     → source.rest.items ≡ moved.items → source.rest.len ≡ moved.len
     → YieldsList (flatten_steps (into_iter_steps {X = Piece} {Z = Global}) becomes (into_iter_steps {X = Command} {Z = Global}))
-    (λ x. x) s (commands_in pieces.items)
+    (λ x. x) s (share_commands pieces.items)
 all_pieces {becomes} t u r step each {s} same {source} of front back done {moved} {pieces} is items len =
     YieldsList-from_flatten becomes (into_iter_steps {X = Command} {Z = Global}) (λ x. x) (λ (p : Piece). p.items)
     (λ x j b. YieldsList-from_vec {s = j} x.items (each x j b).0 (each x j b).1)

@@ -6,6 +6,7 @@ use Rattle.std.proofs.lemmas.Option.{get_or_from_slice_get, slice_get_within}
 use Rattle.log_node.specs.declared.forms.Version.{Version}
 use Rattle.log_node.specs.Seen.{PlacedNode}
 use Rattle.col_core.specs.Keeping.{Kept, nothing_kept}
+use Rattle.col_core.specs.Log.{Log}
 use Rattle.col_core.proofs.CallerLemmas.{apart}
 use Rattle.world_laws.proofs.CallerLemmas.{at_updated}
 use Rattle.script_text.specs.Fitting.{is_any_map, is_map, is_queue, is_tx}
@@ -14,21 +15,25 @@ use Rattle.script_text.specs.declared.script.Kind.TheVariants as kinds
 use Rattle.script_text.specs.declared.script.Object.{Object}
 use Rattle.script_text.specs.declared.script.What.{What}
 use Rattle.script_text.specs.declared.script.What.TheVariants as whats
+use Rattle.script_text.specs.declared.uses.ReadUse.TheVariants.{Leaves}
+use Rattle.script_text.specs.declared.uses.Use.{Use}
+use Rattle.script_text.specs.declared.uses.Use.TheVariants.{OfObject}
+use Rattle.script_text.specs.Uses.{use_of}
 use Rattle.report_text.specs.declared.report.Answer.{Answer}
+use Rattle.lawful_run.specs.Callers.{Caller}
 use Rattle.lawful_run.specs.Explains.{Explains}
-use Rattle.lawful_run.specs.Refusals.{kept_before, kept_behind}
+use Rattle.lawful_run.specs.Refusals.{before_by, behind_by, kept_before, kept_behind}
 use Rattle.lawful_run.proofs.CallerLemmas.{explained_keeps}
-use Rattle.client_law.specs.Knowing.{log_of}
+use Rattle.client_law.specs.Knowing.{log_seen}
 use Rattle.log_client.specs.declared.store.Store.{Store}
 use Rattle.log_client.specs.declared.client.Client.{Client}
-use Rattle.log_client.specs.Clients.{Keeps, caller_of, holds_of, seen_of}
-use Rattle.log_client.proofs.CallerLemmas.{fits_less}
+use Rattle.log_client.specs.Clients.{caller_of, seen_of}
 use Rattle.run_script.specs.declared.serving.opened.Opened.{Opened}
 use Rattle.run_script.specs.declared.serving.opened.Opened.TheVariants as opened
 use Rattle.run_script.specs.Opened.{HaveReads, IsUnfolded, KeepsReadsBut, found_in, kind_opened, versions_in}
-use Rattle.run_script.specs.Serving.{Gives, GivesAll, GivesAt, GivesOf}
+use Rattle.run_script.specs.Serving.{ServesLog, GivesAll, ServesObject, GivesOf, KnowsRead, KnowsReads}
 use Rattle.run_script.proofs.CommandAnswers.{IsOfLog, of_log}
-use Rattle.run_script.proofs.GivingObjects.{LetsNoneGo}
+use Rattle.run_script.proofs.Giving.{knowing}
 
 -- WHERE NOTHING IS FOUND
 
@@ -102,83 +107,48 @@ IsNoRead what = (object : ℕ) (asked : List (List ℕ)) → what ≢ whats.Read
 no_read : (what : What) → IsOfLog what → IsNoRead what
 no_read what of object asked is = let f : ⊥ = cc (subst IsOfLog is of) in f
 
--- of an object, which neither lets a read go nor uses it up
-pub given_at : (s : Store) (objects : List Object) (c d : Client) (object : ℕ) (x y : Opened) (what : What)
-    (answer : Answer) → LetsNoneGo what → IsNoRead what → versions_in y ≡ versions_in x
-    → GivesOf s objects c d what answer [] → GivesAt s objects c d object x y what answer
-given_at s objects c d object x y what answer none other same v = record {
-  rests = v.rests;
-  same = v.same;
-  goes = v.goes;
-  explained = λ kept done keeps knows.
-      let e = v.explained kept done keeps in (
-        e.0,
-        e.1,
-        λ rest fits. (
-          e.2 rest fits,
-          keeps_but object (versions_in y) kept (kept_behind what e.0)
-              (knows rest (fits_less (holds_of c) (holds_of d) rest v.goes fits) ∙ sym same)
-              (ap (λ (k : Kept). k.reads) (none e.0).1
-              ∙ (explained_keeps (log_of (seen_of d) rest) (caller_of s d objects) (kept_before what kept) what answer [] e.0
-              (e.2 rest fits) (inl other)
-              ∙ ap (λ (k : Kept). k.reads) (none kept).0)),
-        ),
-      );
-  away = v.away;
-  finished = v.finished;
-  helps = v.helps;
-}
+-- the command neither lets a read go nor uses it up
+abbrev LetsNoneGo : What → Type 0
+LetsNoneGo what = (kept : Kept) → (kept_before what kept ≡ kept) × (kept_behind what kept ≡ kept)
 
--- of the log, whatever the objects
-pub given_by_log : (s : Store) (objects : List Object) (c d : Client) (xs : List Opened) (what : What) (answer : Answer)
-    (nodes : List PlacedNode) → IsOfLog what → Gives s c d what answer nodes
-    → GivesAll s objects c d xs xs what answer nodes
-given_by_log s objects c d xs what answer nodes of v = record {
-  rests = v.rests;
-  same = v.same;
-  goes = v.goes;
-  explained = λ kept done keeps knows.
-      let e = v.explained objects kept done keeps in
-      let behind = (of_log what e.0 of).1 in (
-        e.0,
-        subst (Keeps s d objects) (sym behind) e.1,
-        λ rest fits. (
-          subst (λ (k : Kept). Explains (log_of (seen_of d) rest) (caller_of s d objects) k what answer nodes e.0)
-              (sym (of_log what kept of).0) (e.2 rest fits),
-          λ n. ap (λ (k : Kept). k.reads n) behind
-              ∙ (ap (λ (reads : ℕ → Option (List Version)). reads n)
-              (explained_keeps (log_of (seen_of d) rest) (caller_of s d objects) kept what answer nodes e.0
-              (e.2 rest fits) (inl (no_read what of)))
-              ∙ knows rest (fits_less (holds_of c) (holds_of d) rest v.goes fits) n),
-        ),
-      );
-  away = λ away. absurd ((of_log what nothing_kept of).2 (caller_of s d objects) away);
-  finished = v.finished;
-  helps = v.helps;
-}
+-- after such a command what was found by reads stays
+reads_stay : (log : Log) (caller : Caller) (what : What) (answer : Answer) (nodes : List PlacedNode) (kept answered : Kept)
+    → LetsNoneGo what → IsNoRead what → Explains log caller (kept_before what kept) what answer nodes answered
+    → (kept_behind what answered).reads ≡ kept.reads
+reads_stay log caller what answer nodes kept answered none other explains =
+    ap (λ (k : Kept). k.reads) (none answered).1
+    ∙ (explained_keeps log caller (kept_before what kept) what answer nodes answered explains (inl other)
+    ∙ ap (λ (k : Kept). k.reads) (none kept).0)
 
--- ALL OBJECTS
+module _ (s : Store) (objects : List Object) (c d : Client) where
+  -- of an object, which neither lets a read go nor uses it up
+  pub given_at : (object : ℕ) (x y : Opened) (what : What) (answer : Answer) → use_of what ≡ OfObject object Leaves
+      → versions_in y ≡ versions_in x → GivesOf s objects c d what answer [] → ServesObject s objects c d object x y what answer
+  given_at object x y what answer uses same v =
+      knowing s objects c d what answer [] (KnowsRead c object x) (KeepsReadsBut object (versions_in y)) v
+      (λ kept knows. tt)
+      (λ kept answered rest knows fits explains left.
+      keeps_but object (versions_in y) kept (kept_behind what answered) (knows rest fits ∙ sym same)
+      (reads_stay (log_seen (seen_of d) rest) (caller_of s d objects) what answer [] kept answered
+      (λ k. (ap (λ (u : Use). before_by u k) uses, ap (λ (u : Use). behind_by u k) uses))
+      (λ n keys is. let two = sym uses ∙ ap use_of is in let f : ⊥ = cc (two) in f) explains))
 
--- to a command of one of the objects, which then is another
-pub given_of_one : (s : Store) (objects : List Object) (c d : Client) (xs : List Opened) (n : ℕ) (x y : Opened) (what : What)
-    (answer : Answer) → slice_get xs n ≡ Some x → GivesAt s objects c d n x y what answer
-    → GivesAll s objects c d xs (set xs n y) what answer []
-given_of_one s objects c d xs n x y what answer at v = record {
-  rests = v.rests;
-  same = v.same;
-  goes = v.goes;
-  explained = λ kept done keeps knows.
-      let e = v.explained kept done keeps (λ rest fits. knows rest fits n ∙ ap found_in at) in (
-        e.0,
-        e.1,
-        λ rest fits.
-            let r = e.2 rest fits in (
-              r.0,
-              reads_with xs n x y kept (kept_behind what e.0) at
-                  (knows rest (fits_less (holds_of c) (holds_of d) rest v.goes fits)) r.1,
-            ),
-      );
-  away = v.away;
-  finished = v.finished;
-  helps = v.helps;
-}
+  -- of the log, whatever the objects
+  pub given_by_log : (xs : List Opened) (what : What) (answer : Answer) (nodes : List PlacedNode) → IsOfLog what
+      → ServesLog s c d what answer nodes → GivesAll s objects c d xs xs what answer nodes
+  given_by_log xs what answer nodes of v =
+      knowing s objects c d what answer nodes (KnowsReads c xs) (λ kept. HaveReads xs) (v.of objects) (λ kept knows. tt)
+      (λ kept answered rest knows fits explains left n.
+      ap (λ (reads : ℕ → Option (List Version)). reads n)
+      (reads_stay (log_seen (seen_of d) rest) (caller_of s d objects) what answer nodes kept answered
+      (λ k. let same = of_log what k of in (same.0, same.1)) (no_read what of) explains)
+      ∙ knows rest fits n)
+
+  -- to a command of one of the objects, which then is another
+  pub given_of_one : (xs : List Opened) (n : ℕ) (x y : Opened) (what : What) (answer : Answer) → slice_get xs n ≡ Some x
+      → ServesObject s objects c d n x y what answer → GivesAll s objects c d xs (set xs n y) what answer []
+  given_of_one xs n x y what answer at v =
+      knowing s objects c d what answer [] (KnowsReads c xs) (λ kept. HaveReads (set xs n y)) v
+      (λ kept knows rest fits. knows rest fits n ∙ ap found_in at)
+      (λ kept answered rest knows fits explains left.
+      reads_with xs n x y kept (kept_behind what answered) at (knows rest fits) left)

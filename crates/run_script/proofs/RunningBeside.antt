@@ -14,7 +14,7 @@ use Rattle.script_text.specs.declared.script.Command.{Command}
 use Rattle.script_text.specs.declared.script.Script.{Script}
 use Rattle.script_text.specs.Fitting.{IsWithin}
 use Rattle.script_beside.specs.declared.dealt.DealtScript.{DealtScript}
-use Rattle.script_beside.specs.Dealt.{commands_in}
+use Rattle.script_beside.specs.Dealt.{share_commands}
 use Rattle.report_text.specs.declared.report.Report.{Report}
 use Rattle.report_text.specs.declared.report.ReplyLine.{ReplyLine}
 use Rattle.lawful_run.specs.Callers.{commands_of}
@@ -26,7 +26,7 @@ use Rattle.log_client.specs.Closes.{AreClients}
 use Rattle.log_client.specs.Opening.{AreNewClients}
 use Rattle.run_script.specs.declared.serving.opened.Opened.{Opened}
 use Rattle.run_script.specs.declared.serving.served.Served.{Served}
-use Rattle.run_script.specs.Dealing.{AreFew, AreIdle, IsIdle}
+use Rattle.run_script.specs.Dealing.{AreFewCommands, AreIdle, IsIdle}
 use Rattle.run_script.specs.Opened.{AreOf}
 use Rattle.run_script.specs.Running.{CanRun}
 use Rattle.run_script.specs.Served.{CanServe, IsServable, IsServed, IsServedIfDone}
@@ -61,14 +61,14 @@ module _ (script : Script) (dealt : DealtScript) (can : CanRun script dealt) (s 
       subst (λ (cs : List Client). slice_get cs n ≡ Some x.client) idle.clients_are
       (mapped (λ (y : Served). y.client) before n x at)
 
-  commands_at : (n : ℕ) (x : Served) → slice_get before n ≡ Some x → commands_in x.commands.items ≡ commands_of script n
+  commands_at : (n : ℕ) (x : Served) → slice_get before n ≡ Some x → share_commands x.commands.items ≡ commands_of script n
   commands_at n x at =
       can.is.each n x.commands
       (subst (λ (shares : List (Vec (Vec Command Global) Global)). slice_get shares n ≡ Some x.commands) idle.shares_are
       (mapped (λ (y : Served). y.commands) before n x at))
 
   -- no client has more commands than the script
-  few_at : (n : ℕ) (x : Served) → slice_get before n ≡ Some x → AreFew x.commands.items
+  few_at : (n : ℕ) (x : Served) → slice_get before n ≡ Some x → AreFewCommands x.commands.items
   few_at n x at =
       let own : Command → Bool = λ c. c.client == n in
       let is = ap (λ (l : List Command). length l) (commands_at n x at) in

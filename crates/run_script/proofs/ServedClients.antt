@@ -16,6 +16,7 @@ use Rattle.lawful_run.specs.Asks.{may_help}
 use Rattle.lawful_run.specs.Deeds.{manner_of}
 use Rattle.lawful_run.specs.Callers.{Caller, commands_of}
 use Rattle.lawful_run.specs.Explains.{start}
+use Rattle.lawful_run.specs.Refusals.{kept_behind}
 use Rattle.client_law.specs.Kept.{IsKeptBy}
 use Rattle.client_law.specs.Knowing.{IsExplainedBy}
 use Rattle.client_law.proofs.CallerLemmas.{replies_last}
@@ -23,8 +24,8 @@ use Rattle.script_meaning.specs.States.{StopsAreLast}
 use Rattle.log_client.specs.declared.client.Client.{Client}
 use Rattle.log_client.specs.declared.store.Store.{Store}
 use Rattle.log_client.specs.Calls.{IsSame}
-use Rattle.log_client.specs.Clients.{Finished, Helps, caller_of, holds_of, rows_of, seen_of}
-use Rattle.log_client.specs.Fits.{Fits}
+use Rattle.log_client.specs.Clients.{Finished, Helps, caller_of, holds_of, nodes_of_rows, seen_of}
+use Rattle.log_client.specs.Fits.{FitsHolds}
 use Rattle.log_client.specs.Forgetting.{HasForgotten}
 use Rattle.log_client.specs.Opening.{IsNewClient}
 use Rattle.log_client.proofs.CallerLemmas.{client_sees_on, fits_less, rests_forgotten, same_caller}
@@ -68,17 +69,26 @@ pub serves_next : (s : Store) (objects : List Object) (c d : Client) (xs ys : Li
     → IsAnswered s objects c d xs ys command reply
     → Serves s objects d ys (done ++ command ∷ []) (replies ++ reply ∷ [])
 serves_next s objects c d xs ys done replies command reply v finished a =
-    let e = a.explained v.kept finished v.keeps v.reads in record {
-      rests = a.rests;
-      kept = e.0;
+    let left = a.2 in
+    let e = left.explained v.kept finished v.keeps v.reads in record {
+      rests = left.rests;
+      kept = kept_behind command.what e.0;
       keeps = e.1;
-      explained = replies_last (seen_of c) (seen_of d) (Fits (holds_of c)) (Fits (holds_of d)) (caller_of s d objects) done
-          replies v.kept e.0 command reply (client_sees_on s c d objects a.rests a.goes)
-          (λ rest fits. fits_less (holds_of c) (holds_of d) rest a.goes fits)
-          (subst (λ (who : Caller). IsExplainedBy (seen_of c) (Fits (holds_of c)) who done replies v.kept)
-          (same_caller s c d objects a.same) v.explained) (λ rest fits. (e.2 rest fits).0);
+      explained = replies_last (seen_of c) (seen_of d) (FitsHolds (holds_of c)) (FitsHolds (holds_of d)) (caller_of s d objects) done
+          replies v.kept (kept_behind command.what e.0) command reply (client_sees_on s c d objects left.rests left.goes)
+          (λ rest fits. fits_less (holds_of c) (holds_of d) rest left.goes fits)
+          (subst (λ (who : Caller). IsExplainedBy (seen_of c) (FitsHolds (holds_of c)) who done replies v.kept)
+          (same_caller s c d objects left.same) v.explained)
+          (λ rest fits. record {
+            line = a.0;
+            word = a.1;
+            answered = e.0;
+            explained = (e.2 rest fits).0;
+            after_is = refl;
+            away = left.away;
+          });
       reads = λ rest fits. (e.2 rest fits).1;
-      finished = elim (a.finished finished) [
+      finished = elim (left.finished finished) [
         | inl still ↦ inl still
         | inr stop ↦ inr (record {
           before = done;
@@ -91,7 +101,7 @@ serves_next s objects c d xs ys done replies command reply v finished a =
           stopped = stop.1;
         })
       ];
-      helps = λ helps. elim (a.helps helps) [
+      helps = λ helps. elim (left.helps helps) [
         | inl before ↦ may_help_more done command (v.helps before)
         | inr may ↦ may_help_last done command may
       ];
@@ -121,8 +131,8 @@ forgotten s objects c d commands replies v f =
       kept = v.kept;
       by = subst (λ (x : Client). IsKeptBy (seen_of x) (caller_of s x objects) v.kept) is v.by;
       ids = subst (λ (x : Client). v.kept.ids ≡ x.count) is v.ids;
-      rows = subst (λ (x : Client). v.kept.rows ≡ length (rows_of x)) is v.rows;
-      explained = subst (λ (x : Client). IsExplainedBy (seen_of x) (Fits (holds_of x)) (caller_of s x objects) commands replies
+      rows = subst (λ (x : Client). v.kept.rows ≡ length (nodes_of_rows x)) is v.rows;
+      explained = subst (λ (x : Client). IsExplainedBy (seen_of x) (FitsHolds (holds_of x)) (caller_of s x objects) commands replies
           v.kept) is v.explained;
       finished = subst (λ (x : Client). Finished x ⊎ HasStopped commands replies) is v.finished;
       helps = subst (λ (x : Client). Helps x → MayHelp commands) is v.helps;

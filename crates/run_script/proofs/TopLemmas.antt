@@ -15,7 +15,7 @@ use Rattle.run_script.specs.declared.asked.Asked.{Asked}
 use Rattle.run_script.specs.declared.status.Status.{Status}
 use Rattle.run_script.specs.declared.status.Status.TheVariants.{Done, BadWords, Refused, ReadFault, WriteFault, NoMemory}
 use Rattle.run_script.specs.Refusals.{IsTheScript, IsRefusedFor, IsAScript}
-use Rattle.run_script.specs.TopCall.{IsRunOf, IsRunText, IsRefusalText, Writes, WritesFront, Shows, ShowsFront}
+use Rattle.run_script.specs.TopCall.{IsRunOf, IsRunText, IsRefusalText, WritesWhole, WritesFront, Shows, ShowsFront}
 
 -- the beginning of a text is the beginning of it and of the rest
 cut_text : (P : List ℕ → Type 0) (n : ℕ) (text : List ℕ) → P text → P (take n text ++ drop n text)
@@ -23,7 +23,7 @@ cut_text P n text p = subst P (sym (take-append-drop n text)) p
 
 -- a refusal of bytes, by its reason
 pub refusal_written : (bytes : List ℕ) (old new : Option (List ℕ)) (line : ℕ) (why : Reason) → IsRefusedFor bytes line why
-    → Appends old new (refusal_bytes line (reason_text why)) → Writes IsRefusalText (Some bytes) old new
+    → Appends old new (refusal_bytes line (reason_text why)) → WritesWhole IsRefusalText (Some bytes) old new
 refusal_written bytes old new line why is out = (
   bytes,
   refusal_bytes line (reason_text why),
@@ -47,7 +47,7 @@ refusal_begun asked bytes old new line why is out =
 
 -- a run of the script that the bytes are, done as the words ask
 pub run_written : (asked did : Asked) (bytes : List ℕ) (old new : Option (List ℕ)) (script : Script) → asked ≡ did
-    → IsTheScript bytes script → Shows did script old new → Writes (IsRunText asked) (Some bytes) old new
+    → IsTheScript bytes script → Shows did script old new → WritesWhole (IsRunText asked) (Some bytes) old new
 run_written asked did bytes old new script same is (report, run, out) = (
   bytes,
   report_bytes report,
@@ -87,7 +87,7 @@ told (Some all) read bytes shown same is e = sym same ∙ (sym is ∙ e)
 
 -- what is said of the bytes that were read is said of those that were left
 pub written_of : (IsText : List ℕ → List ℕ → Type 0) (read bytes : List ℕ) (left old new : Option (List ℕ))
-    → bytes ≡ read → IfSome left (λ all. read ≡ all) → Writes IsText (Some bytes) old new → Writes IsText left old new
+    → bytes ≡ read → IfSome left (λ all. read ≡ all) → WritesWhole IsText (Some bytes) old new → WritesWhole IsText left old new
 written_of IsText read bytes left old new is same w = (w.0, w.1, told left read bytes w.0 same is w.2, w.3, w.4)
 
 pub begun_of : (asked : Asked) (read bytes : List ℕ) (left old new : Option (List ℕ))
@@ -112,7 +112,7 @@ many_bytes None long = let m = more_than (2 ^ 20) in (m.0, m.1, tt)
 many_bytes (Some all) long = (all, long, refl)
 
 pub too_long_written : (left old new : Option (List ℕ)) → IfSome left (λ all. 2 ^ 20 < length all)
-    → Appends old new (refusal_bytes 0 (reason_text ScriptTooLong)) → Writes IsRefusalText left old new
+    → Appends old new (refusal_bytes 0 (reason_text ScriptTooLong)) → WritesWhole IsRefusalText left old new
 too_long_written left old new long out =
     let m = many_bytes left long in
     written_of IsRefusalText m.0 m.0 left old new refl m.2
@@ -126,7 +126,7 @@ too_long_begun asked left old new long out =
     (refusal_begun asked m.0 old new 0 ScriptTooLong (too_long m.0 m.1) out)
 
 -- a script is not refused
-pub script_not_refused : (left old new : Option (List ℕ)) → IsAScript left → Writes IsRefusalText left old new → ⊥
+pub script_not_refused : (left old new : Option (List ℕ)) → IsAScript left → WritesWhole IsRefusalText left old new → ⊥
 script_not_refused None old new (bytes, script, e, is) w = let g : ⊥ = cc in g
 script_not_refused (Some all) old new (bytes, script, e, is) (shown, text, same, refused, out) =
     refused.refused.none script (subst (λ b. IsScript b script) (some_is e ∙ same) is) where
@@ -135,7 +135,7 @@ script_not_refused (Some all) old new (bytes, script, e, is) (shown, text, same,
 
 -- with no fault and a script, it is done or memory was refused
 pub completes : (status : Status) (left old new : Option (List ℕ)) (read_fault write_fault : Type 0)
-    → (status ≢ BadWords) → (status ≡ Refused → Writes IsRefusalText left old new)
+    → (status ≢ BadWords) → (status ≡ Refused → WritesWhole IsRefusalText left old new)
     → (status ≡ ReadFault → read_fault) → (status ≡ WriteFault → write_fault)
     → (read_fault → ⊥) → (write_fault → ⊥) → IsAScript left → (status ≡ Done) ⊎ (status ≡ NoMemory)
 completes Done left old new r w no_words refused reading writing no_r no_w script = inl refl

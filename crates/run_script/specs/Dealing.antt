@@ -4,7 +4,7 @@ use Rattle.std.specs.Global.{Global}
 use Rattle.std.specs.List.{All}
 use Rattle.script_text.specs.declared.script.Command.{Command}
 use Rattle.script_text.specs.declared.script.Object.{Object}
-use Rattle.script_beside.specs.Dealt.{commands_in}
+use Rattle.script_beside.specs.Dealt.{share_commands}
 use Rattle.log_client.specs.declared.client.Client.{Client}
 use Rattle.run_script.specs.declared.serving.served.Served.{Served}
 use Rattle.run_script.specs.Opened.{AreOf, IsUnfolded}
@@ -23,5 +23,5 @@ pub record AreIdle (objects : List Object) (clients : List Client) (shares : Lis
   pub idle : All (IsIdle objects) served
 
 -- no more commands than a script has
-abbrev pub AreFew : List (Vec Command Global) → Type 0
-AreFew pieces = length (commands_in pieces) < 2 ^ 15
+abbrev pub AreFewCommands : List (Vec Command Global) → Type 0
+AreFewCommands pieces = length (share_commands pieces) < 2 ^ 15

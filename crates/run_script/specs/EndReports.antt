@@ -21,13 +21,15 @@ use Rattle.log_client.specs.declared.closed.Closed.{Closed}
 abbrev pub nodes_in : {Z : Type 0} → List (List (Arc Node Z)) → List (List Node)
 nodes_in {Z} lists = map (map (λ (shared : Arc Node Z). shared.value)) lists
 
-abbrev pub nodes_of : Closed → List (List Node)
-nodes_of closed = nodes_in closed.nodes
+-- the same of a store in the end
+abbrev pub closing_nodes : Closed → List (List Node)
+closing_nodes closed = nodes_in closed.nodes
 
 -- the node of a row, among those of all clients
 abbrev pub node_at : List (List Node) → Row → Option Node
 node_at nodes row = slice_get (slice_index_or nodes row.client []) row.number
 
+-- the id of a node that was found
 abbrev pub id_of : Option Node → Id
 id_of None = record { client = 0; count = 0 }
 id_of (Some x) = x.id
@@ -52,8 +54,8 @@ abbrev pub rows_shown : List (List Node) → ℕ × ClosedRegion → List RowRep
 rows_shown nodes e = map (row_shown nodes e.0) e.1.rows
 
 -- the columns of a region, where regions and colours have these names
-abbrev pub columns_shown : List (List ℕ) → List (List ℕ) → ClosedRegion → List ColumnReport
-columns_shown regions colours e = map (column_shown regions colours) e.columns
+abbrev pub region_shown : List (List ℕ) → List (List ℕ) → ClosedRegion → List ColumnReport
+region_shown regions colours e = map (column_shown regions colours) e.columns
 
 -- Under these names of regions and colours the store in the end can be shown: it has so many regions, their columns are of
 -- regions and colours that have names, and each row has its node.
@@ -61,17 +63,17 @@ pub record CanShow (regions colours : List (List ℕ)) (closed : Closed) : Type 
   pub many : length closed.regions ≡ length regions
   pub few : length regions ≤ MAX_REGIONS
   pub columns : (n : ℕ) (e : ClosedRegion) → slice_get closed.regions n ≡ Some e → All (HasNames regions colours) e.columns
-  pub rows : (n : ℕ) (e : ClosedRegion) → slice_get closed.regions n ≡ Some e → HaveNodes (nodes_of closed) e.rows
+  pub rows : (n : ℕ) (e : ClosedRegion) → slice_get closed.regions n ≡ Some e → HaveNodes (closing_nodes closed) e.rows
 
 -- the replies to a client, which stands at its number, under its name
-abbrev pub client_shown : List (List ReplyLine) → ℕ × List ℕ → ClientReport
-client_shown replies c = record { name = c.1; replies = slice_index_or replies c.0 [] }
+abbrev pub replies_shown : List (List ReplyLine) → ℕ × List ℕ → ClientReport
+replies_shown replies c = record { name = c.1; replies = slice_index_or replies c.0 [] }
 
 -- The report of a store that ended so: the replies to each client, the rows of each region, and all columns by region and
 -- colour.
 abbrev pub end_report : Script → Closed → List (List ReplyLine) → Report
 end_report script closed replies = record {
-  clients = map (client_shown replies) (enumerate_from 0 script.clients);
-  rows = flat_map (rows_shown (nodes_of closed)) (enumerate_from 0 closed.regions);
-  columns = flat_map (columns_shown script.regions script.colours) closed.regions;
+  clients = map (replies_shown replies) (enumerate_from 0 script.clients);
+  rows = flat_map (rows_shown (closing_nodes closed)) (enumerate_from 0 closed.regions);
+  columns = flat_map (region_shown script.regions script.colours) closed.regions;
 }

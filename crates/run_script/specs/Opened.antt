@@ -37,15 +37,16 @@ abbrev pub AreOf : List Object → List Opened → Type 0
 AreOf objects xs = map (λ (o : Object). o.kind) objects ≡ map kind_opened xs
 
 -- What is folded of an object is of what the client has played or read, and a commit may rest on what a read found.
-abbrev pub IsKept : Client → Opened → Type 0
-IsKept c (opened.Map single several) =
+abbrev pub IsOpenedOf : Client → Opened → Type 0
+IsOpenedOf c (opened.Map single several) =
     IsMapOf c single × IsAtomicMapOf c several × (several.home ≡ single.home) × (several.colours ≡ single.colours)
-IsKept c (opened.Tx map found) = IsTxMapOf c map × IfSome found (λ (t : Tx). AreVersions t.versions)
-IsKept c (opened.Causal of) = IsCausalMapOf c of
-IsKept c (opened.Queue of) = IsQueueOf c of
+IsOpenedOf c (opened.Tx map found) = IsTxMapOf c map × IfSome found (λ (t : Tx). AreVersions t.versions)
+IsOpenedOf c (opened.Causal of) = IsCausalMapOf c of
+IsOpenedOf c (opened.Queue of) = IsQueueOf c of
 
+-- the same of each of them
 abbrev pub AreKept : Client → List Opened → Type 0
-AreKept c xs = (n : ℕ) (x : Opened) → slice_get xs n ≡ Some x → IsKept c x
+AreKept c xs = (n : ℕ) (x : Opened) → slice_get xs n ≡ Some x → IsOpenedOf c x
 
 -- WHAT READS FOUND
 
@@ -76,27 +77,29 @@ abbrev pub IsUnfolded : Opened → Type 0
 IsUnfolded x =
     (versions_in x ≡ None)
     × ((c : Client) (regions : ℕ) → length (tracks_of c) ≤ MAX_COLOURS
-    → IsKindWithin regions (length (tracks_of c)) (kind_opened x) → IsKept c x)
+    → IsKindWithin regions (length (tracks_of c)) (kind_opened x) → IsOpenedOf c x)
 
 -- the client has gone on, and so has what is folded of the same object
 abbrev pub StaysOpen : Client → Opened → Opened → Type 0
-StaysOpen c x y = (kind_opened y ≡ kind_opened x) × IsKept c y
+StaysOpen c x y = (kind_opened y ≡ kind_opened x) × IsOpenedOf c y
 
 -- WHICH OBJECT IS ASKED
 
--- the number of the object that a command is of
+-- the number of the object that a row of uses names
 abbrev pub object_in : Use → Option ℕ
 object_in (OfLog stops) = None
 object_in (OfObject object read) = Some object
 
+-- the number of the object that a command is of
 abbrev pub object_asked : What → Option ℕ
 object_asked what = object_in (use_of what)
 
--- An object of this kind has the command, with keys and values that may be.
+-- A command with this row of uses is one that objects of this kind have, and its keys and values may be.
 abbrev pub HasBy : Kind → What → Use → Type 0
 HasBy kind what (OfLog stops) = ⊥
 HasBy kind what (OfObject object read) = IsTrue (is_of (kinds_asked what) kind) × HasWords what
 
+-- an object of this kind has the command
 abbrev pub HasCommand : Kind → What → Type 0
 HasCommand kind what = HasBy kind what (use_of what)
 

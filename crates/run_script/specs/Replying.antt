@@ -1,12 +1,13 @@
 -- What calls of objects are answered.
 use Rattle.std.specs.Prelude.{◌≡◌, ℕ, ◌≤◌, List, [], length, map, Option, Some, None, Result, Ok, Err, vec_capacity}
-use Rattle.object_fold.specs.declared.verdict.Verdict.{Verdict}
-use Rattle.object_fold.specs.declared.verdict.Verdict.TheVariants.{Committed, Conflict}
 use Rattle.object_fold.specs.Maps.{Value}
 use Rattle.append_core.specs.declared.several.MultiFault.TheVariants as append_faults
 use Rattle.report_text.specs.declared.report.Answer.{Answer}
 use Rattle.report_text.specs.declared.report.Answer.TheVariants as answers
 use Rattle.report_text.specs.declared.report.KeyAnswer.{KeyAnswer}
+use Rattle.report_text.specs.declared.report.PointPiece.{PointPiece}
+use Rattle.report_text.specs.declared.report.RaisePiece.{RaisePiece}
+use Rattle.report_text.specs.declared.report.SyncPiece.{SyncPiece}
 use Rattle.lawful_run.specs.Objects.{AreAnswers}
 use Rattle.log_client.specs.declared.answers.Appended.{Appended}
 use Rattle.log_client.specs.declared.answers.StampedRead.{StampedRead}
@@ -38,11 +39,12 @@ abbrev pub append_answer : Result Appended ObjectFault → Answer
 append_answer (Ok a) = answers.Stood a.stood.key.stamp a.row (map piece_of a.stood.points)
 append_answer (Err fault) = fault_answer fault
 
--- to a get of a map, and of a causal map
+-- to a get of a map
 abbrev pub get_answer : Result (Value × Synced) ObjectFault → Answer
 get_answer (Ok got) = answers.Got got.0 (sync_piece got.1)
 get_answer (Err fault) = fault_answer fault
 
+-- to a get of a causal map
 abbrev pub many_answer : Result (List (List ℕ) × Synced) ObjectFault → Answer
 many_answer (Ok got) = answers.GotMany got.0 (sync_piece got.1)
 many_answer (Err fault) = fault_answer fault
@@ -69,24 +71,19 @@ ShowsKeys keys (Ok r) answer =
     × (answer ≡ answers.GotKeys r.1.stamp shown (map raise_piece r.1.raises) (map sync_piece r.1.syncs))
 ShowsKeys keys (Err fault) answer = answer ≡ fault_answer fault
 
--- what a read of a transactional map found for its reply, and what for a commit
+-- what a read of a transactional map found for its reply
 abbrev pub keys_found : Result (List Value × Tx × StampedRead) ObjectFault → Result (List Value × StampedRead) ObjectFault
 keys_found (Ok r) = Ok (r.0, r.2)
 keys_found (Err fault) = Err fault
 
+-- what it found for a commit
 abbrev pub tx_found : Result (List Value × Tx × StampedRead) ObjectFault → Option Tx
 tx_found (Ok r) = Some r.1
 tx_found (Err fault) = None
 
--- the answer to a transaction with this verdict, and to a commit
-abbrev pub ruled_answer : Verdict → Appended → StampedRead → Answer
-ruled_answer (Committed stamp) own read =
-    answers.Ruled None stamp own.row (map piece_of own.stood.points) read.stamp (map raise_piece read.raises)
-    (map sync_piece read.syncs)
-ruled_answer (Conflict key stamp) own read =
-    answers.Ruled (Some key) stamp own.row (map piece_of own.stood.points) read.stamp (map raise_piece read.raises)
-    (map sync_piece read.syncs)
-
-abbrev pub commit_answer : Result (Verdict × Appended × StampedRead) ObjectFault → Answer
-commit_answer (Ok r) = ruled_answer r.0 r.1 r.2
-commit_answer (Err fault) = fault_answer fault
+-- to a command that is told what becomes of its node, by what shows that it is told so
+abbrev pub told_answer : {T : Type 0} → (T → Option ℕ → List PointPiece → ℕ → List RaisePiece → List SyncPiece → Answer)
+    → Result (T × Appended × StampedRead) ObjectFault → Answer
+told_answer shown (Ok r) =
+    shown r.0 r.1.row (map piece_of r.1.stood.points) r.2.stamp (map raise_piece r.2.raises) (map sync_piece r.2.syncs)
+told_answer shown (Err fault) = fault_answer fault

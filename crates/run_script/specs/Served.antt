@@ -5,13 +5,13 @@ use Rattle.log_node.specs.declared.limits.TheConstants.{MAX_COLOURS}
 use Rattle.script_text.specs.Fitting.{IsWithin}
 use Rattle.script_text.specs.declared.script.Object.{Object}
 use Rattle.script_text.specs.declared.script.Command.{Command}
-use Rattle.script_beside.specs.Dealt.{commands_in}
+use Rattle.script_beside.specs.Dealt.{share_commands}
 use Rattle.log_client.specs.declared.store.Store.{Store}
 use Rattle.log_client.specs.Clients.{Finished, tracks_of}
 use Rattle.log_client.specs.Calls.{IsSame}
 use Rattle.run_script.specs.declared.serving.served.Served.{Served}
 use Rattle.run_script.specs.declared.serving.opened.Opened.{Opened}
-use Rattle.run_script.specs.Dealing.{AreFew}
+use Rattle.run_script.specs.Dealing.{AreFewCommands}
 use Rattle.run_script.specs.Opened.{AreKept, AreOf, IsOfOne}
 use Rattle.run_script.specs.Serving.{Serves, StopsLast, WasServed}
 
@@ -25,17 +25,17 @@ pub record CanServe (s : Store) (x : Served) : Type 0 where
   pub serves : (objects : List Object) → Serves s objects x.client x.objects.items [] []
   pub finished : Finished x.client
   pub kept : AreKept x.client x.objects.items
-  pub servable : All (IsServable s x.objects.items) (commands_in x.commands.items)
-  pub stops : StopsLast (commands_in x.commands.items)
+  pub servable : All (IsServable s x.objects.items) (share_commands x.commands.items)
+  pub stops : StopsLast (share_commands x.commands.items)
   pub replies : x.replies.items ≡ []
-  pub few_commands : AreFew x.commands.items
+  pub few_commands : AreFewCommands x.commands.items
   pub few : length (tracks_of x.client) ≤ MAX_COLOURS
 
 -- The client was served the commands that it had.
 pub record IsServed (s : Store) (x y : Served) : Type 0 where
   pub same : IsSame x.client y.client
   pub served : (objects : List Object) → AreOf objects x.objects.items
-      → WasServed s objects y.client (commands_in x.commands.items) y.replies.items
+      → WasServed s objects y.client (share_commands x.commands.items) y.replies.items
 
 -- If it is done afterwards, it was served the commands that it had.
 abbrev pub IsServedIfDone : Store → Served → Served → Type 0

@@ -5,6 +5,7 @@ use Rattle.log_node.specs.Seen.{PlacedNode}
 use Rattle.col_core.specs.Keeping.{Kept}
 use Rattle.chain_store.specs.Opening.{size_of}
 use Rattle.script_text.specs.Items.{is_stop}
+use Rattle.script_text.specs.Words.{word_of}
 use Rattle.script_text.specs.declared.script.Kind.{Kind}
 use Rattle.script_text.specs.declared.script.Object.{Object}
 use Rattle.script_text.specs.declared.script.What.{What}
@@ -16,17 +17,17 @@ use Rattle.report_text.specs.declared.report.ReplyLine.{ReplyLine}
 use Rattle.lawful_run.specs.Asks.{home_asked, may_help}
 use Rattle.lawful_run.specs.Deeds.{manner_of}
 use Rattle.lawful_run.specs.Callers.{commands_of}
-use Rattle.lawful_run.specs.Explains.{Answers, Explains}
+use Rattle.lawful_run.specs.Explains.{Explains}
 use Rattle.lawful_run.specs.Refusals.{IsAway, IsHomeRefusal, kept_before, kept_behind}
 use Rattle.client_law.specs.Kept.{IsKeptBy}
-use Rattle.client_law.specs.Knowing.{Rest, log_of, IsExplainedBy}
+use Rattle.client_law.specs.Knowing.{Rest, log_seen, IsExplainedBy}
 use Rattle.script_meaning.specs.States.{kind_in}
 use Rattle.log_client.specs.declared.store.Store.{Store}
 use Rattle.log_client.specs.declared.client.Client.{Client}
-use Rattle.log_client.specs.Fits.{Fits, HaveGoneOn}
+use Rattle.log_client.specs.Fits.{FitsHolds, HaveGoneOn}
 use Rattle.log_client.specs.Growing.{HasGrown}
-use Rattle.log_client.specs.Clients.{IsClient, Keeps, Finished, Helps, caller_of, holds_of, rows_of, seen_of}
-use Rattle.log_client.specs.Calls.{IsExplained, IsSame}
+use Rattle.log_client.specs.Clients.{IsClient, Keeps, Finished, Helps, caller_of, holds_of, nodes_of_rows, seen_of}
+use Rattle.log_client.specs.Calls.{IsSame}
 use Rattle.run_script.specs.declared.serving.opened.Opened.{Opened}
 use Rattle.run_script.specs.Opened.{HaveReads, KeepsReadsBut, kind_opened, versions_in}
 
@@ -49,12 +50,13 @@ pub record HasStopped (commands : List Command) (replies : List ReplyLine) : Typ
 abbrev pub MayHelp : List Command → Type 0
 MayHelp commands = (command : Command) × Contains commands command × IsTrue (may_help (manner_of command.what))
 
--- As far as what a client knows tells, what it keeps of reads is what those of its objects found; and of one of them.
+-- as far as what a client knows tells, what it keeps of reads is what those of its objects found
 abbrev pub KnowsReads : Client → List Opened → Kept → Type 0
-KnowsReads c xs kept = (rest : Rest) → Fits (holds_of c) rest → HaveReads xs kept
+KnowsReads c xs kept = (rest : Rest) → FitsHolds (holds_of c) rest → HaveReads xs kept
 
+-- the same of one of them, by its number
 abbrev pub KnowsRead : Client → ℕ → Opened → Kept → Type 0
-KnowsRead c object x kept = (rest : Rest) → Fits (holds_of c) rest → kept.reads object ≡ versions_in x
+KnowsRead c object x kept = (rest : Rest) → FitsHolds (holds_of c) rest → kept.reads object ≡ versions_in x
 
 -- A client of the store rests after these commands, to which these are the replies: what it has seen explains them, and it
 -- keeps what the reads of its objects found.
@@ -63,92 +65,68 @@ pub record Serves (s : Store) (objects : List Object) (c : Client) (xs : List Op
   pub rests : IsClient s c
   pub kept : Kept
   pub keeps : Keeps s c objects kept
-  pub explained : IsExplainedBy (seen_of c) (Fits (holds_of c)) (caller_of s c objects) commands replies kept
+  pub explained : IsExplainedBy (seen_of c) (FitsHolds (holds_of c)) (caller_of s c objects) commands replies kept
   pub reads : KnowsReads c xs kept
   pub finished : Finished c ⊎ HasStopped commands replies
   pub helps : Helps c → MayHelp commands
 
 -- ONE COMMAND
 
--- From c to d the client was asked this, which is of no object, and gave this answer with these nodes.
-pub record Gives (s : Store) (c d : Client) (what : What) (answer : Answer) (nodes : List PlacedNode) : Type 0 where
+-- From c to d the client was asked this, of these objects or of none, and gave this answer with these nodes. Whatever it kept
+-- of which this was known, it then keeps something with which the log that it has seen explains the answer, and of which this
+-- is so, beside whatever fits what it knows.
+pub record HasServed (s : Store) (objects : List Object) (c d : Client) (what : What) (answer : Answer)
+    (nodes : List PlacedNode) (Known : Kept → Type 0) (Behind : Kept → Kept → Type 0) : Type 0 where
   pub rests : IsClient s d
   pub same : IsSame c d
   pub goes : HaveGoneOn (holds_of c) (holds_of d)
   pub grows : HasGrown c d
-  pub explained : IsExplained s c d (λ log caller kept after. Explains log caller kept what answer nodes after)
-  pub finished : Finished c → Finished d ⊎ (IsTrue (is_stop what) × IsStopped answer)
-  pub helps : Helps d → Helps c ⊎ IsTrue (may_help (manner_of what))
-
--- From c to d the client was asked this, of these objects or of none, and gave this answer with these nodes.
-pub record GivesOf (s : Store) (objects : List Object) (c d : Client) (what : What) (answer : Answer)
-    (nodes : List PlacedNode) : Type 0 where
-  pub rests : IsClient s d
-  pub same : IsSame c d
-  pub goes : HaveGoneOn (holds_of c) (holds_of d)
-  pub explained : (kept : Kept) → Finished c → Keeps s c objects kept → (answered : Kept)
+  pub explained : (kept : Kept) → Finished c → Keeps s c objects kept → Known kept → (answered : Kept)
       × Keeps s d objects (kept_behind what answered)
-      × ((rest : Rest) → Fits (holds_of d) rest
-      → Explains (log_of (seen_of d) rest) (caller_of s d objects) (kept_before what kept) what answer nodes answered)
+      × ((rest : Rest) → FitsHolds (holds_of d) rest
+      → Explains (log_seen (seen_of d) rest) (caller_of s d objects) (kept_before what kept) what answer nodes answered
+      × Behind kept (kept_behind what answered))
   pub away : IsAway (caller_of s d objects) (home_asked (caller_of s d objects) what) → IsHomeRefusal answer
   pub finished : Finished c → Finished d ⊎ (IsTrue (is_stop what) × IsStopped answer)
   pub helps : Helps d → Helps c ⊎ IsTrue (may_help (manner_of what))
 
--- The same of whatever object of this kind was asked, by its number among the objects of a script.
+-- the same, where nothing is known of what was kept
+abbrev pub GivesOf : Store → List Object → Client → Client → What → Answer → List PlacedNode → Type 0
+GivesOf s objects c d what answer nodes =
+    HasServed s objects c d what answer nodes (λ kept. Unit {0}) (λ kept after. Unit {0})
+
+-- to a command of no object
+pub record ServesLog (s : Store) (c d : Client) (what : What) (answer : Answer) (nodes : List PlacedNode) : Type 0 where
+  -- whatever the objects are
+  pub of : (objects : List Object) → GivesOf s objects c d what answer nodes
+
+-- to a command of whatever object of this kind was asked, by its number among the objects of a script
 abbrev pub GivesFor : Store → Client → Client → Kind → (ℕ → What) → Answer → Type 0
 GivesFor s c d kind asked answer =
     (objects : List Object) (object : ℕ) → kind_in objects object ≡ Some kind → GivesOf s objects c d (asked object) answer []
 
--- From c to d the client was asked this of an object, by its number among these, which was opened as x and then is y, and
--- gave this answer. Of reads it keeps what it kept, but of this object what was found.
-pub record GivesAt (s : Store) (objects : List Object) (c d : Client) (object : ℕ) (x y : Opened) (what : What)
-    (answer : Answer) : Type 0 where
-  pub rests : IsClient s d
-  pub same : IsSame c d
-  pub goes : HaveGoneOn (holds_of c) (holds_of d)
-  pub explained : (kept : Kept) → Finished c → Keeps s c objects kept → KnowsRead c object x kept → (answered : Kept)
-      × Keeps s d objects (kept_behind what answered)
-      × ((rest : Rest) → Fits (holds_of d) rest
-      → Explains (log_of (seen_of d) rest) (caller_of s d objects) (kept_before what kept) what answer [] answered
-      × KeepsReadsBut object (versions_in y) kept (kept_behind what answered))
-  pub away : IsAway (caller_of s d objects) (home_asked (caller_of s d objects) what) → IsHomeRefusal answer
-  pub finished : Finished c → Finished d ⊎ (IsTrue (is_stop what) × IsStopped answer)
-  pub helps : Helps d → Helps c ⊎ IsTrue (may_help (manner_of what))
+-- to a command of an object, by its number among these, which was opened as x and then is y: of reads the client keeps what it
+-- kept, but of this object what was found
+abbrev pub ServesObject : Store → List Object → Client → Client → ℕ → Opened → Opened → What → Answer → Type 0
+ServesObject s objects c d object x y what answer =
+    HasServed s objects c d what answer [] (KnowsRead c object x) (KeepsReadsBut object (versions_in y))
 
--- The same of whatever object of its kind was asked.
+-- the same of whatever object of its kind was asked
 abbrev pub GivesTo : Store → Client → Client → Opened → Opened → (ℕ → What) → Answer → Type 0
 GivesTo s c d x y asked answer =
     (objects : List Object) (object : ℕ) → kind_in objects object ≡ Some (kind_opened x)
-    → GivesAt s objects c d object x y (asked object) answer
+    → ServesObject s objects c d object x y (asked object) answer
 
--- From c to d the client, which had opened these objects and then has those, was asked this, and gave this answer with these
--- nodes.
-pub record GivesAll (s : Store) (objects : List Object) (c d : Client) (xs ys : List Opened) (what : What) (answer : Answer)
-    (nodes : List PlacedNode) : Type 0 where
-  pub rests : IsClient s d
-  pub same : IsSame c d
-  pub goes : HaveGoneOn (holds_of c) (holds_of d)
-  pub explained : (kept : Kept) → Finished c → Keeps s c objects kept → KnowsReads c xs kept → (answered : Kept)
-      × Keeps s d objects (kept_behind what answered)
-      × ((rest : Rest) → Fits (holds_of d) rest
-      → Explains (log_of (seen_of d) rest) (caller_of s d objects) (kept_before what kept) what answer nodes answered
-      × HaveReads ys (kept_behind what answered))
-  pub away : IsAway (caller_of s d objects) (home_asked (caller_of s d objects) what) → IsHomeRefusal answer
-  pub finished : Finished c → Finished d ⊎ (IsTrue (is_stop what) × IsStopped answer)
-  pub helps : Helps d → Helps c ⊎ IsTrue (may_help (manner_of what))
+-- to a command of a client that had opened these objects and then has those
+abbrev pub GivesAll : Store → List Object → Client → Client → List Opened → List Opened → What → Answer → List PlacedNode → Type 0
+GivesAll s objects c d xs ys what answer nodes =
+    HasServed s objects c d what answer nodes (KnowsReads c xs) (λ kept. HaveReads ys)
 
 -- From c to d the client, with these objects and then those, was served the command, and this is the reply.
-pub record IsAnswered (s : Store) (objects : List Object) (c d : Client) (xs ys : List Opened) (command : Command)
-    (reply : ReplyLine) : Type 0 where
-  pub rests : IsClient s d
-  pub same : IsSame c d
-  pub goes : HaveGoneOn (holds_of c) (holds_of d)
-  pub explained : (kept : Kept) → Finished c → Keeps s c objects kept → KnowsReads c xs kept → (after : Kept)
-      × Keeps s d objects after
-      × ((rest : Rest) → Fits (holds_of d) rest
-      → Answers (log_of (seen_of d) rest) (caller_of s d objects) kept command reply after × HaveReads ys after)
-  pub finished : Finished c → Finished d ⊎ (IsTrue (is_stop command.what) × IsStopped reply.answer)
-  pub helps : Helps d → Helps c ⊎ IsTrue (may_help (manner_of command.what))
+abbrev pub IsAnswered : Store → List Object → Client → Client → List Opened → List Opened → Command → ReplyLine → Type 0
+IsAnswered s objects c d xs ys command reply =
+    (reply.line ≡ command.line) × (reply.word ≡ word_of command.what)
+    × GivesAll s objects c d xs ys command.what reply.answer reply.nodes
 
 -- ALL COMMANDS
 
@@ -166,8 +144,8 @@ pub record WasServed (s : Store) (objects : List Object) (c : Client) (commands 
   pub kept : Kept
   pub by : IsKeptBy (seen_of c) (caller_of s c objects) kept
   pub ids : kept.ids ≡ c.count
-  pub rows : kept.rows ≡ length (rows_of c)
-  pub explained : IsExplainedBy (seen_of c) (Fits (holds_of c)) (caller_of s c objects) commands replies kept
+  pub rows : kept.rows ≡ length (nodes_of_rows c)
+  pub explained : IsExplainedBy (seen_of c) (FitsHolds (holds_of c)) (caller_of s c objects) commands replies kept
   pub finished : Finished c ⊎ HasStopped commands replies
   pub helps : Helps c → MayHelp commands
 

@@ -3,6 +3,7 @@ use Rattle.std.specs.Prelude.{ℕ, List, Option, Some, None, codes}
 use Rattle.run_script.specs.declared.status.Status.{Status}
 use Rattle.run_script.specs.declared.status.Status.TheVariants.{Done, BadWords, Refused, ReadFault, WriteFault, NoMemory}
 
+-- the exit code
 abbrev pub code_of : Status → ℕ
 code_of Done = 0
 code_of BadWords = 1

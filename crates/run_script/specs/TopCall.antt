@@ -44,8 +44,8 @@ pub record IsRefusalText (bytes text : List ℕ) : Type 0 where
   pub shown : text ≡ refusal_bytes line (reason_text why)
 
 -- Such a text of some bytes was written whole; where the source tells what was left, these are the bytes.
-abbrev pub Writes : (List ℕ → List ℕ → Type 0) → Option (List ℕ) → Option (List ℕ) → Option (List ℕ) → Type 0
-Writes IsText left old new =
+abbrev pub WritesWhole : (List ℕ → List ℕ → Type 0) → Option (List ℕ) → Option (List ℕ) → Option (List ℕ) → Type 0
+WritesWhole IsText left old new =
     (bytes text : List ℕ) × IfSome left (λ all. all ≡ bytes) × IsText bytes text × Appends old new text
 
 -- the beginning of such a text was written

@@ -15,7 +15,7 @@ ghost use Rattle.run_script.specs.Words.{task_of};
 ghost use Rattle.run_script.specs.Refusals.{IsAScript};
 ghost use Rattle.run_script.specs.Reading.{LawsForReaders};
 ghost use Rattle.run_script.specs.Running.{CanRun};
-ghost use Rattle.run_script.specs.TopCall.{IsRunText, IsRefusalText, Writes, WritesFront, Shows, ShowsFront, IsLoaded, WritesLoad, WritesLoadFront};
+ghost use Rattle.run_script.specs.TopCall.{IsRunText, IsRefusalText, WritesWhole, WritesFront, Shows, ShowsFront, IsLoaded, WritesLoad, WritesLoadFront};
 
 use crate::asked::{Asked, Task, read_words};
 use crate::reading::laws_for_readers;
@@ -131,9 +131,9 @@ fn do_bytes<K: Sink, G: Gate, R: Threads + Wait + Sync>(
     sink: &mut K,
 ) -> Status
     ensures done { result ≡ Status.Done
-        → Writes (IsRunText asked) (Some bytes.now) (K.holds sink.old) (K.holds sink.new) }
+        → WritesWhole (IsRunText asked) (Some bytes.now) (K.holds sink.old) (K.holds sink.new) }
     ensures refused { result ≡ Status.Refused
-        → Writes IsRefusalText (Some bytes.now) (K.holds sink.old) (K.holds sink.new) }
+        → WritesWhole IsRefusalText (Some bytes.now) (K.holds sink.old) (K.holds sink.new) }
     ensures write_fault { result ≡ Status.WriteFault → Rose (K.faults sink.old) (K.faults sink.new) }
     ensures front { result ≡ Status.WriteFault
         → WritesFront asked (Some bytes.now) (K.holds sink.old) (K.holds sink.new) }
@@ -166,10 +166,10 @@ fn perform<S: Source, K: Sink, G: Gate, R: Threads + Wait + Sync>(
     sink: &mut K,
 ) -> Status
     ensures done { result ≡ Status.Done
-        → Writes (IsRunText asked) (S.left source.old) (K.holds sink.old) (K.holds sink.new) }
+        → WritesWhole (IsRunText asked) (S.left source.old) (K.holds sink.old) (K.holds sink.new) }
     ensures to_the_end { result ≡ Status.Done → IsAtEnd (S.left source.new) }
     ensures refused { result ≡ Status.Refused
-        → Writes IsRefusalText (S.left source.old) (K.holds sink.old) (K.holds sink.new) }
+        → WritesWhole IsRefusalText (S.left source.old) (K.holds sink.old) (K.holds sink.new) }
     ensures read_fault { result ≡ Status.ReadFault → Rose (S.faults source.old) (S.faults source.new) }
     ensures write_fault { result ≡ Status.WriteFault → Rose (K.faults sink.old) (K.faults sink.new) }
     ensures front { result ≡ Status.WriteFault
@@ -250,12 +250,12 @@ pub fn run<S: Source, K: Sink, G: Gate, R: Threads + Wait + Sync>(
 ) -> Status
     // What was done with a script: the whole text of a lawful run, or the line that says why the bytes are not done.
     ensures done { (asked : Asked) → task_of (map string_bytes words.now) ≡ Some (Task.Script asked) → result ≡ Status.Done
-        → Writes (IsRunText asked) (S.left source.old) (K.holds sink.old) (K.holds sink.new) }
+        → WritesWhole (IsRunText asked) (S.left source.old) (K.holds sink.old) (K.holds sink.new) }
     ensures to_the_end { (asked : Asked) → task_of (map string_bytes words.now) ≡ Some (Task.Script asked)
         → result ≡ Status.Done → IsAtEnd (S.left source.new) }
     ensures refused { (asked : Asked) → task_of (map string_bytes words.now) ≡ Some (Task.Script asked)
         → result ≡ Status.Refused
-        → Writes IsRefusalText (S.left source.old) (K.holds sink.old) (K.holds sink.new) }
+        → WritesWhole IsRefusalText (S.left source.old) (K.holds sink.old) (K.holds sink.new) }
     // What was done with a load: it was run, and its summary was written. The source is not read.
     ensures loaded { (count : ℕ) → task_of (map string_bytes words.now) ≡ Some (Task.Load count) → result ≡ Status.Done
         → WritesLoad count (K.holds sink.old) (K.holds sink.new) }

@@ -30,8 +30,8 @@ use Rattle.script_beside.specs.declared.part.ReadPart.{ReadPart}
 use Rattle.script_beside.specs.Begins.{begins_in, AreBegun, AreAdded, IsGreatest, IsMost}
 use Rattle.script_beside.specs.Dealt.{IsDealt, GivesDealt}
 use Rattle.script_beside.specs.Joining.{later, EndsALine, IsHeader, NoneStops}
-use Rattle.script_beside.specs.Lists.{AreEmpty, AreOwn, AreBehind, AreShares}
-use Rattle.script_beside.specs.Parts.{line_feeds, bytes_of, IsBehind, AreCuts, all_bytes, IsParted, IsRead, AreRead}
+use Rattle.script_beside.specs.Lists.{AreEmptyLists, AreOwn, AreBehind, AreShares}
+use Rattle.script_beside.specs.Parts.{line_feeds, bytes_of, IsBehind, AreCuts, all_bytes, IsParted, IsRead, ArePartsRead}
 use Rattle.script_beside.proofs.Joining.{same_header, joined, lines_counted, lines_at_most}
 use Rattle.script_beside.proofs.BeginLemmas.{own_counts, none_begun, both_begun, own_few, is_most}
 use Rattle.script_beside.proofs.ListLemmas.{some_item, no_shares, more_shares, all_dealt}
@@ -228,7 +228,7 @@ pub record Gathers (h : List ℕ) (s0 : Script) (behind : List ℕ) (stops : Boo
   pub counted : AreBegun (length s0.clients) script.commands counts
 
 pub none_yet : (p : Parted) (count : ℕ) (counts : List ℕ) (shares : List (Vec (Vec Command Global) Global)) → IsParted p
-    → count ≡ length p.script.clients → counts ≡ replicate count 0 → AreEmpty count shares → Gathers p.header.now p.script [] false counts shares
+    → count ≡ length p.script.clients → counts ≡ replicate count 0 → AreEmptyLists count shares → Gathers p.header.now p.script [] false counts shares
 none_yet p count counts shares parted many zeros none =
     let idle = parted.header.idle in record {
       script = p.script;
@@ -306,7 +306,7 @@ next_bytes cuts n cut at =
     ∙ bytes_more (take n cuts) cut
 
 -- the cut of a part
-pub cut_at : (p : Parted) (parts : List (Option ReadPart)) (n : ℕ) (part : ReadPart) → AreRead p.header.now p.cuts.items parts → slice_get parts n ≡ Some (Some part)
+pub cut_at : (p : Parted) (parts : List (Option ReadPart)) (n : ℕ) (part : ReadPart) → ArePartsRead p.header.now p.cuts.items parts → slice_get parts n ≡ Some (Some part)
     → (cut : Cut) × (slice_get p.cuts.items n ≡ Some cut) × IsRead p.header.now cut part
 cut_at p parts n part read at =
     let lt = slice_get_within parts n (Some part) at in
@@ -319,7 +319,7 @@ cut_at p parts n part read at =
 -- one part more
 pub next_part : (p : Parted) (parts : List (Option ReadPart)) (n : ℕ) (part : ReadPart) (stops : Bool) (counts added : List ℕ)
     (before after : List (Vec (Vec Command Global) Global))
-    → IsParted p → AreRead p.header.now p.cuts.items parts → slice_get parts n ≡ Some (Some part)
+    → IsParted p → ArePartsRead p.header.now p.cuts.items parts → slice_get parts n ≡ Some (Some part)
     → Gathers p.header.now p.script (bytes_of (take n p.cuts.items)) stops counts before → stops ≡ false
     → AreAdded part.begins.items counts added → AreBehind part.lists.items before after
     → Gathers p.header.now p.script (bytes_of (take (n + 1) p.cuts.items)) part.stops added after
@@ -346,7 +346,7 @@ next_part p parts n part stops counts added before after parted read at so still
 -- all parts
 pub all_gathered : (p : Parted) (parts : List (Option ReadPart)) (n : ℕ) (stops : Bool) (counts : List ℕ) (most : ℕ)
     (shares : Vec (Vec (Vec Command Global) Global) Global)
-    → IsParted p → AreRead p.header.now p.cuts.items parts → n ≡ length parts
+    → IsParted p → ArePartsRead p.header.now p.cuts.items parts → n ≡ length parts
     → Gathers p.header.now p.script (bytes_of (take n p.cuts.items)) stops counts shares.items → IsGreatest counts most
     → (script : Script) × IsScript (all_bytes p) script × IsDealt script (record { header = p.script; shares = shares; begins = most })
 all_gathered p parts n stops counts most shares parted read end so greatest =
@@ -382,6 +382,6 @@ pub all_read : (header : List ℕ) (cuts : List Cut) {E : Type 0} (r : Result (V
     → IfOk r (λ parts. length parts.items ≡ length cuts)
     → ((parts : Vec (Option ReadPart) Global) → Each parts → (n : ℕ) (cut : Cut) (part : ReadPart) → slice_get cuts n ≡ Some cut
     → slice_get parts.items n ≡ Some (Some part) → IsRead header cut part)
-    → IfOk r Each → IfOk r (λ parts. AreRead header cuts parts.items)
+    → IfOk r Each → IfOk r (λ parts. ArePartsRead header cuts parts.items)
 all_read header cuts (Ok parts) many read each = record { many = many; each = read parts each }
 all_read header cuts (Err e) many read each = tt

@@ -10,8 +10,8 @@ use Rattle.script_beside.specs.declared.dealt.DealtScript.{DealtScript}
 use Rattle.script_beside.specs.Begins.{own, IsMost}
 
 -- the commands of a share, in order
-abbrev pub commands_in : List (Vec Command Global) → List Command
-commands_in pieces = flat_map (λ (piece : Vec Command Global). piece.items) pieces
+abbrev pub share_commands : List (Vec Command Global) → List Command
+share_commands pieces = flat_map (λ (piece : Vec Command Global). piece.items) pieces
 
 -- The header is the script without its commands, and each client has its own of them, in their order; and no client may begin
 -- more rows than is told, and one so many.
@@ -20,7 +20,7 @@ pub record IsDealt (script : Script) (d : DealtScript) : Type 0 where
   pub without : d.header.commands ≡ []
   pub many : length d.shares.items ≡ length script.clients
   pub each : (n : ℕ) (share : Vec (Vec Command Global) Global) → slice_get d.shares.items n ≡ Some share
-      → commands_in share.items ≡ own n script.commands
+      → share_commands share.items ≡ own n script.commands
   pub begins : IsMost (length script.clients) script.commands d.begins
 
 -- the script was given, dealt out, unless memory ran out

@@ -3,10 +3,10 @@ use Rattle.std.specs.Prelude.{◌≡◌, ℕ, ◌<◌, ◌≤◌, List, [], ◌�
 use Rattle.std.specs.Global.{Global}
 use Rattle.script_text.specs.declared.script.Command.{Command}
 use Rattle.script_beside.specs.Begins.{own}
-use Rattle.script_beside.specs.Dealt.{commands_in}
+use Rattle.script_beside.specs.Dealt.{share_commands}
 
 -- so many lists, all empty
-pub record AreEmpty {X : Type 0} (count : ℕ) (lists : List (Vec X Global)) : Type 0 where
+pub record AreEmptyLists {X : Type 0} (count : ℕ) (lists : List (Vec X Global)) : Type 0 where
   pub many : length lists ≡ count
   pub each : (n : ℕ) (d : Vec X Global) → n < length lists → (slice_index_or lists n d).items ≡ []
 
@@ -31,4 +31,4 @@ pub record AreBehind (lists : List (Vec Command Global)) (before after : List (V
 -- the shares of so many clients, in each of which are the client's own of the commands
 pub record AreShares (count : ℕ) (commands : List Command) (shares : List (Vec (Vec Command Global) Global)) : Type 0 where
   pub many : length shares ≡ count
-  pub each : (n : ℕ) (d : Vec (Vec Command Global) Global) → n < length shares → commands_in (slice_index_or shares n d).items ≡ own n commands
+  pub each : (n : ℕ) (d : Vec (Vec Command Global) Global) → n < length shares → share_commands (slice_index_or shares n d).items ≡ own n commands

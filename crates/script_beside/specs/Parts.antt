@@ -51,6 +51,6 @@ pub record IsRead (header : List ℕ) (cut : Cut) (part : ReadPart) : Type 0 whe
   pub begins : AreBegun (length script.clients) (map (later cut.before) script.commands) part.begins.items
 
 -- as many as there are parts, each read or not
-pub record AreRead (header : List ℕ) (cuts : List Cut) (parts : List (Option ReadPart)) : Type 0 where
+pub record ArePartsRead (header : List ℕ) (cuts : List Cut) (parts : List (Option ReadPart)) : Type 0 where
   pub many : length parts ≡ length cuts
   pub each : (n : ℕ) (cut : Cut) (part : ReadPart) → slice_get cuts n ≡ Some cut → slice_get parts n ≡ Some (Some part) → IsRead header cut part

@@ -3,7 +3,7 @@ ghost use Rattle.std.specs.Prelude.{◌≡◌, ◌<◌, ◌≤◌, ◌+◌, ◌^
 ghost use Rattle.std.specs.List.{All};
 ghost use Rattle.script_text.specs.declared.script.Command.{Command};
 ghost use Rattle.script_beside.specs.Joining.{later};
-ghost use Rattle.script_beside.specs.Lists.{AreEmpty, HaveOwn, AreOwn, AreBehind};
+ghost use Rattle.script_beside.specs.Lists.{AreEmptyLists, HaveOwn, AreOwn, AreBehind};
 
 use crate::dealt::Share;
 use log_node::ListOf;
@@ -16,7 +16,7 @@ pub fn empty_lists<T: Drop>(
     count: usize,
     room: usize,
 ) -> Result<Vec<Vec<T>>, AllocError>
-    ensures { IfOk result (λ lists. AreEmpty count lists.items) }
+    ensures { IfOk result (λ lists. AreEmptyLists count lists.items) }
 {
     let mut lists = Vec::with_capacity(alloc, count)?;
     for _ in 0..count {

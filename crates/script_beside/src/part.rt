@@ -4,7 +4,7 @@ ghost use Rattle.std.specs.List.{list_any};
 ghost use Rattle.script_text.specs.declared.script.Command.{Command};
 ghost use Rattle.script_text.specs.Items.{is_stop};
 ghost use Rattle.script_beside.specs.declared.cuts.Cut.{Cut};
-ghost use Rattle.script_beside.specs.Parts.{IsRead, AreRead};
+ghost use Rattle.script_beside.specs.Parts.{IsRead, ArePartsRead};
 
 use crate::begins::counts_of;
 use crate::cuts::Cut;
@@ -79,7 +79,7 @@ pub fn read_parts<R: Threads + Sync>(
     header: &[u8],
     cuts: &[Cut<'_>],
 ) -> Result<Vec<Option<ReadPart>>, AllocError>
-    ensures { IfOk result (λ parts. AreRead header.now cuts.now parts.items) }
+    ensures { IfOk result (λ parts. ArePartsRead header.now cuts.now parts.items) }
 {
     map_indices(
         rt,

@@ -4,7 +4,7 @@ ghost use Rattle.script_text.specs.declared.script.Script.{Script};
 ghost use Rattle.script_text.specs.Grammar.{IsScript};
 ghost use Rattle.script_text.specs.Parse.{IsFaultOf};
 ghost use Rattle.script_beside.specs.Dealt.{IsDealt, GivesDealt};
-ghost use Rattle.script_beside.specs.Parts.{all_bytes, IsParted, AreRead};
+ghost use Rattle.script_beside.specs.Parts.{all_bytes, IsParted, ArePartsRead};
 
 use crate::begins::{add_each, greatest, no_counts};
 use crate::cuts::Parted;
@@ -24,7 +24,7 @@ fn put_together(
     parts: Vec<Option<ReadPart>>,
 ) -> Result<Option<DealtScript>, AllocError>
     requires parted { IsParted parted }
-    requires read { AreRead parted.header.now parted.cuts.items parts.items }
+    requires read { ArePartsRead parted.header.now parted.cuts.items parts.items }
     ensures { IfOk result (λ found. IfSome found (λ dealt. (script : Script) × IsScript (all_bytes parted.entry) script × IsDealt script dealt)) }
 {
     let clients = parted.script.clients.len();

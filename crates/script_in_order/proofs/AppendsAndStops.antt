@@ -26,8 +26,8 @@ use Rattle.script_meaning.specs.Helping.{Helping, cleared, all_cleared}
 use Rattle.script_meaning.specs.Appends.{appended_one, appended_several, appended_by, append_steps, stopped, ended_colour}
 use Rattle.script_meaning.specs.Appends.{with_single, point_in}
 use Rattle.script_in_order.specs.Doing.{DoneBy, with_replies}
-use Rattle.script_in_order.specs.Helps.{Helps}
-use Rattle.script_in_order.specs.Points.{places_in, standing_in, EndsAs}
+use Rattle.script_in_order.specs.Helps.{HelpsLead}
+use Rattle.script_in_order.specs.Points.{places_in, standing_in, EndsByOutcome}
 use Rattle.script_in_order.proofs.ListsChanged.{points_of}
 use Rattle.script_in_order.proofs.FirstSteps.{Begins, Fills, not_full}
 use Rattle.script_in_order.proofs.HelpsAndClears.{helping, found_with, finds_all}
@@ -98,7 +98,7 @@ pub stands_alone : (command : Command) (text : List ℕ) (colour place stamp pos
     → may_single w command.client colour ≡ true → place ≡ length (home_history w command.client colour)
     → stamp ≡ single_stamp w command.client colour → id ≡ next_id w command.client
     → w1 ≡ after w (Single command.client colour text)
-    → Helps (λ grants h. cleared grants command.client (entry_key stamp id) h colour) w1 new
+    → HelpsLead (λ grants h. cleared grants command.client (entry_key stamp id) h colour) w1 new
     → position ≡ position_of id (line (home_history new command.client colour))
     → (points : List PointPiece)
     → points ≡ [] ++ record { colour = colour; at = Event place; position = position } ∷ []
@@ -178,7 +178,7 @@ fills_several command colours text used w full is = record {
 pub ends_several : (command : Command) (colours : Colours) (text : List ℕ) (row : Row) (id : Id) (completed : Completed)
     (places : List PointPiece) (w w1 w2 new : World) (answer : Answer) → Begins w command.client colours text row id w1
     → IsCompleted w1 command.client row w2 completed → places ≡ places_in w command.client (members colours)
-    → EndsAs w2 row id (members colours) completed.outcome places new answer
+    → EndsByOutcome w2 row id (members colours) completed.outcome places new answer
     → DoneBy (λ grants state. appended_several grants state command colours text) command w new answer []
 ends_several command colours text row id completed places w w1 w2 new answer b done all ends = record {
   grants = grants;
@@ -213,7 +213,7 @@ ends_several command colours text row id completed places w w1 w2 new answer b d
 -- How an append to several colours ends
 
 pub ends_memory : (w : World) (row : Row) (id : Id) (colours : List ℕ) (places : List PointPiece)
-    → EndsAs w row id colours (Gone Memory) places w answers.NoMemory
+    → EndsByOutcome w row id colours (Gone Memory) places w answers.NoMemory
 ends_memory w row id colours places = record {
   finds = [];
   is = λ grants f before e p command mine replies. refl;
@@ -221,7 +221,7 @@ ends_memory w row id colours places = record {
 
 pub ends_stamps : (w : World) (row : Row) (id : Id) (colours : List ℕ) (places : List PointPiece) (colour : ℕ)
     → colour ≡ ended_colour w row colours
-    → EndsAs w row id colours (Gone StampEnd) places w (answers.StampEnd colour)
+    → EndsByOutcome w row id colours (Gone StampEnd) places w (answers.StampEnd colour)
 ends_stamps w row id colours places colour is = record {
   finds = [];
   is = λ grants f before e p command mine replies.
@@ -231,9 +231,9 @@ ends_stamps w row id colours places colour is = record {
 pub ends_final : (w w2 new : World) (row : Row) (id : Id) (colours : List ℕ) (stamp : ℕ)
     (places points : List PointPiece)
     → w2 ≡ after w (Seen row.client stamp)
-    → Helps (λ grants h. fold (cleared grants row.client (entry_key stamp id)) h colours) w2 new
+    → HelpsLead (λ grants h. fold (cleared grants row.client (entry_key stamp id)) h colours) w2 new
     → points ≡ map (standing_in new row.client id) places
-    → EndsAs w row id colours (Final stamp) places new (answers.Stood stamp (Some row.number) points)
+    → EndsByOutcome w row id colours (Final stamp) places new (answers.Stood stamp (Some row.number) points)
 ends_final w w2 new row id colours stamp places points seen helps is = record {
   finds = helps.finds;
   is = λ grants f before e p command mine replies.

@@ -3,6 +3,7 @@ use Rattle.std.proofs.Common.{◌≡◌, ◌⊎◌, inl, inr, ℕ, ◌<◌, List
 use Rattle.std.specs.Prelude.{slice_get}
 use Rattle.std.specs.Option.{option_map}
 use Rattle.std.proofs.lemmas.Option.{slice_get-get_or}
+use Rattle.object_fold.specs.declared.causal_map.CausalMap.{CausalMap}
 use Rattle.object_fold.specs.declared.kept_line.KeptLine.{KeptLine}
 use Rattle.object_fold.specs.declared.shard_map.ShardMap.{ShardMap}
 use Rattle.world_laws.specs.Worlds.{World}
@@ -13,7 +14,6 @@ use Rattle.script_text.specs.declared.script.Object.{Object}
 use Rattle.script_meaning.specs.States.{kind_in}
 use Rattle.script_in_order.specs.declared.folds.Fold.{Fold}
 use Rattle.script_in_order.specs.declared.folds.Fold.TheVariants as folds
-use Rattle.script_in_order.specs.declared.causal.CausalFold.{CausalFold}
 use Rattle.script_in_order.specs.CausalFolds.{AreCausalFolds, IsCausalFold}
 use Rattle.script_in_order.specs.Folds.{IsShardFold, IsFoldOf, AreFolded}
 use Rattle.script_in_order.proofs.FoldsKept.{folds_with}
@@ -122,9 +122,9 @@ shard_more w home colours shards fold each right c other there = turn (pushed sh
       subst (IsShardFold w home colours c) new.1 (subst (λ (n : ℕ). IsShardFold w home colours n fold) (sym new.0) right)
 
 -- one region more of a causal map
-pub causal_more : (folds : List CausalFold) (new : CausalFold)
-    → ((n : ℕ) (fold : CausalFold) → slice_get folds n ≡ Some fold → (w : World) (own colour : ℕ) → IsCausalFold w own colour fold)
-    → ((w : World) (own colour : ℕ) → IsCausalFold w own colour new) → (n : ℕ) (fold : CausalFold)
+pub causal_more : (folds : List CausalMap) (new : CausalMap)
+    → ((n : ℕ) (fold : CausalMap) → slice_get folds n ≡ Some fold → (w : World) (own colour : ℕ) → IsCausalFold w own colour fold)
+    → ((w : World) (own colour : ℕ) → IsCausalFold w own colour new) → (n : ℕ) (fold : CausalMap)
     → slice_get (folds ++ new ∷ []) n ≡ Some fold → (w : World) (own colour : ℕ) → IsCausalFold w own colour fold
 causal_more folds new each right n fold there w own colour = turn (pushed folds new n fold there) where
   turn : (slice_get folds n ≡ Some fold) ⊎ ((n ≡ length folds) × (new ≡ fold)) → IsCausalFold w own colour fold

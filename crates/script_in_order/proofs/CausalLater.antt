@@ -14,6 +14,8 @@ use Rattle.col_core.specs.Legal.{IsColumnHistory}
 use Rattle.col_core.specs.Log.{IsLater}
 use Rattle.col_core.specs.PlayOrder.{Place}
 use Rattle.col_core.proofs.CallerLemmas.{cut_grows, dates_longer, later, In}
+use Rattle.object_fold.specs.declared.causal_map.CausalMap.{CausalMap}
+use Rattle.object_fold.specs.CausalStates.{counts_of}
 use Rattle.world_laws.specs.declared.steps.Step.{Step}
 use Rattle.world_laws.specs.Worlds.{World, run_steps}
 use Rattle.world_laws.specs.Laws.{IsReached, log_of}
@@ -21,8 +23,7 @@ use Rattle.world_laws.proofs.CallerLemmas.{Held, Told, held, told, log_grows, ru
 use Rattle.lawful_run.specs.Objects.{places_within}
 use Rattle.lawful_run.proofs.CallerLemmas.{prefix_get}
 use Rattle.script_meaning.proofs.CallerLemmas.{causal_node_is, place_within}
-use Rattle.script_in_order.specs.declared.causal.CausalFold.{CausalFold}
-use Rattle.script_in_order.specs.CausalFolds.{held_node, cut_of, IsCausalFold}
+use Rattle.script_in_order.specs.CausalFolds.{held_node, cut_to_play, IsCausalFold}
 use Rattle.script_in_order.proofs.CausalSteps.{held_at, is_held, node_there}
 
 same_maps : {A B : Type 0} (f g : A → B) (xs : List A) → ((x : A) → In x xs → f x ≡ g x) → map f xs ≡ map g xs
@@ -58,17 +59,17 @@ module _ (w w' : World) (steps : List Step) (reached : IsReached w) (run : run_s
   home' = subst (λ (s : Shape). own < s.regions)
       (sym (subst (λ (x : World). x.shape ≡ w.shape) run (run_grows w steps).shape)) home
 
-  cut_up : IsWithin (cut_of w own c) (cut_of w' own c)
+  cut_up : IsWithin (cut_to_play w own c) (cut_to_play w' own c)
   cut_up = cut_longer own w'.shape.regions (w.histories own c) (w'.histories own c) (grown.histories own c)
       (held'.lawful own c)
 
-  same_node : (place : Place) → place.region < 4 → place.position < at (cut_of w own c) place.region
+  same_node : (place : Place) → place.region < 4 → place.position < at (cut_to_play w own c) place.region
       → held_node w own c place ≡ held_node w' own c place
   same_node place few lt =
       let r = place.region in
       let p = place.position in
       let x = held_at w reached own c home low r p (is_held w reached own c home low r p few lt) in
-      let up = within-at (cut_of w own c) (cut_of w' own c) cut_up r few in
+      let up = within-at (cut_to_play w own c) (cut_to_play w' own c) cut_up r few in
       causal_node_is w reached c low own r p x
       ∙ sym (node_there w' reached' own c home' low r p
       (is_held w' reached' own c home' low r p few (omega (arith, lt, up))) x.key
@@ -76,16 +77,15 @@ module _ (w w' : World) (steps : List Step) (reached : IsReached w) (run : run_s
       (prefix_get (w.nodes x.key.id.client) (w'.nodes x.key.id.client) x.key.id.count x.node
       (grown.nodes x.key.id.client) x.listed))
 
-  pub fold_later : (fold : CausalFold) → IsCausalFold w own c fold → IsCausalFold w' own c fold
+  pub fold_later : (fold : CausalMap) → IsCausalFold w own c fold → IsCausalFold w' own c fold
   fold_later fold is = record {
     nodes = is.nodes;
     folded = is.folded;
     are = subst (IsPermutation is.nodes)
-        (same_maps (held_node w own c) (held_node w' own c) (places_within fold.counts)
-        (λ place i. let p = place_within fold.counts place i in
+        (same_maps (held_node w own c) (held_node w' own c) (places_within (counts_of fold))
+        (λ place i. let p = place_within (counts_of fold) place i in
         let lt = p.1 in
-        let b = within-at fold.counts (cut_of w own c) is.within place.region p.0 in
+        let b = within-at (counts_of fold) (cut_to_play w own c) is.within place.region p.0 in
         same_node place p.0 (omega (arith, lt, b)))) is.are;
-    counted = is.counted;
-    within = within-trans fold.counts (cut_of w own c) (cut_of w' own c) is.within cut_up;
+    within = within-trans (counts_of fold) (cut_to_play w own c) (cut_to_play w' own c) is.within cut_up;
   }

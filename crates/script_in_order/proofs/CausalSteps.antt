@@ -1,12 +1,9 @@
 -- Nodes fed to a causal map's fold: which comes next, what the fold then has, and what it answers in the end.
-use Rattle.std.proofs.Common.{◌≡◌, inl, inr, ℕ, zero, suc, ◌+◌, ◌-◌, ◌<◌, ◌≤◌, min, Bool, true, false, List, [], ◌∷◌, ◌++◌, length, map, drop, Option, Some, None, cond, refl, ap, sym, subst, ◌∙◌, arith, append_assoc, eq-eqb, ne_eqb}
+use Rattle.std.proofs.Common.{◌≡◌, inl, inr, ℕ, zero, suc, ◌+◌, ◌-◌, ◌<◌, ◌≤◌, min, Bool, true, false, List, [], ◌∷◌, ◌++◌, length, map, drop, Option, Some, None, refl, ap, sym, subst, ◌∙◌, arith, eq-eqb, ne_eqb}
 use Rattle.std.specs.Prelude.{◌≢◌, nat_lt, ◌==◌, ◌&&◌, slice_get, unwrap_or}
-use Rattle.std.specs.List.{count_by, range_with_len}
 use Rattle.std.specs.List.Sorted.{IsPermutation}
 use Rattle.std.proofs.lemmas.Bool.{and_parts, and_from, cases_lt, lt-ltb, ltb-true, eqb-true}
-use Rattle.std.proofs.lemmas.List.{map-append}
-use Rattle.std.proofs.lemmas.List.Sorted.{IsPermutation-sym, IsPermutation-trans, IsPermutation-cons, IsPermutation-to_front, IsPermutation-middle, IsPermutation-append_right, IsPermutation-map}
-use Rattle.std.proofs.lemmas.List.Sums.{sum_by_push}
+use Rattle.std.proofs.lemmas.List.Sorted.{IsPermutation-refl, IsPermutation-trans, IsPermutation-cons, IsPermutation-to_front, IsPermutation-map}
 use Rattle.log_node.specs.declared.ids.Counts.{Counts}
 use Rattle.log_node.specs.declared.ids.Key.{Key}
 use Rattle.log_node.specs.declared.node.Head.{Head}
@@ -21,13 +18,16 @@ use Rattle.col_core.specs.PlayOrder.{Place}
 use Rattle.col_core.specs.Rows.{wants_of, node_wants}
 use Rattle.col_core.proofs.CallerLemmas.{if_true, if_false, by_test, cut-is_greatest, reached_within, apart}
 use Rattle.object_fold.specs.Causal.{ChainNode, IsCausalAnswer}
-use Rattle.object_fold.specs.CausalStates.{IsCausalMap}
-use Rattle.object_fold.specs.Pasts.{IsNext}
+use Rattle.object_fold.specs.declared.causal_map.CausalMap.{CausalMap}
+use Rattle.object_fold.specs.CausalStates.{IsCausalMap, counts_of}
+use Rattle.object_fold.specs.Pasts.{MayPlayNext}
+use Rattle.object_fold.proofs.CallerLemmas.{counts_fed, none_fed, one_more_fed, same_fed}
 use Rattle.world_laws.specs.Worlds.{World, chains_after, after, may_play}
 use Rattle.world_laws.specs.Laws.{IsReached}
 use Rattle.lawful_run.specs.Objects.{places_within}
+use Rattle.lawful_run.proofs.CallerLemmas.{more_places, same_places}
 use Rattle.script_meaning.specs.CausalGets.{causal_values, nodes_up_to_cut, got_values}
-use Rattle.script_meaning.specs.Helping.{node_with}
+use Rattle.script_meaning.specs.Helping.{node_by_id}
 use Rattle.script_meaning.specs.Moves.{no_head}
 use Rattle.script_meaning.proofs.CallerLemmas.{AtPlace, at_place, causal_node_is, at_or, causal_answer, one_answer}
 use Rattle.world_laws.specs.declared.steps.Step.TheVariants.{Play}
@@ -37,8 +37,7 @@ use Rattle.report_text.specs.declared.report.SyncPiece.{SyncPiece}
 use Rattle.script_meaning.specs.States.{all_granted, answered}
 use Rattle.script_meaning.specs.Dequeues.{sync_now, base_now}
 use Rattle.script_in_order.specs.Doing.{DoneBy, with_replies}
-use Rattle.script_in_order.specs.declared.causal.CausalFold.{CausalFold}
-use Rattle.script_in_order.specs.CausalFolds.{place_at, held_node, held_nodes, cut_of, is_next, IsCausalFold}
+use Rattle.script_in_order.specs.CausalFolds.{place_at, held_node, held_nodes, cut_to_play, is_next, IsCausalFold}
 
 -- Wants
 
@@ -65,88 +64,6 @@ wants_here other colour rest zero [] e = refl
 wants_here other colour rest zero (v ∷ ws) e = if_true (other == colour) v (wants_of rest ws colour) (eq-eqb other colour e)
 wants_here other colour rest (suc n) [] e = refl
 wants_here other colour rest (suc n) (v ∷ ws) e = wants_here other colour rest n ws e
-
--- Places
-
--- one place more at the end of a block
-here : (p : Place) (xs ys : List Place) → IsPermutation (p ∷ (xs ++ ys)) ((xs ++ p ∷ []) ++ ys)
-here p xs ys =
-    subst (IsPermutation (p ∷ (xs ++ ys))) (sym (append_assoc xs (p ∷ []) ys))
-    (IsPermutation-sym (xs ++ p ∷ ys) (p ∷ (xs ++ ys)) (IsPermutation-middle xs p ys))
-
--- or in a later block
-later : (p : Place) (xs ys zs : List Place) → IsPermutation (p ∷ ys) zs → IsPermutation (p ∷ (xs ++ ys)) (xs ++ zs)
-later p xs ys zs same =
-    IsPermutation-trans (p ∷ (xs ++ ys)) (xs ++ p ∷ ys) (xs ++ zs)
-    (IsPermutation-sym (xs ++ p ∷ ys) (p ∷ (xs ++ ys)) (IsPermutation-middle xs p ys))
-    (IsPermutation-append_right xs (p ∷ ys) zs same)
-
-range_more : (a n : ℕ) → range_with_len a (n + 1) ≡ range_with_len a n ++ (a + n) ∷ []
-range_more a n = subst (λ (m : ℕ). range_with_len a m ≡ range_with_len a n ++ (a + n) ∷ []) (let e : suc n ≡ n + 1 = omega arith in e) (up a n) where
-  up : (a n : ℕ) → range_with_len a (suc n) ≡ range_with_len a n ++ (a + n) ∷ []
-  up a zero = ap (λ (m : ℕ). m ∷ []) (let e : a ≡ a + 0 = omega arith in e)
-  up a (suc n) =
-      ap (λ (l : List ℕ). a ∷ l)
-      (up (a + 1) n ∙ ap (λ (m : ℕ). range_with_len (a + 1) n ++ m ∷ []) (let e : a + 1 + n ≡ a + suc n = omega arith in e))
-
-abbrev chain_places : ℕ → ℕ → List Place
-chain_places region count = map (place_at region) (range_with_len 0 count)
-
--- a region's places with one more
-one_longer : (r n : ℕ) → chain_places r (n + 1) ≡ chain_places r n ++ place_at r n ∷ []
-one_longer r n =
-    ap (map (place_at r)) (range_more 0 n)
-    ∙ (map-append (place_at r) (range_with_len 0 n) ((0 + n) ∷ [])
-    ∙ ap (λ (m : ℕ). chain_places r n ++ place_at r m ∷ []) (let e : 0 + n ≡ n = omega arith in e))
-
-here_more : (r n : ℕ) (ys : List Place) → IsPermutation (place_at r n ∷ (chain_places r n ++ ys)) (chain_places r (n + 1) ++ ys)
-here_more r n ys =
-    subst (λ (xs : List Place). IsPermutation (place_at r n ∷ (chain_places r n ++ ys)) (xs ++ ys)) (sym (one_longer r n))
-    (here (place_at r n) (chain_places r n) ys)
-
--- the places of a vector with one more of a region
-pub more_places : (v : Counts) (r : ℕ) → r < 4
-    → IsPermutation (place_at r (at v r) ∷ places_within v) (places_within (one_more v r))
-more_places v r lt =
-    each_region (λ k. IsPermutation (place_at k (at v k) ∷ places_within v) (places_within (one_more v k))) first second third
-    fourth r lt where
-      of : ℕ → List Place
-      of k = chain_places k (at v k)
-
-      first : IsPermutation (place_at 0 (at v 0) ∷ places_within v) (places_within (one_more v 0))
-      first = here_more 0 (at v 0) (of 1 ++ (of 2 ++ (of 3 ++ [])))
-
-      second : IsPermutation (place_at 1 (at v 1) ∷ places_within v) (places_within (one_more v 1))
-      second =
-          later (place_at 1 (at v 1)) (of 0) (of 1 ++ (of 2 ++ (of 3 ++ [])))
-          (chain_places 1 (at v 1 + 1) ++ (of 2 ++ (of 3 ++ []))) (here_more 1 (at v 1) (of 2 ++ (of 3 ++ [])))
-
-      third : IsPermutation (place_at 2 (at v 2) ∷ places_within v) (places_within (one_more v 2))
-      third =
-          later (place_at 2 (at v 2)) (of 0) (of 1 ++ (of 2 ++ (of 3 ++ [])))
-          (of 1 ++ (chain_places 2 (at v 2 + 1) ++ (of 3 ++ [])))
-          (later (place_at 2 (at v 2)) (of 1) (of 2 ++ (of 3 ++ [])) (chain_places 2 (at v 2 + 1) ++ (of 3 ++ []))
-          (here_more 2 (at v 2) (of 3 ++ [])))
-
-      fourth : IsPermutation (place_at 3 (at v 3) ∷ places_within v) (places_within (one_more v 3))
-      fourth =
-          later (place_at 3 (at v 3)) (of 0) (of 1 ++ (of 2 ++ (of 3 ++ [])))
-          (of 1 ++ (of 2 ++ (chain_places 3 (at v 3 + 1) ++ [])))
-          (later (place_at 3 (at v 3)) (of 1) (of 2 ++ (of 3 ++ [])) (of 2 ++ (chain_places 3 (at v 3 + 1) ++ []))
-          (later (place_at 3 (at v 3)) (of 2) (of 3 ++ []) (chain_places 3 (at v 3 + 1) ++ [])
-          (here_more 3 (at v 3) [])))
-
--- two vectors with the same numbers have the same places
-pub same_places : (v w : Counts) → ((r : ℕ) → r < 4 → at v r ≡ at w r) → places_within v ≡ places_within w
-same_places v w same =
-    let a = same 0 (omega arith) in
-    let b = same 1 (omega arith) in
-    let c = same 2 (omega arith) in
-    let d = same 3 (omega arith) in
-    ap (λ (n : ℕ). chain_places 0 n ++ (chain_places 1 (at v 1) ++ (chain_places 2 (at v 2) ++ (chain_places 3 (at v 3) ++ [])))) a
-    ∙ (ap (λ (n : ℕ). chain_places 0 (at w 0) ++ (chain_places 1 n ++ (chain_places 2 (at v 2) ++ (chain_places 3 (at v 3) ++ [])))) b
-    ∙ (ap (λ (n : ℕ). chain_places 0 (at w 0) ++ (chain_places 1 (at w 1) ++ (chain_places 2 n ++ (chain_places 3 (at v 3) ++ [])))) c
-    ∙ ap (λ (n : ℕ). chain_places 0 (at w 0) ++ (chain_places 1 (at w 1) ++ (chain_places 2 (at w 2) ++ (chain_places 3 n ++ [])))) d))
 
 pub none_some : {A : Type 0} {o : Option A} (x : A) → o ≡ None → o ≡ Some x → ⊥
 none_some x none some = let e : Some x ≡ None = sym some ∙ none in let f : ⊥ = cc in f
@@ -196,12 +113,25 @@ all_counted chains v to stuck (next {v = u} region head reached few there needs)
           ])
           (λ f. let m = a ∙ if_false (r == region) (at u r + 1) (at u r) f in omega (arith, m, b))
 
+-- A map of no node
+
+pub none_is_fed : (map : CausalMap) → IsCausalMap map [] → (w : World) (own c : ℕ) → IsCausalFold w own c map
+none_is_fed map is w own c =
+    let none = sym (none_fed map is) in record {
+      nodes = [];
+      folded = is;
+      are = subst (λ (v : Counts). IsPermutation [] (held_nodes w own c v)) none (IsPermutation-refl []);
+      within = subst (λ (v : Counts). IsWithin v (cut_to_play w own c)) none (within-zeros (cut_to_play w own c));
+    }
+
+-- In a world
+
 module _ (w : World) (reached : IsReached w) (own c : ℕ) (home : own < w.shape.regions) (low : c < MAX_COLOURS) where
   abbrev chains : Chains
   chains = chains_after own (w.histories own c)
 
   abbrev cut : Counts
-  cut = cut_of w own c
+  cut = cut_to_play w own c
 
   -- what may be played is held
   pub is_held : (r p : ℕ) → r < 4 → p < at cut r → p < length (chains r)
@@ -214,14 +144,14 @@ module _ (w : World) (reached : IsReached w) (own c : ℕ) (home : own < w.shape
 
   -- the node with the key at a place
   pub node_there : (r p : ℕ) → p < length (chains r) → (key : Key)
-      → slice_get (line (w.histories r c)) p ≡ Some key → (node : Node) → node_with w key.id ≡ Some node
+      → slice_get (line (w.histories r c)) p ≡ Some key → (node : Node) → node_by_id w key.id ≡ Some node
       → held_node w own c (place_at r p)
       ≡ record { region = r; position = p; needs = vector (λ y. at (node_wants node c) y); text = node.text }
   node_there r p lt key there node listed =
       let x = held_at r p lt in
       let same_key : x.key ≡ key = some_same x.key key x.there there in
       let same_node : x.node ≡ node =
-      some_same x.node node (subst (λ (k : Key). node_with w k.id ≡ Some x.node) same_key x.listed) listed in
+      some_same x.node node (subst (λ (k : Key). node_by_id w k.id ≡ Some x.node) same_key x.listed) listed in
       causal_node_is w reached c low own r p x
       ∙ ap (λ (n : Node). of n) same_node where
         of : Node → ChainNode
@@ -229,11 +159,11 @@ module _ (w : World) (reached : IsReached w) (own c : ℕ) (home : own < w.shape
 
   -- there is one
   pub node_missing : (r p : ℕ) → p < length (chains r) → (key : Key)
-      → slice_get (line (w.histories r c)) p ≡ Some key → node_with w key.id ≡ None → ⊥
+      → slice_get (line (w.histories r c)) p ≡ Some key → node_by_id w key.id ≡ None → ⊥
   node_missing r p lt key there missing =
       let x = held_at r p lt in
       none_some x.node missing
-      (subst (λ (k : Key). node_with w k.id ≡ Some x.node) (some_same x.key key x.there there) x.listed)
+      (subst (λ (k : Key). node_by_id w k.id ≡ Some x.node) (some_same x.key key x.there there) x.listed)
 
   -- the head at a place has the needs of the node there
   needs_there : (r p : ℕ) (head : Head) → slice_get (chains r) p ≡ Some head
@@ -264,10 +194,10 @@ module _ (w : World) (reached : IsReached w) (own c : ℕ) (home : own < w.shape
 
   -- The next node, fed
 
-  module _ (old : CausalFold) (r : ℕ) (few : r < 4) (is : is_next w own c old.counts r ≡ true)
+  module _ (old : CausalMap) (r : ℕ) (few : r < 4) (is : is_next w own c (counts_of old) r ≡ true)
       (fold : IsCausalFold w own c old) where
     abbrev v : Counts
-    v = old.counts
+    v = counts_of old
 
     abbrev node : ChainNode
     node = held_node w own c (place_at r (at v r))
@@ -299,77 +229,64 @@ module _ (w : World) (reached : IsReached w) (own c : ℕ) (home : own < w.shape
           let e : at node.needs s ≡ at wants s = ap (λ (n : Counts). at n s) is ∙ at-vector (λ y. at wants y) s low_s in
           omega (arith, a, b, e)
 
-    pub comes_next : IsNext fold.nodes node
+    pub comes_next : MayPlayNext fold.nodes node
     comes_next = record {
       region = few;
-      position = sym (fold.counted r few);
+      position = counts_fed old fold.nodes fold.folded r few;
       needs = λ s. elim (cases_lt s 4) [
-        | inl low_s ↦ let a = within-at node.needs v needs_low s low_s in let b = fold.counted s low_s in omega (arith, a, b)
+        | inl low_s ↦ let a = within-at node.needs v needs_low s low_s in let b = counts_fed old fold.nodes fold.folded s low_s in omega (arith, a, b)
         | inr high ↦ let a = vector_needs s high in omega (arith, a)
       ];
     }
 
-    pub one_fed : (new : CausalFold) → IsCausalMap new.map (fold.nodes ++ node ∷ []) → new.counts ≡ one_more v r
-        → IsCausalFold w own c new
-    one_fed new map_is counts_are = record {
-      nodes = fold.nodes ++ node ∷ [];
-      folded = map_is;
-      are = subst (λ (n : Counts). IsPermutation (fold.nodes ++ node ∷ []) (held_nodes w own c n)) (sym counts_are)
-          (IsPermutation-trans (fold.nodes ++ node ∷ []) (node ∷ fold.nodes) (held_nodes w own c (one_more v r))
-          (IsPermutation-to_front fold.nodes node)
-          (IsPermutation-trans (node ∷ fold.nodes) (node ∷ held_nodes w own c v) (held_nodes w own c (one_more v r))
-          (IsPermutation-cons node fold.nodes (held_nodes w own c v) fold.are)
-          (IsPermutation-map (held_node w own c) (place_at r (at v r) ∷ places_within v) (places_within (one_more v r))
-          (more_places v r few))));
-      counted = λ s low_s.
-          subst (λ (n : Counts). count_by (λ (x : ChainNode). x.region == s) (fold.nodes ++ node ∷ []) ≡ at n s)
-          (sym counts_are)
-          (sum_by_push (λ (x : ChainNode). cond (x.region == s) 1 0) fold.nodes node
-          ∙ (ap (λ (m : ℕ). m + cond (r == s) 1 0) (fold.counted s low_s) ∙ sym (grown s low_s)));
-      within = subst (λ (n : Counts). IsWithin n cut) (sym counts_are)
-          (within (one_more v r) cut (λ s low_s. bound s low_s));
-    } where
-      grown : (s : ℕ) → s < 4 → at (one_more v r) s ≡ at v s + cond (r == s) 1 0
-      grown s low_s =
-          let m = at-one_more v r s low_s in
-          by_test _ (s == r)
-          (λ t. let e = eqb-true s r t in
-          let a = m ∙ if_true (s == r) (at v s + 1) (at v s) t in
-          let b : cond {A = ℕ} (r == s) 1 0 ≡ 1 = if_true (r == s) 1 0 (eq-eqb r s (sym e)) in omega (arith, a, b))
-          (λ f. let a = m ∙ if_false (s == r) (at v s + 1) (at v s) f in
-          let b : cond {A = ℕ} (r == s) 1 0 ≡ 0 = if_false (r == s) 1 0
-          (ne_eqb r s (λ e. apart (s == r) (eq-eqb s r (sym e)) f)) in omega (arith, a, b))
+    -- one node more is counted
+    pub one_counted : (new : CausalMap) → IsCausalMap new (fold.nodes ++ node ∷ []) → counts_of new ≡ one_more v r
+    one_counted new map_is = one_more_fed old new fold.nodes node fold.folded map_is
 
-      bound : (s : ℕ) → s < 4 → at (one_more v r) s ≤ at cut s
-      bound s low_s =
-          let a = grown s low_s in
-          let b = within-at v cut fold.within s low_s in
-          by_test _ (r == s)
-          (λ t. let e = eqb-true r s t in
-          let d : cond {A = ℕ} (r == s) 1 0 ≡ 1 = if_true (r == s) 1 0 t in
-          let k = subst (λ (i : ℕ). at v i < at cut i) e below in omega (arith, a, d, k))
-          (λ f. let d : cond {A = ℕ} (r == s) 1 0 ≡ 0 = if_false (r == s) 1 0 f in omega (arith, a, d, b))
+    pub one_fed : (new : CausalMap) → IsCausalMap new (fold.nodes ++ node ∷ []) → IsCausalFold w own c new
+    one_fed new map_is =
+        let counts_are = one_counted new map_is in record {
+          nodes = fold.nodes ++ node ∷ [];
+          folded = map_is;
+          are = subst (λ (n : Counts). IsPermutation (fold.nodes ++ node ∷ []) (held_nodes w own c n)) (sym counts_are)
+              (IsPermutation-trans (fold.nodes ++ node ∷ []) (node ∷ fold.nodes) (held_nodes w own c (one_more v r))
+              (IsPermutation-to_front fold.nodes node)
+              (IsPermutation-trans (node ∷ fold.nodes) (node ∷ held_nodes w own c v) (held_nodes w own c (one_more v r))
+              (IsPermutation-cons node fold.nodes (held_nodes w own c v) fold.are)
+              (IsPermutation-map (held_node w own c) (place_at r (at v r) ∷ places_within v) (places_within (one_more v r))
+              (more_places v r few))));
+          within = subst (λ (n : Counts). IsWithin n cut) (sym counts_are)
+              (within (one_more v r) cut (λ s low_s. bound s low_s));
+        } where
+          bound : (s : ℕ) → s < 4 → at (one_more v r) s ≤ at cut s
+          bound s low_s =
+              let a = at-one_more v r s low_s in
+              let b = within-at v cut fold.within s low_s in
+              by_test _ (s == r)
+              (λ t. let d = if_true (s == r) (at v s + 1) (at v s) t in
+              let k = subst (λ (i : ℕ). at v i < at cut i) (sym (eqb-true s r t)) below in omega (arith, a, d, k))
+              (λ f. let d = if_false (s == r) (at v s + 1) (at v s) f in omega (arith, a, d, b))
 
-  -- a feed that is refused leaves the fold
-  pub none_fed : (old new : CausalFold) (fold : IsCausalFold w own c old) → new.counts ≡ old.counts
-      → IsCausalMap new.map fold.nodes → IsCausalFold w own c new
-  none_fed old new fold same map_is = record {
-    nodes = fold.nodes;
-    folded = map_is;
-    are = subst (λ (v : Counts). IsPermutation fold.nodes (held_nodes w own c v)) (sym same) fold.are;
-    counted = λ s low_s. fold.counted s low_s ∙ ap (λ (v : Counts). at v s) (sym same);
-    within = subst (λ (v : Counts). IsWithin v cut) (sym same) fold.within;
-  }
+  -- a map of the same nodes, as a refused feed leaves it
+  pub none_more : (old new : CausalMap) (fold : IsCausalFold w own c old) → IsCausalMap new fold.nodes → IsCausalFold w own c new
+  none_more old new fold map_is =
+      let same = same_fed old new fold.nodes fold.folded map_is in record {
+        nodes = fold.nodes;
+        folded = map_is;
+        are = subst (λ (v : Counts). IsPermutation fold.nodes (held_nodes w own c v)) same fold.are;
+        within = subst (λ (v : Counts). IsWithin v cut) same fold.within;
+      }
 
   -- What the fold answers when all are fed
 
-  pub fold_answers : (fold : CausalFold) (is : IsCausalFold w own c fold) → ((r : ℕ) → r < 4 → at fold.counts r ≡ at cut r)
+  pub fold_answers : (fold : CausalMap) (is : IsCausalFold w own c fold)
+      → ((r : ℕ) → r < 4 → at (counts_of fold) r ≡ at cut r)
       → (key : List ℕ) (values : List (List ℕ)) → IsCausalAnswer is.nodes key values
       → values ≡ causal_values (held_nodes w own c cut) key
   fold_answers fold is all key values says =
       one_answer is.nodes (held_nodes w own c cut) key values (causal_values (held_nodes w own c cut) key)
       (subst (λ (places : List Place). IsPermutation is.nodes (map (held_node w own c) places))
-      (same_places fold.counts cut all) is.are)
+      (same_places (counts_of fold) cut all) is.are)
       says (causal_answer (held_nodes w own c cut) key)
 
 -- A get, by what its calls did

@@ -22,7 +22,7 @@ use Rattle.report_text.specs.declared.report.PointPiece.{PointPiece}
 use Rattle.report_text.specs.declared.report.ReplyLine.{ReplyLine}
 use Rattle.script_meaning.specs.States.{State, Grants, all_granted, no_reads, answered, position_of}
 use Rattle.script_meaning.specs.Appends.{appended_one, with_single, point_in}
-use Rattle.script_meaning.specs.Dequeues.{base_now, dequeued_at, dequeued_on, dequeued_by}
+use Rattle.script_meaning.specs.Dequeues.{base_now, dequeued_at, dequeued_on, dequeued_from}
 use Rattle.script_meaning.proofs.CallerLemmas.{RunsTo, stays_there, new_behind, single_same, single_shape, single_to}
 use Rattle.script_in_order.specs.Doing.{DoneBy, with_replies}
 use Rattle.script_in_order.specs.Reading.{ReadsOwn}
@@ -264,9 +264,9 @@ behind_read command colour w v new answer stamp points d s r =
 pub by_colours : (command : Command) (colours : List ℕ) (colour : ℕ) (w new : World) (answer : Answer)
     → colours ≡ colour ∷ []
     → DoneBy (λ grants state. dequeued_on grants state command colour) command w new answer []
-    → DoneBy (λ grants state. dequeued_by grants state command colours) command w new answer []
+    → DoneBy (λ grants state. dequeued_from grants state command colours) command w new answer []
 by_colours command colours colour w new answer e d =
-    subst (λ (l : List ℕ). DoneBy (λ grants state. dequeued_by grants state command l) command w new answer []) (sym e)
+    subst (λ (l : List ℕ). DoneBy (λ grants state. dequeued_from grants state command l) command w new answer []) (sym e)
     (record { grants = d.grants; begun = d.begun; is = d.is })
 
 -- the shape is as before

@@ -17,7 +17,7 @@ use Rattle.world_laws.specs.Worlds.{is_column, may_begin, may_single, next_row, 
 use Rattle.world_laws.specs.Worlds.{after_single, begun_node, is_begun, row_of}
 use Rattle.world_laws.specs.Laws.{IsBounded}
 use Rattle.world_laws.proofs.CallerLemmas.{updated-here, updated_at-here}
-use Rattle.script_meaning.specs.Appends.{is_full}
+use Rattle.script_meaning.specs.Appends.{has_no_row_left}
 
 -- A row that is begun
 
@@ -107,7 +107,7 @@ may_as_left w client colours here low many all =
 
 -- the client has begun as many rows as it may
 pub record Fills (w : World) (client : ℕ) : Type 0 where
-  pub full : is_full w client ≡ true
+  pub full : has_no_row_left w client ≡ true
   pub used : w.shape.rows ≡ (w.clients client).used
 
 pub fills : (w : World) (client : ℕ) (colours : Colours) (text : List ℕ) → client < length w.shape.homes
@@ -124,7 +124,7 @@ fills w client colours text here low many all bounds answer =
     }
 
 pub not_full : (w : World) (client : ℕ) (colours : Colours) → may_begin w client colours ≡ true
-    → is_full w client ≡ false
+    → has_no_row_left w client ≡ false
 not_full w client colours may =
     let rest = and_parts (is_client w client) (nat_lt (w.clients client).used w.shape.rows
     && (nat_lt 1 (length (members colours)) && list_all (is_column w (home_of w client)) (members colours))) may in

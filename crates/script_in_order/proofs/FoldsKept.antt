@@ -6,13 +6,14 @@ use Rattle.std.specs.Option.{option_map}
 use Rattle.std.specs.Vec.{with_item}
 use Rattle.std.proofs.lemmas.Option.{slice_get-get_or}
 use Rattle.log_node.specs.declared.ids.Key.{Key}
+use Rattle.object_fold.specs.declared.causal_map.CausalMap.{CausalMap}
 use Rattle.object_fold.specs.declared.kept_line.KeptLine.{KeptLine}
 use Rattle.object_fold.specs.declared.queue.ValueQueue.{ValueQueue}
 use Rattle.object_fold.specs.declared.shard_map.ShardMap.{ShardMap}
 use Rattle.object_fold.specs.declared.tx_state.TxState.{TxState}
 use Rattle.object_fold.specs.Nodes.{ObjectNode}
 use Rattle.object_fold.specs.Maps.{Value, shard_value}
-use Rattle.object_fold.specs.States.{IsShardMap, IsQueue, IsTxState}
+use Rattle.object_fold.specs.States.{IsShardMap, IsValueQueue, IsTxState}
 use Rattle.col_core.specs.History.{line}
 use Rattle.world_laws.specs.Worlds.{World}
 use Rattle.world_laws.specs.Laws.{IsReached}
@@ -22,9 +23,8 @@ use Rattle.script_text.specs.declared.script.Kind.TheVariants as kinds
 use Rattle.script_text.specs.declared.script.Object.{Object}
 use Rattle.script_meaning.proofs.CallerLemmas.{RunsTo, line_longer, nodes_stay}
 use Rattle.script_meaning.specs.States.{kind_in}
-use Rattle.script_meaning.specs.Dequeues.{object_at}
+use Rattle.script_meaning.specs.Dequeues.{object_node_at}
 use Rattle.lawful_run.proofs.CallerLemmas.{get_within}
-use Rattle.script_in_order.specs.declared.causal.CausalFold.{CausalFold}
 use Rattle.script_in_order.specs.CausalFolds.{IsCausalFold, AreCausalFolds}
 use Rattle.script_in_order.proofs.CausalLater.{fold_later}
 use Rattle.script_in_order.specs.declared.folds.FirstNodes.{FirstNodes}
@@ -32,7 +32,7 @@ use Rattle.script_in_order.specs.declared.lines_fold.LinesFold.{LinesFold}
 use Rattle.script_in_order.proofs.LinesFolds.{lines_stay}
 use Rattle.script_in_order.specs.declared.folds.Fold.{Fold}
 use Rattle.script_in_order.specs.declared.folds.Fold.TheVariants as folds
-use Rattle.script_in_order.specs.Folds.{IsKeptLine, IsShardFold, AreShardFolds, IsQueueFold, IsLinesFold, IsFoldOf, AreFolded, ShardsWithin, QueueWithin, IsTxAt, line_of, nodes_at}
+use Rattle.script_in_order.specs.Folds.{IsKeptLine, IsShardFold, AreShardFolds, IsQueueFold, IsLinesFold, IsFoldOf, AreFolded, ShardsWithin, QueueWithin, IsTxAt, whole_line, nodes_at}
 
 module _ (w v : World) (reached : IsReached w) (to : RunsTo w v) where
   line_stays : {F : Type 0} (Holds : F → List ObjectNode → Type 0) (home colour : ℕ) (kept : KeptLine F)
@@ -59,7 +59,7 @@ module _ (w v : World) (reached : IsReached w) (to : RunsTo w v) where
   same_regions =
       ap (λ (x : World). x.shape.regions) (sym to.run) ∙ ap (λ s. s.regions) (run_grows w to.steps).shape
 
-  causal_stays : (colour : ℕ) (regions : List CausalFold) → AreCausalFolds w colour regions
+  causal_stays : (colour : ℕ) (regions : List CausalMap) → AreCausalFolds w colour regions
       → AreCausalFolds v colour regions
   causal_stays colour regions f = record {
     small = f.small;
@@ -80,7 +80,7 @@ module _ (w v : World) (reached : IsReached w) (to : RunsTo w v) where
       each = λ c fold there. shard_stays home c colours fold (each.each c fold there);
     },
   )
-  fold_stays kind (folds.Queue queue) (home, colour, is, f) = (home, colour, is, line_stays IsQueue home colour queue f)
+  fold_stays kind (folds.Queue queue) (home, colour, is, f) = (home, colour, is, line_stays IsValueQueue home colour queue f)
   fold_stays kind (folds.Causal regions) (colour, is, f) = (colour, is, causal_stays colour regions.items f)
   fold_stays kind (folds.Tx fold) (home, colours, is, f) = (
     home,
@@ -95,16 +95,6 @@ module _ (w v : World) (reached : IsReached w) (to : RunsTo w v) where
     many = f.many;
     each = λ n o fold at there. fold_stays o.kind fold (f.each n o fold at there);
   }
-
--- one node more of a line
-pub first_more : (w : World) (line : List Key) (n : ℕ) (key d : Key) → n < length line → get_or line n d ≡ key
-    → map (object_at w) (take (n + 1) line) ≡ map (object_at w) (take n line) ++ object_at w key ∷ []
-first_more w [] n key d lt is = absurd (let f : ⊥ = omega (arith, lt) in f)
-first_more w (k ∷ line) zero key d lt is = ap (λ (x : Key). object_at w x ∷ []) is
-first_more w (k ∷ line) (suc n) key d lt is =
-    let e : suc n + 1 ≡ suc (n + 1) = omega arith in
-    ap (λ (m : ℕ). map (object_at w) (take m (k ∷ line))) e
-    ∙ ap (λ (l : List ObjectNode). object_at w k ∷ l) (first_more w line n key d (omega (arith, lt)) is)
 
 -- what stands in a list of which one item was replaced
 pub set_cases : {A : Type 0} (xs : List A) (n j : ℕ) (x y : A) → slice_get (set xs n x) j ≡ Some y
@@ -134,14 +124,14 @@ folds_with w objects all n fold f right = record {
   turn m o other at (inr p) = f.each m o other at p.1
 
 -- one region's fold of a causal map in place of another
-pub causal_with : (w : World) (colour : ℕ) (regions : List CausalFold) (n : ℕ) (fold : CausalFold)
+pub causal_with : (w : World) (colour : ℕ) (regions : List CausalMap) (n : ℕ) (fold : CausalMap)
     → AreCausalFolds w colour regions → IsCausalFold w n colour fold → AreCausalFolds w colour (set regions n fold)
 causal_with w colour regions n fold f right = record {
   small = f.small;
   all = length-set regions n fold ∙ f.all;
   each = λ m other there. turn m other (set_cases regions n m fold other there);
 } where
-  turn : (m : ℕ) (other : CausalFold) → ((m ≡ n) × (fold ≡ other)) ⊎ ((m ≢ n) × (slice_get regions m ≡ Some other))
+  turn : (m : ℕ) (other : CausalMap) → ((m ≡ n) × (fold ≡ other)) ⊎ ((m ≢ n) × (slice_get regions m ≡ Some other))
       → IsCausalFold w m colour other
   turn m other (inl p) =
       subst (λ (k : ℕ). IsCausalFold w k colour other) (sym p.0) (subst (IsCausalFold w n colour) p.1 right)
@@ -167,7 +157,7 @@ pub line_opened : {F : Type 0} (Holds : F → List ObjectNode → Type 0) (w : W
     → kept.count ≡ 0 → Holds kept.state [] → IsKeptLine Holds w home colour kept
 line_opened Holds w home colour kept none empty = record {
   within = omega (arith, none);
-  folded = subst (λ (n : ℕ). Holds kept.state (map (object_at w) (take n (line (w.histories home colour)))))
+  folded = subst (λ (n : ℕ). Holds kept.state (map (object_node_at w) (take n (line (w.histories home colour)))))
       (sym none) empty;
 }
 
@@ -356,8 +346,8 @@ pub shard_answer : (w : World) (first : FirstNodes) (colours key : List ℕ) (ke
     → value ≡ shard_value kept.state.colours kept.state.shard nodes key)
     → value ≡ shard_value colours first.colour (nodes_at w first) key
 shard_answer w first colours key kept value here f answers =
-    answers (map (object_at w) (take kept.count (line_of w first))) f.folded.folded
-    ∙ (ap (λ (cs : List ℕ). shard_value cs kept.state.shard (map (object_at w) (take kept.count (line_of w first))) key)
+    answers (map (object_node_at w) (take kept.count (whole_line w first))) f.folded.folded
+    ∙ (ap (λ (cs : List ℕ). shard_value cs kept.state.shard (map (object_node_at w) (take kept.count (whole_line w first))) key)
     f.colours_are
-    ∙ (ap (λ (c : ℕ). shard_value colours c (map (object_at w) (take kept.count (line_of w first))) key) f.shard_is
-    ∙ ap (λ (n : ℕ). shard_value colours first.colour (map (object_at w) (take n (line_of w first))) key) here))
+    ∙ (ap (λ (c : ℕ). shard_value colours c (map (object_node_at w) (take kept.count (whole_line w first))) key) f.shard_is
+    ∙ ap (λ (n : ℕ). shard_value colours first.colour (map (object_node_at w) (take n (whole_line w first))) key) here))

@@ -32,11 +32,11 @@ use Rattle.report_text.specs.declared.report.Answer.TheVariants as answers
 use Rattle.report_text.specs.declared.report.KeyAnswer.{KeyAnswer}
 use Rattle.report_text.specs.declared.report.RaisePiece.{RaisePiece}
 use Rattle.report_text.specs.declared.report.SyncPiece.{SyncPiece}
-use Rattle.lawful_run.specs.Asks.{colours_of, object_colours, shards}
+use Rattle.lawful_run.specs.Asks.{colours_of_object, object_colours, shards}
 use Rattle.lawful_run.proofs.CallerLemmas.{get_within}
 use Rattle.script_meaning.specs.States.{State, all_granted, answered, kind_in}
 use Rattle.script_meaning.specs.Objects.{caller_in, refusing_home, shard_set}
-use Rattle.script_meaning.specs.Dequeues.{object_at, first_nodes, sync_now, base_now}
+use Rattle.script_meaning.specs.Dequeues.{object_node_at, first_nodes, sync_now, base_now}
 use Rattle.script_meaning.specs.Stamped.{Whole, ReadEnd, StampedRead, read_stamp}
 use Rattle.script_meaning.specs.Gets.{got_value, key_answers, keys_answer, value_up_to}
 use Rattle.script_meaning.proofs.CallerLemmas.{RunsTo, done_to, read_runs, read_behind, whole_stamp, object_has, shard_below, key_in, shard_members}
@@ -44,8 +44,8 @@ use Rattle.script_in_order.specs.declared.folds.Fold.{Fold}
 use Rattle.script_in_order.specs.Doing.{DoneBy, Does, DoesAtHome, with_replies}
 use Rattle.script_in_order.specs.declared.folds.FirstNodes.{FirstNodes}
 use Rattle.script_in_order.specs.declared.stamped.Stamped.{Stamped}
-use Rattle.script_in_order.specs.Stamped.{Reads, end_in}
-use Rattle.script_in_order.specs.Folds.{AreFolded, ShardsWithin, IsMapAt, line_of, nodes_at}
+use Rattle.script_in_order.specs.Stamped.{ReadsStamped, end_in}
+use Rattle.script_in_order.specs.Folds.{AreFolded, ShardsWithin, IsMapAt, whole_line, nodes_at}
 use Rattle.script_in_order.proofs.CommandKinds.{does_at_home}
 use Rattle.script_in_order.proofs.ObjectSteps.{kind_is}
 use Rattle.script_in_order.proofs.DequeueSteps.{unanswered}
@@ -132,12 +132,12 @@ module _ (command : Command) (w new : World) (colours key : List ℕ) (colour : 
 -- a value over the nodes up to a stamp
 pub value_there : (w : World) (client : ℕ) (colours : List ℕ) (stamp : ℕ) (key : List ℕ) (colour : ℕ)
     (first : FirstNodes) (value : Value) → colour ≡ shard_of colours key
-    → take first.count (line_of w first) ≡ up_to stamp (line (home_history w client colour))
+    → take first.count (whole_line w first) ≡ up_to stamp (line (home_history w client colour))
     → value ≡ shard_value colours colour (nodes_at w first) key → value ≡ value_up_to w client colours stamp key
 value_there w client colours stamp key colour first value is taken v =
     subst (λ (c : ℕ). value ≡ shard_value colours c
-    (map (object_at w) (up_to stamp (line (home_history w client c)))) key) is
-    (v ∙ ap (λ (ks : List Key). shard_value colours colour (map (object_at w) ks) key) taken)
+    (map (object_node_at w) (up_to stamp (line (home_history w client c)))) key) is
+    (v ∙ ap (λ (ks : List Key). shard_value colours colour (map (object_node_at w) ks) key) taken)
 
 -- one key more
 pub answers_more : (value_of : List ℕ → Value) (keys : List (List ℕ)) (i : ℕ) (key copy : List ℕ) (value : Value)
@@ -154,7 +154,7 @@ answers_more value_of keys i key copy value old lt is same v before =
     (ap (λ (k : List ℕ). take i keys ++ k ∷ []) is ∙ sym (take_more keys i key lt)))))
 
 -- steps lead to where a read ended
-pub read_to : (w v : World) (client : ℕ) (colours : List ℕ) (ends : ReadEnd) → Reads w v client colours ends
+pub read_to : (w v : World) (client : ℕ) (colours : List ℕ) (ends : ReadEnd) → ReadsStamped w v client colours ends
     → RunsTo w v
 read_to w v client colours ends reads =
     let g = read_given w v client colours ends reads in
@@ -169,7 +169,7 @@ same_home w v client to =
 pub shards_behind : (w v : World) → IsReached w → (objects : List Object) (all : List Fold)
     → AreFolded w objects all → (client object : ℕ) (colours cs : List ℕ) (stamp : ℕ) (raises : List RaisePiece)
     (syncs : List SyncPiece) (keys : List Key) → IsMapAt w client objects object colours
-    → Reads w v client cs (Whole stamp raises syncs keys)
+    → ReadsStamped w v client cs (Whole stamp raises syncs keys)
     → ShardsWithin all object cs (λ c. length (up_to stamp (line (home_history v client c))))
 shards_behind w v reached objects all f client object colours cs stamp raises syncs keys at reads =
     let g = read_given w v client cs (Whole stamp raises syncs keys) reads in
@@ -187,7 +187,7 @@ shards_behind w v reached objects all f client object colours cs stamp raises sy
 abbrev pub key_answering : List Object → ℕ → ℕ → List (List ℕ) → World → ℕ → List RaisePiece → List SyncPiece → List Key
     → Answer
 key_answering objects client object asked v =
-    keys_answer v client (colours_of (caller_in v objects client) object) asked
+    keys_answer v client (colours_of_object (caller_in v objects client) object) asked
 
 abbrev pub shows_none : Showing
 shows_none w keys = []
@@ -252,9 +252,9 @@ one_behind all object bound cs first c behind i is count = λ d h shards fold at
 
 -- a read of a set of colours is one of the colours that it has
 pub reads_same : (w v : World) (client : ℕ) (cs other : List ℕ) (s : Stamped) → cs ≡ other
-    → Reads w v client cs (end_in v client cs s) → Reads w v client other (end_in v client other s)
+    → ReadsStamped w v client cs (end_in v client cs s) → ReadsStamped w v client other (end_in v client other s)
 reads_same w v client cs other s same reads =
-    subst (λ (l : List ℕ). Reads w v client l (end_in v client l s)) same reads
+    subst (λ (l : List ℕ). ReadsStamped w v client l (end_in v client l s)) same reads
 
 -- the colours of the set of the keys' shards
 pub set_is : (objects : List Object) (object : ℕ) (o : Object) (set : Colours) (found asked : List (List ℕ))
@@ -279,7 +279,7 @@ played_here w cuts client colour own is lt few =
 -- nothing of the shard is folded past a whole line
 pub one_within : (w : World) (objects : List Object) (all : List Fold) → AreFolded w objects all
     → (object : ℕ) (colours : List ℕ) (first : FirstNodes)
-    → kind_in objects object ≡ Some (kinds.Map first.region colours) → first.count ≡ length (line_of w first)
+    → kind_in objects object ≡ Some (kinds.Map first.region colours) → first.count ≡ length (whole_line w first)
     → ShardsWithin all object (first.colour ∷ []) (λ _. first.count)
 one_within w objects all f object colours first is count =
     shards_within w objects all f object first.region colours (first.colour ∷ []) is (λ _. first.count)

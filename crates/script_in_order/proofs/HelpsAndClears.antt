@@ -13,7 +13,7 @@ use Rattle.world_code.specs.Looks.{IsFirstBelow}
 use Rattle.script_meaning.specs.States.{Grants}
 use Rattle.script_meaning.specs.Helping.{Helping, open_below, helped_row, helped_node, helped_first, helped_times}
 use Rattle.script_meaning.specs.Helping.{cleared}
-use Rattle.script_in_order.specs.Helps.{FindsNext, Helps}
+use Rattle.script_in_order.specs.Helps.{FindsNext, HelpsLead}
 
 finds_split : (grants : Grants) (count : ℕ) (xs ys : List (ℕ → Bool)) → FindsNext grants count (xs ++ ys)
     → FindsNext grants count xs × FindsNext grants (count + length xs) ys
@@ -27,7 +27,7 @@ finds_split grants count (x ∷ xs) ys f =
 abbrev pub helping : World → ℕ → Helping
 helping w n = record { world = w; helps = n }
 
-pub helps_none : (w : World) → Helps (λ grants h. h) w w
+pub helps_none : (w : World) → HelpsLead (λ grants h. h) w w
 helps_none w = record {
   finds = [];
   is = λ grants count f. ap (helping w) (sym (add-zero count));
@@ -35,8 +35,8 @@ helps_none w = record {
   run = refl;
 }
 
-pub helps_then : (f g : Grants → Helping → Helping) (a b c : World) → Helps f a b → Helps g b c
-    → Helps (λ grants h. g grants (f grants h)) a c
+pub helps_then : (f g : Grants → Helping → Helping) (a b c : World) → HelpsLead f a b → HelpsLead g b c
+    → HelpsLead (λ grants h. g grants (f grants h)) a c
 helps_then f g a b c p q = record {
   finds = p.finds ++ q.finds;
   is = λ grants count t.
@@ -50,7 +50,7 @@ helps_then f g a b c p q = record {
 
 -- helps of one meaning, where another is the same there
 pub helps_as : (f g : Grants → Helping → Helping) (a b : World)
-    → ((grants : Grants) (count : ℕ) → g grants (helping a count) ≡ f grants (helping a count)) → Helps f a b → Helps g a b
+    → ((grants : Grants) (count : ℕ) → g grants (helping a count) ≡ f grants (helping a count)) → HelpsLead f a b → HelpsLead g a b
 helps_as f g a b same p = record {
   finds = p.finds;
   is = λ grants count t. same grants count ∙ p.is grants count t;
@@ -64,7 +64,7 @@ pub first_helped : (old new : World) (by home colour : ℕ) (key : Key) (row : R
     → (meaning : Grants → Helping → Helping)
     → ((grants : Grants) (count : ℕ) → meaning grants (helping old count)
     ≡ helped_first grants by (helping old count) (open_below key (old.histories home colour)))
-    → Helps meaning old new
+    → HelpsLead meaning old new
 first_helped old new by home colour key row completed first done meaning is = record {
   finds = done.found ∷ [];
   is = λ grants count t.
@@ -82,7 +82,7 @@ pub none_helped : (old : World) (by home colour : ℕ) (key : Key) → open_belo
     → (meaning : Grants → Helping → Helping)
     → ((grants : Grants) (count : ℕ) → meaning grants (helping old count)
     ≡ helped_first grants by (helping old count) (open_below key (old.histories home colour)))
-    → Helps meaning old old
+    → HelpsLead meaning old old
 none_helped old by home colour key none meaning is =
     helps_as (λ grants h. h) meaning old old
     (λ grants count. is grants count ∙ ap (helped_first grants by (helping old count)) none) (helps_none old)
@@ -99,8 +99,8 @@ helped_last (suc n) grants by colour key h = helped_last n grants by colour key 
 
 -- one help more
 pub helps_more : (n by colour : ℕ) (key : Key) (a b c : World)
-    → Helps (λ grants h. helped_times n grants by colour key h) a b → Helps (next_helped by colour key) b c
-    → Helps (λ grants h. helped_times (n + 1) grants by colour key h) a c
+    → HelpsLead (λ grants h. helped_times n grants by colour key h) a b → HelpsLead (next_helped by colour key) b c
+    → HelpsLead (λ grants h. helped_times (n + 1) grants by colour key h) a c
 helps_more n by colour key a b c p q =
     let s : n + 1 ≡ suc n = omega arith in
     helps_as (λ grants h. next_helped by colour key grants (helped_times n grants by colour key h))
@@ -112,7 +112,7 @@ helps_more n by colour key a b c p q =
 -- as many helps as there are open entries below the key
 pub clears_colour : (n by colour : ℕ) (key : Key) (a b : World)
     → n ≡ length (open_below key (home_history a by colour))
-    → Helps (λ grants h. helped_times n grants by colour key h) a b → Helps (λ grants h. cleared grants by key h colour) a b
+    → HelpsLead (λ grants h. helped_times n grants by colour key h) a b → HelpsLead (λ grants h. cleared grants by key h colour) a b
 clears_colour n by colour key a b is p =
     helps_as (λ grants h. helped_times n grants by colour key h) (λ grants h. cleared grants by key h colour) a b
     (λ grants count. ap (λ (k : ℕ). helped_times k grants by colour key (helping a count)) (sym is)) p
@@ -120,28 +120,28 @@ clears_colour n by colour key a b is p =
 -- some colours are cleared: whoever clears those that are left clears them all
 abbrev pub ClearsFirst : ℕ → Key → List ℕ → List ℕ → World → World → Type 0
 ClearsFirst by key left colours old now =
-    (new : World) → Helps (λ grants h. fold (cleared grants by key) h left) now new
-    → Helps (λ grants h. fold (cleared grants by key) h colours) old new
+    (new : World) → HelpsLead (λ grants h. fold (cleared grants by key) h left) now new
+    → HelpsLead (λ grants h. fold (cleared grants by key) h colours) old new
 
 pub clears_none : (by : ℕ) (key : Key) (left colours : List ℕ) (old : World) → left ≡ colours
     → ClearsFirst by key left colours old old
 clears_none by key left colours old all new p =
-    subst (λ (l : List ℕ). Helps (λ grants h. fold (cleared grants by key) h l) old new) all p
+    subst (λ (l : List ℕ). HelpsLead (λ grants h. fold (cleared grants by key) h l) old new) all p
 
 -- one colour more
 pub clears_next : (by : ℕ) (key : Key) (colour : ℕ) (left rest colours : List ℕ) (a b c : World) → left ≡ colour ∷ rest
-    → ClearsFirst by key left colours a b → Helps (λ grants h. cleared grants by key h colour) b c
+    → ClearsFirst by key left colours a b → HelpsLead (λ grants h. cleared grants by key h colour) b c
     → ClearsFirst by key rest colours a c
 clears_next by key colour left rest colours a b c e so_far one new p =
-    so_far new (subst (λ (l : List ℕ). Helps (λ grants h. fold (cleared grants by key) h l) b new) (sym e)
+    so_far new (subst (λ (l : List ℕ). HelpsLead (λ grants h. fold (cleared grants by key) h l) b new) (sym e)
     (helps_then (λ grants h. cleared grants by key h colour) (λ grants h. fold (cleared grants by key) h rest) b c new one
     p))
 
 -- all of them
 pub clears_all : (by : ℕ) (key : Key) (left colours : List ℕ) (old now : World) → left ≡ []
-    → ClearsFirst by key left colours old now → Helps (λ grants h. fold (cleared grants by key) h colours) old now
+    → ClearsFirst by key left colours old now → HelpsLead (λ grants h. fold (cleared grants by key) h colours) old now
 clears_all by key left colours old now none so_far =
-    so_far now (subst (λ (l : List ℕ). Helps (λ grants h. fold (cleared grants by key) h l) now now) (sym none)
+    so_far now (subst (λ (l : List ℕ). HelpsLead (λ grants h. fold (cleared grants by key) h l) now now) (sym none)
     (helps_none now))
 
 -- where memory was granted for a command's helps, and in its own marks

@@ -24,7 +24,7 @@ mod DequeueSteps
 mod FoldsKept
 mod ObjectHomes
 mod GetSteps
-mod Committing
+mod TellSteps
 mod TransactionSteps
 mod KeysSplit
 mod LinesRead

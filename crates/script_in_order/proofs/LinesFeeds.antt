@@ -12,7 +12,7 @@ use Rattle.col_core.proofs.CallerLemmas.{by_test, if_true, if_false}
 use Rattle.world_laws.specs.Worlds.{World}
 use Rattle.world_laws.proofs.CallerLemmas.{in_contains, contains_in}
 use Rattle.col_core.proofs.CallerLemmas.{in_right}
-use Rattle.script_meaning.specs.Dequeues.{object_at}
+use Rattle.script_meaning.specs.Dequeues.{object_node_at}
 use Rattle.script_in_order.specs.Transacting.{AreOfLines, AreOthers, found_with}
 use Rattle.script_in_order.proofs.ReadTold.{one_more, one_other, its_told, none_told}
 
@@ -31,19 +31,19 @@ none_behind [] = refl
 none_behind {A} (x ∷ xs) = ap (λ (l : List A). x ∷ l) (none_behind xs)
 
 -- the text of the node with a key
-pub its_text : (w : World) (key : Key) (node : Node) → keyed_node key node ≡ object_at w key
-    → (object_at w key).text ≡ node.text
+pub its_text : (w : World) (key : Key) (node : Node) → keyed_node key node ≡ object_node_at w key
+    → (object_node_at w key).text ≡ node.text
 its_text w key node e = sym (ap (λ (n : ObjectNode). n.text) e)
 
 -- one node more behind others
 pub more_behind : (w : World) (before keys : List Key) (i : ℕ) (key : Key) → i < length keys → key ≡ get_or keys i key
-    → map (object_at w) (before ++ take i keys) ++ object_at w key ∷ []
-    ≡ map (object_at w) (before ++ take (i + 1) keys)
+    → map (object_node_at w) (before ++ take i keys) ++ object_node_at w key ∷ []
+    ≡ map (object_node_at w) (before ++ take (i + 1) keys)
 more_behind w before keys i key low is =
-    ap (λ (l : List ObjectNode). l ++ object_at w key ∷ []) (map-append (object_at w) before (take i keys))
-    ∙ (append_more (map (object_at w) before) (map (object_at w) (take i keys)) (object_at w key ∷ [])
-    ∙ (ap (λ (l : List ObjectNode). map (object_at w) before ++ l) (one_more w keys i key low is)
-    ∙ sym (map-append (object_at w) before (take (i + 1) keys))))
+    ap (λ (l : List ObjectNode). l ++ object_node_at w key ∷ []) (map-append (object_node_at w) before (take i keys))
+    ∙ (append_more (map (object_node_at w) before) (map (object_node_at w) (take i keys)) (object_node_at w key ∷ [])
+    ∙ (ap (λ (l : List ObjectNode). map (object_node_at w) before ++ l) (one_more w keys i key low is)
+    ∙ sym (map-append (object_node_at w) before (take (i + 1) keys))))
 
 -- a place behind others
 abbrev behind : List Key → ℕ → ℕ
@@ -78,12 +78,12 @@ others_both own (b ∷ before) keys all more (suc k) d low =
 abbrev pub IsFound : {T : Type 0} → (List ObjectNode → ObjectNode → Option T) → World → Key → List Key → List Key → ℕ
     → Option (Option T) → Type 0
 IsFound told w own before keys i None = AreOthers own (take i keys)
-IsFound told w own before keys i (Some found) = found ≡ told_of told (map (object_at w) (before ++ keys)) own
+IsFound told w own before keys i (Some found) = found ≡ told_of told (map (object_node_at w) (before ++ keys)) own
 
 module _ {T : Type 0} (told : List ObjectNode → ObjectNode → Option T) (w : World) (own : Key) (before keys : List Key)
     (others : AreOthers own before) where
   found_more : (i : ℕ) (key : Key) (given : Option T) (found : Option (Option T)) → i < length keys
-      → key ≡ get_or keys i key → given ≡ told (map (object_at w) (before ++ take i keys)) (object_at w key)
+      → key ≡ get_or keys i key → given ≡ told (map (object_node_at w) (before ++ take i keys)) (object_node_at w key)
       → IsFound told w own before keys i found → IsFound told w own before keys (i + 1) (found_with found given key own)
   found_more i key given (Some found) low is e so = so
   found_more i key given None low is e so =
@@ -93,19 +93,19 @@ module _ {T : Type 0} (told : List ObjectNode → ObjectNode → Option T) (w : 
       (its_told w own told (before ++ keys) (behind before i) key given (behind_low keys i before low)
       (is ∙ sym (behind_get keys i before key))
       (subst (AreOthers own) (sym (behind_take keys i before)) (others_both own before (take i keys) others so)) t
-      (subst (λ (l : List Key). given ≡ told (map (object_at w) l) (object_at w key)) (sym (behind_take keys i before)) e)))
+      (subst (λ (l : List Key). given ≡ told (map (object_node_at w) l) (object_node_at w key)) (sym (behind_take keys i before)) e)))
       (λ f. subst (IsFound told w own before keys (i + 1)) (sym (if_false (same_key key own) (Some given) None f))
       (one_other own keys i key low is f so))
 
   pub found_next : (i : ℕ) (key : Key) (given : Option T) (found next : Option (Option T)) → i < length keys
-      → key ≡ get_or keys i key → given ≡ told (map (object_at w) (before ++ take i keys)) (object_at w key)
+      → key ≡ get_or keys i key → given ≡ told (map (object_node_at w) (before ++ take i keys)) (object_node_at w key)
       → next ≡ found_with found given key own → IsFound told w own before keys i found
       → IsFound told w own before keys (i + 1) next
   found_next i key given found next low is e made so =
       subst (IsFound told w own before keys (i + 1)) (sym made) (found_more i key given found low is e so)
 
   pub found_all : (i : ℕ) (found : Option (Option T)) → take i keys ≡ keys → IsFound told w own before keys i found
-      → unwrap_or found None ≡ told_of told (map (object_at w) (before ++ keys)) own
+      → unwrap_or found None ≡ told_of told (map (object_node_at w) (before ++ keys)) own
   found_all i None all so =
       sym (none_told w own told (before ++ keys) (others_both own before keys others (subst (AreOthers own) all so)))
   found_all i (Some found) all so = so

@@ -13,12 +13,12 @@ use Rattle.playback.specs.Merging.{merged, up_to, region_order, AreRising}
 use Rattle.world_laws.specs.Worlds.{World, home_of, home_history}
 use Rattle.world_laws.specs.Laws.{IsReached}
 use Rattle.world_laws.proofs.CallerLemmas.{run_grows, in_contains, contains_in}
-use Rattle.script_meaning.specs.Dequeues.{object_at}
+use Rattle.script_meaning.specs.Dequeues.{object_node_at}
 use Rattle.script_meaning.specs.Stamped.{keys_read}
 use Rattle.script_meaning.proofs.CallerLemmas.{RunsTo, line_longer, nodes_stay}
 use Rattle.script_in_order.specs.declared.folds.FirstNodes.{FirstNodes}
 use Rattle.script_in_order.specs.declared.lines_fold.LinesFold.{LinesFold}
-use Rattle.script_in_order.specs.Folds.{line_of, AreThere, first_keys, keys_behind, AreRead, IsLinesFold}
+use Rattle.script_in_order.specs.Folds.{whole_line, AreThere, first_keys, keys_behind, AreReadUpTo, IsLinesFold}
 use Rattle.script_in_order.specs.Transacting.{AreOthers}
 use Rattle.script_in_order.proofs.RunReplies.{any_default}
 use Rattle.script_in_order.proofs.KeysSplit.{Each, merged_on, each_merged}
@@ -26,32 +26,32 @@ use Rattle.script_in_order.proofs.LinesRead.{read_goes_on, low_stamp}
 
 -- the first nodes of a line
 abbrev pub first_of : World → FirstNodes → List Key
-first_of w first = take first.count (line_of w first)
+first_of w first = take first.count (whole_line w first)
 
 -- THE WORLD GOES ON
 
-its_keys : (w : World) (keys : List Key) → map (λ (n : ObjectNode). n.key) (map (object_at w) keys) ≡ keys
+its_keys : (w : World) (keys : List Key) → map (λ (n : ObjectNode). n.key) (map (object_node_at w) keys) ≡ keys
 its_keys w [] = refl
 its_keys w (key ∷ keys) = ap (λ (l : List Key). key ∷ l) (its_keys w keys)
 
-same_keys : (w v : World) (xs ys : List Key) → map (object_at v) xs ≡ map (object_at w) ys → xs ≡ ys
+same_keys : (w v : World) (xs ys : List Key) → map (object_node_at v) xs ≡ map (object_node_at w) ys → xs ≡ ys
 same_keys w v xs ys e =
     sym (its_keys v xs) ∙ (ap (map (λ (n : ObjectNode). n.key)) e ∙ its_keys w ys)
 
-each_same : (w v : World) (keys : List Key) → map (object_at v) keys ≡ map (object_at w) keys
-    → Each (λ key. object_at v key ≡ object_at w key) keys
+each_same : (w v : World) (keys : List Key) → map (object_node_at v) keys ≡ map (object_node_at w) keys
+    → Each (λ key. object_node_at v key ≡ object_node_at w key) keys
 each_same w v [] e k i = absurd i
 each_same w v (key ∷ keys) e k (inl is) =
-    subst (λ (x : Key). object_at v x ≡ object_at w x) is (let f : object_at v key ≡ object_at w key = cc in f)
+    subst (λ (x : Key). object_node_at v x ≡ object_node_at w x) is (let f : object_node_at v key ≡ object_node_at w key = cc in f)
 each_same w v (key ∷ keys) e k (inr i) =
-    each_same w v keys (let f : map (object_at v) keys ≡ map (object_at w) keys = cc in f) k i
+    each_same w v keys (let f : map (object_node_at v) keys ≡ map (object_node_at w) keys = cc in f) k i
 
-all_same : (w v : World) (keys : List Key) → Each (λ key. object_at v key ≡ object_at w key) keys
-    → map (object_at v) keys ≡ map (object_at w) keys
+all_same : (w v : World) (keys : List Key) → Each (λ key. object_node_at v key ≡ object_node_at w key) keys
+    → map (object_node_at v) keys ≡ map (object_node_at w) keys
 all_same w v [] each = refl
 all_same w v (key ∷ keys) each =
-    ap (λ (n : ObjectNode). n ∷ map (object_at v) keys) (each key (inl refl))
-    ∙ ap (λ (l : List ObjectNode). object_at w key ∷ l) (all_same w v keys (λ k i. each k (inr i)))
+    ap (λ (n : ObjectNode). n ∷ map (object_node_at v) keys) (each key (inl refl))
+    ∙ ap (λ (l : List ObjectNode). object_node_at w key ∷ l) (all_same w v keys (λ k i. each k (inr i)))
 
 module _ (w v : World) (reached : IsReached w) (to : RunsTo w v) where
   first_same : (first : FirstNodes) → AreThere w first → first_of v first ≡ first_of w first
@@ -67,12 +67,12 @@ module _ (w v : World) (reached : IsReached w) (to : RunsTo w v) where
       ∙ firsts_same (merged keys (first_of w first)) firsts (λ f i. there f (inr i))
 
   nodes_same : (firsts : List FirstNodes) → ((first : FirstNodes) → In first firsts → AreThere w first)
-      → map (object_at v) (first_keys w firsts) ≡ map (object_at w) (first_keys w firsts)
+      → map (object_node_at v) (first_keys w firsts) ≡ map (object_node_at w) (first_keys w firsts)
   nodes_same firsts there =
       all_same w v (first_keys w firsts)
-      (each_merged (λ key. object_at v key ≡ object_at w key) (first_of w) [] firsts (λ k i. absurd i)
+      (each_merged (λ key. object_node_at v key ≡ object_node_at w key) (first_of w) [] firsts (λ k i. absurd i)
       (λ first i. each_same w v (first_of w first)
-      (ap (map (object_at v)) (sym (first_same first (there first i)))
+      (ap (map (object_node_at v)) (sym (first_same first (there first i)))
       ∙ nodes_stay w v reached to first.region first.colour first.count (there first i).count)))
 
   there_stays : (first : FirstNodes) → AreThere w first → AreThere v first
@@ -93,14 +93,14 @@ module _ (w v : World) (reached : IsReached w) (to : RunsTo w v) where
         there = λ first i. there_stays first (f.there first i);
         low = λ key i. f.low key (subst (λ (l : List Key). Contains l key) keys i);
         folded = subst (Holds fold.kept.state)
-            (sym (nodes_same firsts there) ∙ ap (map (object_at v)) (sym keys)) f.folded;
+            (sym (nodes_same firsts there) ∙ ap (map (object_node_at v)) (sym keys)) f.folded;
       }
 
 -- A READ
 
 module _ (w : World) (client stamp : ℕ) (colours : List ℕ) (firsts : List FirstNodes)
-    (read : AreRead w client stamp colours firsts) where
-  cut : (first : FirstNodes) → In first firsts → first_of w first ≡ up_to stamp (line_of w first)
+    (read : AreReadUpTo w client stamp colours firsts) where
+  cut : (first : FirstNodes) → In first firsts → first_of w first ≡ up_to stamp (whole_line w first)
   cut first i = read.cut first (contains_in firsts first i)
 
   -- what is read later is what was read, and then what is behind
@@ -108,14 +108,14 @@ module _ (w : World) (client stamp : ℕ) (colours : List ℕ) (firsts : List Fi
       → keys_read w client later colours ≡ first_keys w firsts ++ keys_behind w later firsts
   goes_on later grows =
       ap (region_order later) (sym read.lines)
-      ∙ read_goes_on (line_of w) (λ (f : FirstNodes). f.count) stamp later grows firsts cut
+      ∙ read_goes_on (whole_line w) (λ (f : FirstNodes). f.count) stamp later grows firsts cut
 
   by_cut : (fs : List FirstNodes) (keys : List Key)
-      → ((first : FirstNodes) → In first fs → first_of w first ≡ up_to stamp (line_of w first))
-      → fold (λ ks l. merged ks (up_to stamp l)) keys (map (line_of w) fs) ≡ merged_on (first_of w) keys fs
+      → ((first : FirstNodes) → In first fs → first_of w first ≡ up_to stamp (whole_line w first))
+      → fold (λ ks l. merged ks (up_to stamp l)) keys (map (whole_line w) fs) ≡ merged_on (first_of w) keys fs
   by_cut [] keys c = refl
   by_cut (f ∷ fs) keys c =
-      ap (λ (l : List Key). fold (λ ks l. merged ks (up_to stamp l)) (merged keys l) (map (line_of w) fs))
+      ap (λ (l : List Key). fold (λ ks l. merged ks (up_to stamp l)) (merged keys l) (map (whole_line w) fs))
       (sym (c f (inl refl)))
       ∙ by_cut fs (merged keys (first_of w f)) (λ g i. c g (inr i))
 
@@ -124,11 +124,11 @@ module _ (w : World) (client stamp : ℕ) (colours : List ℕ) (firsts : List Fi
 
   low : Each (λ (key : Key). key.stamp ≤ stamp) (first_keys w firsts)
   low = each_merged (λ (key : Key). key.stamp ≤ stamp) (first_of w) [] firsts (λ k i. absurd i)
-      (λ first i k j. low_stamp (line_of w first) first.count stamp stamp (omega arith) (cut first i) k j)
+      (λ first i k j. low_stamp (whole_line w first) first.count stamp stamp (omega arith) (cut first i) k j)
 
   -- all that was read is folded
   pub noted : {F : Type 0} (Holds : F → List ObjectNode → Type 0) (fold : LinesFold F) → fold.firsts.items ≡ firsts
-      → fold.stamp ≡ stamp → Holds fold.kept.state (map (object_at w) (keys_read w client stamp colours))
+      → fold.stamp ≡ stamp → Holds fold.kept.state (map (object_node_at w) (keys_read w client stamp colours))
       → IsLinesFold Holds w fold
   noted Holds fold same at state = record {
     there = λ first i. read.there first (subst (λ (l : List FirstNodes). Contains l first) same i);
@@ -136,7 +136,7 @@ module _ (w : World) (client stamp : ℕ) (colours : List ℕ) (firsts : List Fi
         let l = low key (in_contains (first_keys w firsts) key
         (subst (λ (l : List FirstNodes). Contains (first_keys w l) key) same i)) in
         omega (arith, l, at);
-    folded = subst (λ (ks : List Key). Holds fold.kept.state (map (object_at w) ks))
+    folded = subst (λ (ks : List Key). Holds fold.kept.state (map (object_node_at w) ks))
         (all_read ∙ ap (first_keys w) (sym same)) state;
   }
 
@@ -154,7 +154,7 @@ pub opened : {F : Type 0} (Holds : F → List ObjectNode → Type 0) (w : World)
 opened Holds w fold none state = record {
   there = λ first i. absurd (none_there fold.firsts.items first none i);
   low = λ key i. absurd (none_there (first_keys w fold.firsts.items) key (ap (first_keys w) none) i);
-  folded = subst (λ (l : List FirstNodes). Holds fold.kept.state (map (object_at w) (first_keys w l))) (sym none) state;
+  folded = subst (λ (l : List FirstNodes). Holds fold.kept.state (map (object_node_at w) (first_keys w l))) (sym none) state;
 }
 
 -- NONE IS ANOTHER
@@ -182,26 +182,26 @@ others_folded Holds w fold own f less =
 
 -- the lines of one colour more
 pub one_line_more : (w : World) (client stamp : ℕ) (colours : List ℕ) (colour : ℕ) (firsts : List FirstNodes)
-    (first : FirstNodes) → AreRead w client stamp colours firsts → AreThere w first
-    → line_of w first ≡ line (home_history w client colour)
-    → first_of w first ≡ up_to stamp (line_of w first)
-    → AreRead w client stamp (colours ++ colour ∷ []) (firsts ++ first ∷ [])
+    (first : FirstNodes) → AreReadUpTo w client stamp colours firsts → AreThere w first
+    → whole_line w first ≡ line (home_history w client colour)
+    → first_of w first ≡ up_to stamp (whole_line w first)
+    → AreReadUpTo w client stamp (colours ++ colour ∷ []) (firsts ++ first ∷ [])
 one_line_more w client stamp colours colour firsts first read there its mine = record {
   lines = both firsts colours read.lines;
   there = λ f i. each firsts (AreThere w) (λ g j. read.there g (contains_in firsts g j)) there f
       (in_contains (firsts ++ first ∷ []) f i);
-  cut = λ f i. each firsts (λ g. first_of w g ≡ up_to stamp (line_of w g))
+  cut = λ f i. each firsts (λ g. first_of w g ≡ up_to stamp (whole_line w g))
       (λ g j. read.cut g (contains_in firsts g j)) mine f (in_contains (firsts ++ first ∷ []) f i);
 } where
-  both : (fs : List FirstNodes) (cs : List ℕ) → map (line_of w) fs ≡ map (λ c. line (home_history w client c)) cs
-      → map (line_of w) (fs ++ first ∷ []) ≡ map (λ c. line (home_history w client c)) (cs ++ colour ∷ [])
+  both : (fs : List FirstNodes) (cs : List ℕ) → map (whole_line w) fs ≡ map (λ c. line (home_history w client c)) cs
+      → map (whole_line w) (fs ++ first ∷ []) ≡ map (λ c. line (home_history w client c)) (cs ++ colour ∷ [])
   both [] [] e = ap (λ (l : List Key). l ∷ []) its
   both [] (c ∷ cs) e = absurd (let n = ap length e in let f : ⊥ = omega (arith, n) in f)
   both (f ∷ fs) [] e = absurd (let n = ap length e in let f : ⊥ = omega (arith, n) in f)
   both (f ∷ fs) (c ∷ cs) e =
-      let head : line_of w f ≡ line (home_history w client c) = cc in
-      let rest : map (line_of w) fs ≡ map (λ c. line (home_history w client c)) cs = cc in
-      ap (λ (l : List Key). l ∷ map (line_of w) (fs ++ first ∷ [])) head
+      let head : whole_line w f ≡ line (home_history w client c) = cc in
+      let rest : map (whole_line w) fs ≡ map (λ c. line (home_history w client c)) cs = cc in
+      ap (λ (l : List Key). l ∷ map (whole_line w) (fs ++ first ∷ [])) head
       ∙ ap (λ (ls : List (List Key)). line (home_history w client c) ∷ ls) (both fs cs rest)
 
   each : (fs : List FirstNodes) (P : FirstNodes → Type 0) → ((g : FirstNodes) → In g fs → P g) → P first
@@ -255,7 +255,7 @@ at_place w firsts i low all =
 pub record AreReadFirst (w : World) (client stamp : ℕ) (left colours : List ℕ) (firsts : List FirstNodes) : Type 0 where
   pub first : List ℕ
   pub apart : first ++ left ≡ colours
-  pub read : AreRead w client stamp first firsts
+  pub read : AreReadUpTo w client stamp first firsts
 
 -- the lines of no colour
 pub no_lines : (w : World) (client stamp : ℕ) (left colours : List ℕ) (firsts : List FirstNodes) → firsts ≡ []
@@ -263,7 +263,7 @@ pub no_lines : (w : World) (client stamp : ℕ) (left colours : List ℕ) (first
 no_lines w client stamp left colours firsts none all = record {
   first = [];
   apart = all;
-  read = subst (AreRead w client stamp []) (sym none) (record {
+  read = subst (AreReadUpTo w client stamp []) (sym none) (record {
     lines = refl;
     there = λ first i. absurd (in_contains [] first i);
     cut = λ first i. absurd (in_contains [] first i);
@@ -274,26 +274,26 @@ no_lines w client stamp left colours firsts none all = record {
 pub line_made : (w : World) (client stamp colour : ℕ) (left rest colours : List ℕ) (old new : List FirstNodes)
     (first : FirstNodes) → left ≡ colour ∷ rest → new ≡ old ++ first ∷ [] → AreThere w first
     → first.region ≡ home_of w client → first.colour ≡ colour
-    → take first.count (line_of w first) ≡ up_to stamp (line (home_history w client colour))
+    → take first.count (whole_line w first) ≡ up_to stamp (line (home_history w client colour))
     → AreReadFirst w client stamp left colours old → AreReadFirst w client stamp rest colours new
 line_made w client stamp colour left rest colours old new first e made there region is nodes so_far =
-    let its : line_of w first ≡ line (home_history w client colour) =
+    let its : whole_line w first ≡ line (home_history w client colour) =
     ap (λ (r : ℕ). line (w.histories r first.colour)) region
     ∙ ap (λ (c : ℕ). line (w.histories (home_of w client) c)) is in
     record {
       first = so_far.first ++ colour ∷ [];
       apart = append_assoc so_far.first (colour ∷ []) rest
           ∙ (ap (λ (l : List ℕ). so_far.first ++ l) (sym e) ∙ so_far.apart);
-      read = subst (AreRead w client stamp (so_far.first ++ colour ∷ [])) (sym made)
+      read = subst (AreReadUpTo w client stamp (so_far.first ++ colour ∷ [])) (sym made)
           (one_line_more w client stamp so_far.first colour old first so_far.read there its
           (nodes ∙ ap (up_to stamp) (sym its)));
     }
 
 -- all lines
 pub all_lines : (w : World) (client stamp : ℕ) (left colours : List ℕ) (firsts : List FirstNodes) → left ≡ []
-    → AreReadFirst w client stamp left colours firsts → AreRead w client stamp colours firsts
+    → AreReadFirst w client stamp left colours firsts → AreReadUpTo w client stamp colours firsts
 all_lines w client stamp left colours firsts none so_far =
-    subst (λ (l : List ℕ). AreRead w client stamp l firsts)
+    subst (λ (l : List ℕ). AreReadUpTo w client stamp l firsts)
     (sym (append-nil so_far.first) ∙ (ap (λ (l : List ℕ). so_far.first ++ l) (sym none) ∙ so_far.apart)) so_far.read
 
 -- where it goes on, and where it begins anew

@@ -23,7 +23,7 @@ use Rattle.script_text.specs.declared.script.Command.{Command}
 use Rattle.script_text.specs.Pieces.{is_key}
 use Rattle.script_text.specs.Fitting.{AreBelow, HasColours, AreObjectColours, IsKindWithin, is_any_map, is_queue, HasObject}
 use Rattle.report_text.specs.declared.report.Answer.{Answer}
-use Rattle.lawful_run.specs.Asks.{object_colours, keys_of, put_form}
+use Rattle.lawful_run.specs.Asks.{object_colours, keys_of_pairs, put_form}
 use Rattle.script_meaning.specs.States.{kind_in}
 use Rattle.script_meaning.specs.Appends.{appended}
 use Rattle.script_meaning.specs.Objects.{appended_form, shard_set}
@@ -146,23 +146,23 @@ all_versions colours versions i set whole e =
 -- of the keys of listed pairs, behind others
 pub more_pairs : (colours : List ℕ) (before : List (List ℕ)) (pairs : List Pair) (i : ℕ) (pair : Pair) (old new : Colours)
     (c : ℕ) → i < length pairs → c ≡ shard_of colours (get_or pairs i pair).key → new ≡ with_colour old c
-    → old ≡ set_of (map (shard_of colours) (before ++ keys_of (take i pairs)))
-    → new ≡ set_of (map (shard_of colours) (before ++ keys_of (take (i + 1) pairs)))
+    → old ≡ set_of (map (shard_of colours) (before ++ keys_of_pairs (take i pairs)))
+    → new ≡ set_of (map (shard_of colours) (before ++ keys_of_pairs (take (i + 1) pairs)))
 more_pairs colours before pairs i pair old new c lt is made was =
-    key_more colours (before ++ keys_of (take i pairs)) (get_or pairs i pair).key old new c is made was
+    key_more colours (before ++ keys_of_pairs (take i pairs)) (get_or pairs i pair).key old new c is made was
     ∙ ap (λ (ks : List (List ℕ)). set_of (map (shard_of colours) ks))
-    (append_assoc before (keys_of (take i pairs)) ((get_or pairs i pair).key ∷ [])
+    (append_assoc before (keys_of_pairs (take i pairs)) ((get_or pairs i pair).key ∷ [])
     ∙ ap (λ (ks : List (List ℕ)). before ++ ks)
     (sym (map-append (λ (p : Pair). p.key) (take i pairs) (get_or pairs i pair ∷ []))
-    ∙ ap keys_of (sym (take_more pairs i pair lt))))
+    ∙ ap keys_of_pairs (sym (take_more pairs i pair lt))))
 
 pub all_pairs : (colours : List ℕ) → AreObjectColours MAX_COLOURS colours → (before : List (List ℕ)) (pairs : List Pair)
     (set : Colours) (i : ℕ) → length pairs ≤ i
-    → set ≡ set_of (map (shard_of colours) (before ++ keys_of (take i pairs)))
-    → set ≡ shard_set colours (before ++ keys_of pairs)
+    → set ≡ set_of (map (shard_of colours) (before ++ keys_of_pairs (take i pairs)))
+    → set ≡ shard_set colours (before ++ keys_of_pairs pairs)
 all_pairs colours are before pairs set i whole e =
-    e ∙ (ap (λ (ps : List Pair). set_of (map (shard_of colours) (before ++ keys_of ps))) (take_all i pairs whole)
-    ∙ keys_set colours are (before ++ keys_of pairs))
+    e ∙ (ap (λ (ps : List Pair). set_of (map (shard_of colours) (before ++ keys_of_pairs ps))) (take_all i pairs whole)
+    ∙ keys_set colours are (before ++ keys_of_pairs pairs))
 
 -- the set of the colour of a queue
 pub queue_shard : (kind : Kind) → is_queue kind ≡ true → (c : ℕ) → c ≡ shard_of (object_colours (Some kind)) []

@@ -13,7 +13,7 @@ use Rattle.col_core.proofs.CallerLemmas.{if_true, if_false}
 use Rattle.world_laws.specs.Worlds.{World, home_of, home_history}
 use Rattle.world_laws.specs.Laws.{IsReached}
 use Rattle.world_laws.proofs.CallerLemmas.{in_contains, contains_in}
-use Rattle.script_meaning.specs.Dequeues.{object_at}
+use Rattle.script_meaning.specs.Dequeues.{object_node_at}
 use Rattle.script_meaning.specs.Stamped.{keys_read}
 use Rattle.script_meaning.proofs.CallerLemmas.{keys_stand}
 use Rattle.script_in_order.specs.Transacting.{AreOfLines, AreOthers}
@@ -35,11 +35,11 @@ is_there keys i low = any_default keys i (record { stamp = 0; id = record { clie
 
 -- one node more
 pub one_more : (w : World) (keys : List Key) (i : ℕ) (key : Key) → i < length keys → key ≡ get_or keys i key
-    → map (object_at w) (take i keys) ++ object_at w key ∷ [] ≡ map (object_at w) (take (i + 1) keys)
+    → map (object_node_at w) (take i keys) ++ object_node_at w key ∷ [] ≡ map (object_node_at w) (take (i + 1) keys)
 one_more w keys i key low is =
-    ap (λ (k : Key). map (object_at w) (take i keys) ++ object_at w k ∷ []) is
-    ∙ (sym (map-append (object_at w) (take i keys) (get_or keys i key ∷ []))
-    ∙ ap (map (object_at w)) (sym (take_more keys i key low)))
+    ap (λ (k : Key). map (object_node_at w) (take i keys) ++ object_node_at w k ∷ []) is
+    ∙ (sym (map-append (object_node_at w) (take i keys) (get_or keys i key ∷ []))
+    ∙ ap (map (object_node_at w)) (sym (take_more keys i key low)))
 
 pub no_others : (own : Key) → AreOthers own []
 no_others own k d low = absurd (let f : ⊥ = omega (arith, low) in f)
@@ -61,20 +61,20 @@ module _ (w : World) (own : Key) where
   abbrev is_own : ObjectNode → Bool
   is_own node = same_key node.key own
 
-  none_found : (keys : List Key) → AreOthers own keys → find is_own (map (object_at w) keys) ≡ None
+  none_found : (keys : List Key) → AreOthers own keys → find is_own (map (object_node_at w) keys) ≡ None
   none_found [] all = refl
   none_found (key ∷ keys) all =
-      if_false (same_key key own) (Some (object_at w key)) (find is_own (map (object_at w) keys))
+      if_false (same_key key own) (Some (object_node_at w key)) (find is_own (map (object_node_at w) keys))
       (all zero key (omega arith))
       ∙ none_found keys (rest_others own key keys all)
 
   first_found : (keys : List Key) (i : ℕ) (key : Key) → i < length keys → AreOthers own (take i keys)
-      → same_key (get_or keys i key) own ≡ true → find is_own (map (object_at w) keys) ≡ Some (object_at w (get_or keys i key))
+      → same_key (get_or keys i key) own ≡ true → find is_own (map (object_node_at w) keys) ≡ Some (object_node_at w (get_or keys i key))
   first_found [] i key low all same = absurd (let f : ⊥ = omega (arith, low) in f)
   first_found (x ∷ xs) zero key low all same =
-      if_true (same_key x own) (Some (object_at w x)) (find is_own (map (object_at w) xs)) same
+      if_true (same_key x own) (Some (object_node_at w x)) (find is_own (map (object_node_at w) xs)) same
   first_found (x ∷ xs) (suc i) key low all same =
-      if_false (same_key x own) (Some (object_at w x)) (find is_own (map (object_at w) xs)) (all zero x (omega arith))
+      if_false (same_key x own) (Some (object_node_at w x)) (find is_own (map (object_node_at w) xs)) (all zero x (omega arith))
       ∙ first_found xs i key (omega (arith, low)) (rest_others own x (take i xs) all) same
 
   -- how many first nodes have other keys
@@ -83,35 +83,35 @@ module _ (w : World) (own : Key) where
 
   before_first : (keys : List Key) (i : ℕ) (key : Key) → i < length keys → AreOthers own (take i keys)
       → same_key (get_or keys i key) own ≡ true
-      → nodes_before own (map (object_at w) keys) ≡ map (object_at w) (take i keys)
+      → nodes_before own (map (object_node_at w) keys) ≡ map (object_node_at w) (take i keys)
   before_first [] i key low all same = absurd (let f : ⊥ = omega (arith, low) in f)
   before_first (x ∷ xs) zero key low all same =
-      ap (λ (n : ℕ). take n (map (object_at w) (x ∷ xs)))
-      (if_false (not (same_key x own)) (1 + others_first (map (object_at w) xs)) 0 (ap not same))
+      ap (λ (n : ℕ). take n (map (object_node_at w) (x ∷ xs)))
+      (if_false (not (same_key x own)) (1 + others_first (map (object_node_at w) xs)) 0 (ap not same))
   before_first (x ∷ xs) (suc i) key low all same =
-      let n = others_first (map (object_at w) xs) in
+      let n = others_first (map (object_node_at w) xs) in
       let one : 1 + n ≡ suc n = omega arith in
-      ap (λ (m : ℕ). take m (map (object_at w) (x ∷ xs)))
+      ap (λ (m : ℕ). take m (map (object_node_at w) (x ∷ xs)))
       (if_true (not (same_key x own)) (1 + n) 0 (ap not (all zero x (omega arith))) ∙ one)
-      ∙ ap (λ (l : List ObjectNode). object_at w x ∷ l)
+      ∙ ap (λ (l : List ObjectNode). object_node_at w x ∷ l)
       (before_first xs i key (omega (arith, low)) (rest_others own x (take i xs) all) same)
 
   module _ {T : Type 0} (told : List ObjectNode → ObjectNode → Option T) where
     -- the node with the key is not among these
-    pub none_told : (keys : List Key) → AreOthers own keys → told_of told (map (object_at w) keys) own ≡ None
-    none_told keys all = ap (told_among told (map (object_at w) keys)) (none_found keys all)
+    pub none_told : (keys : List Key) → AreOthers own keys → told_of told (map (object_node_at w) keys) own ≡ None
+    none_told keys all = ap (told_among told (map (object_node_at w) keys)) (none_found keys all)
 
     -- it is told what it is told behind the nodes before it
     pub its_told : (keys : List Key) (i : ℕ) (key : Key) (given : Option T) → i < length keys
         → key ≡ get_or keys i key → AreOthers own (take i keys) → same_key key own ≡ true
-        → given ≡ told (map (object_at w) (take i keys)) (object_at w key)
-        → given ≡ told_of told (map (object_at w) keys) own
+        → given ≡ told (map (object_node_at w) (take i keys)) (object_node_at w key)
+        → given ≡ told_of told (map (object_node_at w) keys) own
     its_told keys i key given low is all same e =
         let there = subst (λ (k : Key). same_key k own ≡ true) is same in
-        let nodes = map (object_at w) keys in
-        let its = object_at w (get_or keys i key) in
+        let nodes = map (object_node_at w) keys in
+        let its = object_node_at w (get_or keys i key) in
         e
-        ∙ (ap (λ (k : Key). told (map (object_at w) (take i keys)) (object_at w k)) is
+        ∙ (ap (λ (k : Key). told (map (object_node_at w) (take i keys)) (object_node_at w k)) is
         ∙ (ap (λ (l : List ObjectNode). told l its) (sym (before_first keys i key low all there))
         ∙ (ap (λ (k : Key). told (nodes_before k nodes) its) (sym (same_key-is (get_or keys i key) own there))
         ∙ ap (told_among told nodes) (sym (first_found keys i key low all there)))))

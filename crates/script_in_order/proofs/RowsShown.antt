@@ -19,7 +19,8 @@ use Rattle.report_text.specs.declared.report.RowReport.{RowReport}
 use Rattle.lawful_run.specs.Columns.{row_report}
 use Rattle.col_core.specs.Rows.{BegunRow}
 use Rattle.script_in_order.specs.Reports.{client_rows_shown}
-use Rattle.script_in_order.proofs.ListsShown.{range_more, flat_map_range_more}
+use Rattle.lawful_run.proofs.CallerLemmas.{range_more}
+use Rattle.script_in_order.proofs.ListsShown.{flat_map_range_more}
 
 -- The rows of a client
 

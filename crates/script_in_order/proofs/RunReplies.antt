@@ -21,10 +21,10 @@ use Rattle.script_text.specs.Uses.{use_of}
 use Rattle.report_text.specs.declared.report.Answer.{Answer}
 use Rattle.report_text.specs.declared.report.Answer.TheVariants.{NoMemory}
 use Rattle.report_text.specs.declared.report.ReplyLine.{ReplyLine}
-use Rattle.script_meaning.specs.States.{State, Grants, Reads, all_granted, answered, reads_left}
+use Rattle.script_meaning.specs.States.{State, Grants, LastReads, all_granted, answered, reads_left}
 use Rattle.script_in_order.specs.Doing.{Does, transacts, transaction_of}
 use Rattle.lawful_run.specs.Refusals.{before_by, behind_by}
-use Rattle.script_in_order.specs.Runs.{RepliesView, RunView, no_replies, with_reply, with_read, replies_at, read_at, state_of, reply_of, IsDone}
+use Rattle.script_in_order.specs.Runs.{RepliesView, RunView, no_replies, with_reply, with_read_found, replies_at, found_at, state_of, reply_of, IsDone}
 use Rattle.script_in_order.specs.Transacting.{Transacts}
 pub use Rattle.log_node.proofs.CallerLemmas.{any_default}
 
@@ -45,22 +45,22 @@ module _ (replies : List RepliesView) (client : ℕ) (mine : RepliesView) (low :
       ≡ (record {
         world = world_of world;
         replies = updated (λ n. (replies_at replies n).lines) client mine.lines;
-        reads = updated (λ n. read_at (replies_at replies n).reads) client (read_at mine.reads);
+        reads = updated (λ n. found_at (replies_at replies n).reads) client (found_at mine.reads);
       })
   state_with world =
       ap (λ (f : ℕ → List ReplyLine). let s : State = record {
         world = world_of world;
         replies = f;
-        reads = λ n. read_at (replies_at (set replies client mine) n).reads;
+        reads = λ n. found_at (replies_at (set replies client mine) n).reads;
       } in s) (told (λ r. r.lines))
-      ∙ ap (λ (f : ℕ → Reads). let s : State = record {
+      ∙ ap (λ (f : ℕ → LastReads). let s : State = record {
         world = world_of world;
         replies = updated (λ n. (replies_at replies n).lines) client mine.lines;
         reads = f;
-      } in s) (told (λ r. read_at r.reads))
+      } in s) (told (λ r. found_at r.reads))
 
 -- a command that is no read and no commit leaves the reads
-pub left_alone : (what : What) (reads : Reads) → transaction_of what ≡ None → reads_left what reads ≡ reads
+pub left_alone : (what : What) (reads : LastReads) → transaction_of what ≡ None → reads_left what reads ≡ reads
 left_alone what reads = by (use_of what) where
   by : (u : Use) → transacts u ≡ None
       → (behind_by u (before_by u (record nothing_kept { reads = reads }))).reads ≡ reads
@@ -98,7 +98,7 @@ command_done objects command old world given reply plain low ok err is = turn gi
         replies = updated (state_of old).replies command.client ((state_of old).replies command.client ++ x ∷ []);
         reads = updated (state_of old).reads command.client ((state_of old).reads command.client);
       } in s) e
-      ∙ ap (λ (r : Reads). let s : State = record {
+      ∙ ap (λ (r : LastReads). let s : State = record {
         world = world_of world;
         replies = updated (state_of old).replies command.client
             ((state_of old).replies command.client ++ reply_of command answer nodes ∷ []);
@@ -132,11 +132,11 @@ command_done objects command old world given reply plain low ok err is = turn gi
 
 -- one read is another
 pub reads_with : (reads : List (Option (List Version))) (object : ℕ) (kept : Option (List Version))
-    → object < length reads → read_at (set reads object kept) ≡ updated (read_at reads) object kept
+    → object < length reads → found_at (set reads object kept) ≡ updated (found_at reads) object kept
 reads_with reads object kept low =
-    fun_ext (λ n. at_updated (λ (r : Option (List Version)). read_at (set reads object kept) n ≡ r) (read_at reads)
+    fun_ext (λ n. at_updated (λ (r : Option (List Version)). found_at (set reads object kept) n ≡ r) (found_at reads)
     object kept n
-    (λ e. ap (λ (k : ℕ). read_at (set reads object kept) k) e ∙ get_or-set_same reads object kept None low)
+    (λ e. ap (λ (k : ℕ). found_at (set reads object kept) k) e ∙ get_or-set_same reads object kept None low)
     (λ other. get_or-set_other reads object n kept None (λ e. true≢false (sym (eq-eqb n object e) ∙ other))))
 
 -- a read or a commit
@@ -152,7 +152,7 @@ transaction_done objects command object old world mine low there t = record {
   state = ap (λ (m : RepliesView). state_of (record { world = world; replies = set old.replies command.client m }))
       t.replies
       ∙ (state_with old.replies command.client next low world
-      ∙ (ap (λ (r : Reads). let s : State = record {
+      ∙ (ap (λ (r : LastReads). let s : State = record {
         world = world_of world;
         replies = updated (state_of old).replies command.client next.lines;
         reads = updated (state_of old).reads command.client r;
@@ -164,5 +164,5 @@ transaction_done objects command object old world mine low there t = record {
   replies = refl;
 } where
   next : RepliesView
-  next = with_reply (with_read (replies_at old.replies command.client) object t.kept)
+  next = with_reply (with_read_found (replies_at old.replies command.client) object t.kept)
       (reply_of command t.answer [])

@@ -17,12 +17,12 @@ use Rattle.script_text.specs.declared.script.Command.{Command}
 use Rattle.script_text.specs.declared.script.Script.{Script}
 use Rattle.script_text.specs.Fitting.{IsFitting, IsWithin, IsKindWithin, UsesObject}
 use Rattle.report_text.specs.declared.report.ReplyLine.{ReplyLine}
-use Rattle.script_meaning.specs.States.{State, Reads, no_reads, StopsAreLast}
+use Rattle.script_meaning.specs.States.{State, LastReads, no_reads, StopsAreLast}
 use Rattle.script_meaning.specs.Meaning.{LeadTo, nothing, next}
 use Rattle.object_form.specs.Laws.{ReadsBack}
 use Rattle.script_meaning.proofs.CallerLemmas.{lead_shape, reads_fit}
 use Rattle.script_in_order.specs.Doing.{IsFit}
-use Rattle.script_in_order.specs.Runs.{RepliesView, RunView, no_replies, replies_at, read_at, state_of, asks, IsDone}
+use Rattle.script_in_order.specs.Runs.{RepliesView, RunView, no_replies, replies_at, found_at, state_of, asks, IsDone}
 use Rattle.script_in_order.specs.Transacting.{AreFit}
 use Rattle.script_in_order.specs.Runs.{IsRunAt}
 
@@ -69,7 +69,7 @@ module _ (script : Script) (fits : IsFitting script) (place : ℕ) (code : RunVi
   pub next_reads : length (replies_at code.replies command.client).reads ≡ length script.objects
   next_reads = run.reads command.client caller
 
-  pub next_rests : ReadsBack → StopsAreLast script → AreFit (read_at (replies_at code.replies command.client).reads)
+  pub next_rests : ReadsBack → StopsAreLast script → AreFit (found_at (replies_at code.replies command.client).reads)
   next_rests back last = reads_fit back script fits last run.leads (drop place script.commands)
       (sym (take-append-drop place script.commands)) command.client
 
@@ -154,20 +154,20 @@ opens script world replies w r = record {
       ∙ get_or-map-range_with_len (first_replies script) 0 (length script.shape.homes) client client (no_replies 0 0) h
       (zero-add client)
 
-  none_in : (n from o : ℕ) → read_at (map (λ _. None) (range_with_len from n)) o ≡ None
+  none_in : (n from o : ℕ) → found_at (map (λ _. None) (range_with_len from n)) o ≡ None
   none_in zero from o = refl
   none_in (suc n) from zero = refl
   none_in (suc n) from (suc o) = none_in n (from + 1) o
 
   nothing_told : (n from k : ℕ) → let x = replies_at (map (first_replies script) (range_with_len from n)) k in
-      (x.lines ≡ []) × (read_at x.reads ≡ no_reads)
+      (x.lines ≡ []) × (found_at x.reads ≡ no_reads)
   nothing_told zero from k = (refl, fun_ext (λ o. refl))
   nothing_told (suc n) from zero = (refl, fun_ext (none_in (length script.objects) 0))
   nothing_told (suc n) from (suc k) = nothing_told n (from + 1) k
 
-  none : (client : ℕ) → ((replies_at replies client).lines ≡ []) × (read_at (replies_at replies client).reads ≡ no_reads)
+  none : (client : ℕ) → ((replies_at replies client).lines ≡ []) × (found_at (replies_at replies client).reads ≡ no_reads)
   none client = subst (λ (l : List RepliesView). ((replies_at l client).lines ≡ [])
-      × (read_at (replies_at l client).reads ≡ no_reads)) (sym r)
+      × (found_at (replies_at l client).reads ≡ no_reads)) (sym r)
       (nothing_told (length script.shape.homes) 0 client)
 
   state : state_of (record { world = world; replies = replies })
@@ -176,14 +176,14 @@ opens script world replies w r = record {
       ap (λ (x : World). let s : State = record {
         world = x;
         replies = λ n. (replies_at replies n).lines;
-        reads = λ n. read_at (replies_at replies n).reads;
+        reads = λ n. found_at (replies_at replies n).reads;
       } in s) w
       ∙ (ap (λ (f : ℕ → List ReplyLine). let s : State = record {
         world = opened script.shape;
         replies = f;
-        reads = λ n. read_at (replies_at replies n).reads;
+        reads = λ n. found_at (replies_at replies n).reads;
       } in s) (fun_ext (λ n. (none n).0))
-      ∙ ap (λ (f : ℕ → Reads). let s : State = record {
+      ∙ ap (λ (f : ℕ → LastReads). let s : State = record {
         world = opened script.shape;
         replies = λ _. [];
         reads = f;

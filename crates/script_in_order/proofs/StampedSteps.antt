@@ -20,7 +20,7 @@ use Rattle.world_laws.specs.declared.steps.Step.TheVariants.{Raise, Play}
 use Rattle.world_laws.specs.Worlds.{World, home_of, home_history, after, reply, may_play, after_play, played_cut}
 use Rattle.script_meaning.specs.States.{Grants}
 use Rattle.script_meaning.specs.Stamped.{Progress, raised, played, read_stamp}
-use Rattle.script_in_order.specs.Stamped.{Raises}
+use Rattle.script_in_order.specs.Stamped.{RaisesColumns}
 use Rattle.script_in_order.proofs.Sets.{any_left}
 
 -- the line of a column
@@ -66,7 +66,7 @@ raised_next old now new client stamp n left rest colours e so_far is = record {
 
 -- all of them
 pub raised_all : (old now : World) (client stamp : ℕ) (left colours : List ℕ) → left ≡ []
-    → RaisedFirst old client stamp left colours now → Raises old client stamp colours now None
+    → RaisedFirst old client stamp left colours now → RaisesColumns old client stamp colours now None
 raised_all old now client stamp left colours none so_far = record {
   found = λ _. true;
   is = λ grants e.
@@ -75,7 +75,7 @@ raised_all old now client stamp left colours none so_far = record {
 
 -- up to one for which there is no memory
 pub raised_to : (old now : World) (client stamp n : ℕ) (left rest : List ℕ) (set : Colours) → left ≡ n ∷ rest
-    → RaisedFirst old client stamp left (members set) now → Raises old client stamp (members set) now (Some n)
+    → RaisedFirst old client stamp left (members set) now → RaisesColumns old client stamp (members set) now (Some n)
 raised_to old now client stamp n left rest set e so_far = record {
   found = λ c. list_any (λ d. d == c) so_far.first;
   is = λ grants g.

@@ -16,18 +16,18 @@ use Rattle.report_text.specs.declared.report.Answer.TheVariants as answers
 use Rattle.report_text.specs.declared.report.RaisePiece.{RaisePiece}
 use Rattle.report_text.specs.declared.report.SyncPiece.{SyncPiece}
 use Rattle.script_meaning.specs.States.{State, Grants, answered}
-use Rattle.script_meaning.specs.Helping.{Helping, node_with, cleared, all_cleared}
+use Rattle.script_meaning.specs.Helping.{Helping, node_by_id, cleared, all_cleared}
 use Rattle.script_meaning.specs.Stamped.{Progress, ReadEnd, Whole, Refused, Unraised, StampedRead, raised, played, read_stamp, raise_in, sync_in, key_above, keys_read, read_after_plays, read_after_raises, stamped_read, shown_key, scan_answer, ended_by, scanned}
 use Rattle.script_in_order.specs.Doing.{DoneBy, with_replies}
-use Rattle.script_in_order.specs.Helps.{FindsNext, Helps}
-use Rattle.script_in_order.specs.Stamped.{no_look, looked_in, Raises, ReadsRaised, Reads}
+use Rattle.script_in_order.specs.Helps.{FindsNext, HelpsLead}
+use Rattle.script_in_order.specs.Stamped.{no_look, looked_in, RaisesColumns, ReadsRaised, ReadsStamped}
 use Rattle.script_in_order.proofs.HelpsAndClears.{found_with, finds_all}
 
 -- THE PARTS
 
 -- the columns cleared
 clear_is : (old mid : World) (client : ℕ) (key : Key) (colours : List ℕ)
-    → (helps : Helps (λ grants h. fold (cleared grants client key) h colours) old mid) → (grants : Grants)
+    → (helps : HelpsLead (λ grants h. fold (cleared grants client key) h colours) old mid) → (grants : Grants)
     → FindsNext grants 0 helps.finds → all_cleared grants client key colours old ≡ mid
 clear_is old mid client key colours helps grants finds = ap (λ (h : Helping). h.world) (helps.is grants 0 finds)
 
@@ -57,8 +57,8 @@ see_shape w new client stamp is =
 
 -- the nodes that are read are there
 pub all_listed : (w : World) (keys : List Key)
-    → ((key : Key) → In key keys → (node : Node) × (node_with w key.id ≡ Some node))
-    → All (λ (key : Key). node_with w key.id ≢ None) keys
+    → ((key : Key) → In key keys → (node : Node) × (node_by_id w key.id ≡ Some node))
+    → All (λ (key : Key). node_by_id w key.id ≢ None) keys
 all_listed w [] each k d low = absurd (let f : ⊥ = omega (arith, low) in f)
 all_listed w (key ∷ keys) each zero d low = λ none.
     let n = each key (inl refl) in let e = sym n.1 ∙ none in let f : ⊥ = cc in f
@@ -67,7 +67,7 @@ all_listed w (key ∷ keys) each (suc k) d low =
 
 -- a read whose columns are raised, cleared and played
 module _ (old mid last : World) (client stamp : ℕ) (colours : List ℕ) (stopped : Option ℕ)
-    (helps : Helps (λ grants h. fold (cleared grants client (key_above stamp)) h colours) old mid)
+    (helps : HelpsLead (λ grants h. fold (cleared grants client (key_above stamp)) h colours) old mid)
     (plays : played client mid colours ≡ record { world = last; stopped = stopped }) where
   on_from : (grants : Grants) → FindsNext grants 0 helps.finds → (first : World)
       → read_stamp first client colours ≡ stamp
@@ -82,7 +82,7 @@ module _ (old mid last : World) (client stamp : ℕ) (colours : List ℕ) (stopp
       ∙ ap (λ (p : Progress). read_after_plays client colours first mid p.world p.stopped) plays
 
 pub reads_refused : (old mid new : World) (client stamp : ℕ) (colours : List ℕ) (raises : List RaisePiece) (c : ℕ)
-    (base : Counts) → Helps (λ grants h. fold (cleared grants client (key_above stamp)) h colours) old mid
+    (base : Counts) → HelpsLead (λ grants h. fold (cleared grants client (key_above stamp)) h colours) old mid
     → played client mid colours ≡ record { world = new; stopped = Some c }
     → base ≡ base_after new.shape.regions (home_of new client) (home_history new client c)
     → ReadsRaised old new client stamp colours raises (Refused c base)
@@ -94,7 +94,7 @@ reads_refused old mid new client stamp colours raises c base helps plays is = re
 }
 
 pub reads_whole : (old mid last new : World) (client stamp : ℕ) (colours : List ℕ) (raises : List RaisePiece)
-    (syncs : List SyncPiece) → Helps (λ grants h. fold (cleared grants client (key_above stamp)) h colours) old mid
+    (syncs : List SyncPiece) → HelpsLead (λ grants h. fold (cleared grants client (key_above stamp)) h colours) old mid
     → played client mid colours ≡ record { world = last; stopped = None }
     → new ≡ after last (Seen client stamp) → syncs ≡ map (sync_in mid client) colours
     → ReadsRaised old new client stamp colours raises (Whole stamp raises syncs (keys_read new client stamp colours))
@@ -113,8 +113,8 @@ reads_whole old mid last new client stamp colours raises syncs helps plays is sy
 
 -- there was no memory for a raise
 pub reads_unraised : (old new : World) (client stamp : ℕ) (colours : List ℕ) (stopped : Option ℕ)
-    → stamp ≡ read_stamp old client colours → is_some stopped ≡ true → Raises old client stamp colours new stopped
-    → Reads old new client colours Unraised
+    → stamp ≡ read_stamp old client colours → is_some stopped ≡ true → RaisesColumns old client stamp colours new stopped
+    → ReadsStamped old new client colours Unraised
 reads_unraised old new client stamp colours None is some raises = absurd (let f : ⊥ = cc in f)
 reads_unraised old new client stamp colours (Some c) is some raises = record {
   found = raises.found;
@@ -127,8 +127,8 @@ reads_unraised old new client stamp colours (Some c) is some raises = record {
 -- all columns were raised
 pub reads_on : (old mid new : World) (client stamp : ℕ) (colours : List ℕ) (stopped : Option ℕ)
     (raises : List RaisePiece) (ends : ReadEnd) → stamp ≡ read_stamp old client colours → is_some stopped ≡ false
-    → Raises old client stamp colours mid stopped → raises ≡ map (raise_in old client stamp) colours
-    → ReadsRaised mid new client stamp colours raises ends → Reads old new client colours ends
+    → RaisesColumns old client stamp colours mid stopped → raises ≡ map (raise_in old client stamp) colours
+    → ReadsRaised mid new client stamp colours raises ends → ReadsStamped old new client colours ends
 reads_on old mid new client stamp colours (Some c) raises ends is none was raises_are rest =
     absurd (let f : ⊥ = cc in f)
 reads_on old mid new client stamp colours None raises ends is none was raises_are rest = record {
@@ -149,7 +149,7 @@ finds_same grants more same n (x ∷ finds) f =
     (ap (λ (h : ℕ → ℕ → Bool). h n) same ∙ f.0, finds_same grants more same (n + 1) finds f.1)
 
 -- a read, with memory granted so
-pub read_given : (old new : World) (client : ℕ) (colours : List ℕ) (ends : ReadEnd) → Reads old new client colours ends
+pub read_given : (old new : World) (client : ℕ) (colours : List ℕ) (ends : ReadEnd) → ReadsStamped old new client colours ends
     → (g : Grants) × (stamped_read g old client colours ≡ record { world = new; ends = ends })
 read_given old new client colours ends reads =
     let g : Grants = record (found_with (λ _. true) reads.finds) { raises = reads.found } in (
@@ -173,7 +173,7 @@ reading answer shown command colours grants state =
 
 module _ (old new : World) (command : Command) (colours : List ℕ) (answer : Answering) (shown : Showing) where
   -- where memory is granted to a read, and for what it has read
-  module _ (ends : ReadEnd) (reads : Reads old new command.client colours ends) (items : Bool) where
+  module _ (ends : ReadEnd) (reads : ReadsStamped old new command.client colours ends) (items : Bool) where
     abbrev grants : Grants
     grants = record (found_with (λ _. true) reads.finds) { raises = reads.found; items = items }
 
@@ -189,7 +189,7 @@ module _ (old new : World) (command : Command) (colours : List ℕ) (answer : An
         r.world r.ends) read_is
 
   module _ (stamp : ℕ) (raises : List RaisePiece) (syncs : List SyncPiece) (keys : List Key)
-      (reads : Reads old new command.client colours (Whole stamp raises syncs keys)) where
+      (reads : ReadsStamped old new command.client colours (Whole stamp raises syncs keys)) where
     pub told_whole : (given : Answer) (nodes : List PlacedNode) → given ≡ answer new stamp raises syncs keys
         → nodes ≡ shown new keys → DoneBy (reading answer shown command colours) command old new given nodes
     told_whole given nodes is are = record {
@@ -210,7 +210,7 @@ module _ (old new : World) (command : Command) (colours : List ℕ) (answer : An
     }
 
   pub told_refused : (c : ℕ) (base : Counts) (nodes : List PlacedNode)
-      → Reads old new command.client colours (Refused c base) → nodes ≡ []
+      → ReadsStamped old new command.client colours (Refused c base) → nodes ≡ []
       → DoneBy (reading answer shown command colours) command old new (answers.Trimmed c base) nodes
   told_refused c base nodes reads none = record {
     grants = grants (Refused c base) reads true;
@@ -219,7 +219,7 @@ module _ (old new : World) (command : Command) (colours : List ℕ) (answer : An
         ∙ ap (answered (with_replies old replies) command new (answers.Trimmed c base)) (sym none);
   }
 
-  pub told_unraised : (nodes : List PlacedNode) → Reads old new command.client colours Unraised → nodes ≡ []
+  pub told_unraised : (nodes : List PlacedNode) → ReadsStamped old new command.client colours Unraised → nodes ≡ []
       → DoneBy (reading answer shown command colours) command old new answers.NoMemory nodes
   told_unraised nodes reads none = record {
     grants = grants Unraised reads true;
@@ -238,7 +238,7 @@ scan_shows w keys = map (shown_key w) keys
 
 pub scans_whole : (old new : World) (command : Command) (colours : List ℕ) (stamp count : ℕ)
     (raises : List RaisePiece) (syncs : List SyncPiece) (keys : List Key) (nodes : List PlacedNode)
-    → Reads old new command.client colours (Whole stamp raises syncs keys) → nodes ≡ map (shown_key new) keys
+    → ReadsStamped old new command.client colours (Whole stamp raises syncs keys) → nodes ≡ map (shown_key new) keys
     → count ≡ length nodes
     → DoneBy (λ grants state. scanned grants state command colours) command old new
     (answers.Scanned stamp count raises syncs) nodes

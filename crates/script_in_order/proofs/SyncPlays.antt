@@ -23,11 +23,11 @@ use Rattle.playback.proofs.CallerLemmas.{shown_at, IsAhead, shows_chains, played
 use Rattle.script_text.specs.declared.script.Command.{Command}
 use Rattle.report_text.specs.declared.report.Answer.TheVariants as answers
 use Rattle.script_meaning.specs.States.{State, all_granted, answered}
-use Rattle.script_meaning.specs.Moves.{synced, placed, placed_at, no_head, home_chains, nodes_played}
+use Rattle.script_meaning.specs.Moves.{synced, node_placed, placed_at, no_head, home_chains, nodes_unplayed}
 use Rattle.script_in_order.specs.Doing.{DoneBy, with_replies}
 
 as_placed : (w : World) (i : PlacedNode) → slice_get (w.nodes i.head.key.id.client) i.head.key.id.count ≡ Some i.node
-    → i ≡ placed w i.head
+    → i ≡ node_placed w i.head
 as_placed w i is =
     ap (λ (o : Option Node). let p : PlacedNode = record { head = i.head; node = unwrap_or o no_row.node } in p)
     (sym is)
@@ -48,11 +48,11 @@ vector_at f (suc (suc (suc (suc n)))) lt = absurd (let f : ⊥ = omega (arith, l
 -- an item with the head of a chain is that node
 item_is : (w : World) (o : Option PlacedNode) (head : Head) → option_map (λ (i : PlacedNode). i.head) o ≡ Some head
     → ((i : PlacedNode) → o ≡ Some i → slice_get (w.nodes i.head.key.id.client) i.head.key.id.count ≡ Some i.node)
-    → o ≡ Some (placed w head)
+    → o ≡ Some (node_placed w head)
 item_is w None head is each = absurd (let f : ⊥ = cc in f)
 item_is w (Some i) head is each =
     let same : i.head ≡ head = cc in
-    ap (λ (p : PlacedNode). Some p) (as_placed w i (each i refl) ∙ ap (placed w) same)
+    ap (λ (p : PlacedNode). Some p) (as_placed w i (each i refl) ∙ ap (node_placed w) same)
 
 module _ (w : World) (client colour : ℕ) (view : View) (look : IsLook w client colour view) where
   abbrev home : ℕ
@@ -98,7 +98,7 @@ module _ (w : World) (client colour : ℕ) (view : View) (look : IsLook w client
   -- what a play of the view gives are the nodes that the client plays
   pub are_played : IsWithin view.base from → (items : List PlacedNode)
       → ((chains : Chains) → ShowsChains view chains → Reachable chains view.cut → ArePlayed view chains from items)
-      → items ≡ nodes_played w client colour
+      → items ≡ nodes_unplayed w client colour
   are_played inside items played =
       played_items view chains from items (played chains shows reach) (placed_at w chains) (each inside)
       ∙ ap (λ (v : Counts). map (placed_at w chains) (play_order chains from v)) look.cut
@@ -122,7 +122,7 @@ plays_just w client colour base caller home within is =
 
 -- a sync that plays
 pub plays : (command : Command) (w new : World) (colour events count : ℕ) (counts : Counts) (nodes : List PlacedNode)
-    → may_play w command.client colour ≡ true → nodes ≡ nodes_played w command.client colour → count ≡ length nodes
+    → may_play w command.client colour ≡ true → nodes ≡ nodes_unplayed w command.client colour → count ≡ length nodes
     → events ≡ length (home_history w command.client colour) → counts ≡ played_cut w command.client colour
     → new ≡ after w (Play command.client colour)
     → DoneBy (λ _ state. synced state command colour) command w new
@@ -133,7 +133,7 @@ plays command w new colour events count counts nodes may are many looked upto pl
   is = λ replies.
       let state = with_replies w replies in
       let client = command.client in
-      let all = nodes_played w client colour in
+      let all = nodes_unplayed w client colour in
       let shown : ℕ → Counts → ℕ → List PlacedNode → World → State =
       λ e v n items x.
       answered state command x (answers.Synced (record { colour = colour; events = e; counts = v }) n) items in
@@ -160,7 +160,7 @@ refuses command w colour base may is = record {
   is = λ replies.
       let state = with_replies w replies in
       let client = command.client in
-      let all = nodes_played w client colour in
+      let all = nodes_unplayed w client colour in
       let now = base_after w.shape.regions (home_of w client) (home_history w client colour) in
       let done = answered state command (after w (Play client colour)) (answers.Synced (record {
         colour = colour;

@@ -2,6 +2,7 @@
 use Rattle.std.specs.Prelude.{◌≡◌, ℕ, ◌<◌, Bool, true, false, List, length, Option, Some, None}
 use Rattle.std.specs.List.{All}
 use Rattle.log_node.specs.Seen.{PlacedNode}
+use Rattle.log_node.specs.declared.node.Shape.{Shape}
 use Rattle.world_laws.specs.Worlds.{World}
 use Rattle.script_text.specs.declared.script.Command.{Command}
 use Rattle.script_text.specs.declared.script.What.{What}
@@ -48,12 +49,13 @@ folds_nodes (whats.Commit object pairs) = true
 folds_nodes (whats.Deq object) = true
 folds_nodes _ = false
 
--- the object that a read or a commit is of
+-- the object of a use that lets the last read of it go
 abbrev pub transacts : Use → Option ℕ
 transacts (OfObject object Takes) = Some object
 transacts (OfObject object UsesUp) = Some object
 transacts _ = None
 
+-- the object that a read or a commit is of
 abbrev pub transaction_of : What → Option ℕ
 transaction_of what = transacts (use_of what)
 
@@ -63,3 +65,7 @@ pub record IsFit (w : World) (objects : List Object) (client : ℕ) (what : What
   pub within : IsWithin w.shape.regions w.shape.colours what
   pub kinds : All (λ (o : Object). IsKindWithin w.shape.regions w.shape.colours o.kind) objects
   pub uses : UsesObject objects what
+
+-- the objects' homes and colours are some that there are
+abbrev pub AreKindsWithin : Shape → List Object → Type 0
+AreKindsWithin shape objects = All (λ (o : Object). IsKindWithin shape.regions shape.colours o.kind) objects

@@ -6,7 +6,7 @@ use Rattle.object_fold.specs.declared.kept_line.KeptLine.{KeptLine}
 use Rattle.object_fold.specs.declared.queue.ValueQueue.{ValueQueue}
 use Rattle.object_fold.specs.declared.shard_map.ShardMap.{ShardMap}
 use Rattle.object_fold.specs.Nodes.{ObjectNode}
-use Rattle.object_fold.specs.States.{IsShardMap, IsQueue, IsTxState}
+use Rattle.object_fold.specs.States.{IsShardMap, IsValueQueue, IsTxState}
 use Rattle.col_core.specs.History.{line}
 use Rattle.playback.specs.Merging.{merged, up_to}
 use Rattle.world_laws.specs.Worlds.{World, home_of, home_history}
@@ -14,7 +14,7 @@ use Rattle.script_text.specs.declared.script.Kind.{Kind}
 use Rattle.script_text.specs.declared.script.Kind.TheVariants as kinds
 use Rattle.script_text.specs.declared.script.Object.{Object}
 use Rattle.script_meaning.specs.States.{kind_in}
-use Rattle.script_meaning.specs.Dequeues.{object_at}
+use Rattle.script_meaning.specs.Dequeues.{object_node_at}
 use Rattle.script_in_order.specs.CausalFolds.{AreCausalFolds}
 use Rattle.script_in_order.specs.declared.lines_fold.LinesFold.{LinesFold}
 use Rattle.script_in_order.specs.declared.folds.FirstNodes.{FirstNodes}
@@ -22,18 +22,18 @@ use Rattle.script_in_order.specs.declared.folds.Fold.{Fold}
 use Rattle.script_in_order.specs.declared.folds.Fold.TheVariants as folds
 
 -- the own line of the column of which the first nodes are meant
-abbrev pub line_of : World → FirstNodes → List Key
-line_of w first = line (w.histories first.region first.colour)
+abbrev pub whole_line : World → FirstNodes → List Key
+whole_line w first = line (w.histories first.region first.colour)
 
 -- these nodes
 abbrev pub nodes_at : World → FirstNodes → List ObjectNode
-nodes_at w first = map (object_at w) (take first.count (line_of w first))
+nodes_at w first = map (object_node_at w) (take first.count (whole_line w first))
 
 -- the column is one of the world's, and its line has so many nodes
 pub record AreThere (w : World) (first : FirstNodes) : Type 0 where
   pub region : first.region < w.shape.regions
   pub colour : first.colour < w.shape.colours
-  pub count : first.count ≤ length (line_of w first)
+  pub count : first.count ≤ length (whole_line w first)
 
 -- the fold is of the first nodes of the line of a region's column
 pub record IsKeptLine {F : Type 0} (Holds : F → List ObjectNode → Type 0) (w : World) (home colour : ℕ)
@@ -55,29 +55,29 @@ pub record AreShardFolds (w : World) (home : ℕ) (colours : List ℕ) (shards :
 
 -- the fold is of the first nodes of the queue's line at home
 abbrev pub IsQueueFold : World → ℕ → ℕ → KeptLine ValueQueue → Type 0
-IsQueueFold w home colour kept = IsKeptLine IsQueue w home colour kept
+IsQueueFold w home colour kept = IsKeptLine IsValueQueue w home colour kept
 
 -- the keys of the first nodes of some lines, in rising key, each once
 abbrev pub first_keys : World → List FirstNodes → List Key
-first_keys w firsts = fold (λ keys first. merged keys (take first.count (line_of w first))) [] firsts
+first_keys w firsts = fold (λ keys first. merged keys (take first.count (whole_line w first))) [] firsts
 
 -- the keys of the nodes behind these first ones up to a stamp
 abbrev pub keys_behind : World → ℕ → List FirstNodes → List Key
 keys_behind w stamp firsts =
-    fold (λ keys first. merged keys (up_to stamp (drop first.count (line_of w first)))) [] firsts
+    fold (λ keys first. merged keys (up_to stamp (drop first.count (whole_line w first)))) [] firsts
 
 -- the lines are those of a client's region of these colours, and the first nodes of each are all up to the stamp
-pub record AreRead (w : World) (client stamp : ℕ) (colours : List ℕ) (firsts : List FirstNodes) : Type 0 where
-  pub lines : map (line_of w) firsts ≡ map (λ colour. line (home_history w client colour)) colours
+pub record AreReadUpTo (w : World) (client stamp : ℕ) (colours : List ℕ) (firsts : List FirstNodes) : Type 0 where
+  pub lines : map (whole_line w) firsts ≡ map (λ colour. line (home_history w client colour)) colours
   pub there : (first : FirstNodes) → Contains firsts first → AreThere w first
   pub cut : (first : FirstNodes) → Contains firsts first
-      → take first.count (line_of w first) ≡ up_to stamp (line_of w first)
+      → take first.count (whole_line w first) ≡ up_to stamp (whole_line w first)
 
 -- an object is folded from the first nodes of some lines, whose stamps are up to the fold's
 pub record IsLinesFold {F : Type 0} (Holds : F → List ObjectNode → Type 0) (w : World) (fold : LinesFold F) : Type 0 where
   pub there : (first : FirstNodes) → Contains fold.firsts.items first → AreThere w first
   pub low : (key : Key) → Contains (first_keys w fold.firsts.items) key → key.stamp ≤ fold.stamp
-  pub folded : Holds fold.kept.state (map (object_at w) (first_keys w fold.firsts.items))
+  pub folded : Holds fold.kept.state (map (object_node_at w) (first_keys w fold.firsts.items))
 
 -- the fold is of an object of this kind, and right
 abbrev pub IsFoldOf : World → Kind → Fold → Type 0

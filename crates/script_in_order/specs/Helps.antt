@@ -11,7 +11,7 @@ FindsNext grants count [] = Unit {0}
 FindsNext grants count (colours ∷ more) = (grants.helps count ≡ colours) × FindsNext grants (count + 1) more
 
 -- By this meaning helps lead from one world to the other, however many the command has given before.
-pub record Helps (meaning : Grants → Helping → Helping) (old new : World) : Type 0 where
+pub record HelpsLead (meaning : Grants → Helping → Helping) (old new : World) : Type 0 where
   -- for each help the colours in which it is granted memory
   pub finds : List (ℕ → Bool)
   pub is : (grants : Grants) (count : ℕ) → FindsNext grants count finds

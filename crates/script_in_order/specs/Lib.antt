@@ -5,6 +5,7 @@ pub mod Points
 pub mod Stamped
 pub mod Reports
 pub mod Reading
+pub mod Telling
 pub mod Transacting
 pub mod CausalFolds
 pub mod Folds

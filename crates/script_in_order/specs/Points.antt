@@ -24,11 +24,12 @@ event_or_look None events = Look events
 event_or_look (Some place) events = Event place
 
 -- where a colour's next event will stand in the client's region
-abbrev pub place_in : World → ℕ → ℕ → PointPiece
-place_in w client colour = record { colour = colour; at = Event (length (home_history w client colour)); position = 0 }
+abbrev pub next_point : World → ℕ → ℕ → PointPiece
+next_point w client colour = record { colour = colour; at = Event (length (home_history w client colour)); position = 0 }
 
+-- the same of each of these colours
 abbrev pub places_in : World → ℕ → List ℕ → List PointPiece
-places_in w client colours = map (place_in w client) colours
+places_in w client colours = map (next_point w client) colours
 
 -- the same point with the position of the id in the line
 abbrev pub standing_in : World → ℕ → Id → PointPiece → PointPiece
@@ -44,7 +45,7 @@ AreFinal w client id colours (Final stamp) =
 
 -- The append of a complete row, which was begun in any world where these were the next places, is answered so by its
 -- outcome.
-pub record EndsAs (w : World) (row : Row) (id : Id) (colours : List ℕ) (outcome : Outcome) (places : List PointPiece)
+pub record EndsByOutcome (w : World) (row : Row) (id : Id) (colours : List ℕ) (outcome : Outcome) (places : List PointPiece)
     (new : World) (answer : Answer) : Type 0 where
   pub finds : List (ℕ → Bool)
   pub is : (grants : Grants) → FindsNext grants 0 finds → (before : World) → next_id before row.client ≡ id

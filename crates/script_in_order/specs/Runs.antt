@@ -11,7 +11,7 @@ use Rattle.log_node.specs.Seen.{PlacedNode}
 use Rattle.report_text.specs.declared.report.Answer.{Answer}
 use Rattle.report_text.specs.declared.report.ReplyLine.{ReplyLine}
 use Rattle.world_code.specs.WorldView.{WorldView, world_of}
-use Rattle.script_meaning.specs.States.{State, Grants, Reads}
+use Rattle.script_meaning.specs.States.{State, Grants, LastReads}
 use Rattle.script_meaning.specs.Meaning.{LeadTo, done}
 
 -- the replies to a client so far, for how many more there is memory, and by object what its last read found
@@ -29,12 +29,12 @@ abbrev pub with_reply : RepliesView → ReplyLine → RepliesView
 with_reply old reply = record old { lines = old.lines ++ reply ∷ []; room = old.room - 1 }
 
 -- what the last read of an object found
-abbrev pub read_at : List (Option (List Version)) → Reads
-read_at reads object = slice_index_or reads object None
+abbrev pub found_at : List (Option (List Version)) → LastReads
+found_at reads object = slice_index_or reads object None
 
 -- this in its place
-abbrev pub with_read : RepliesView → ℕ → Option (List Version) → RepliesView
-with_read old object found = record old { reads = slice_set old.reads object found }
+abbrev pub with_read_found : RepliesView → ℕ → Option (List Version) → RepliesView
+with_read_found old object found = record old { reads = slice_set old.reads object found }
 
 -- the world, and the replies by client
 pub record RunView : Type 0 where
@@ -50,7 +50,7 @@ abbrev pub state_of : RunView → State
 state_of code = record {
   world = world_of code.world;
   replies = λ client. (replies_at code.replies client).lines;
-  reads = λ client. read_at (replies_at code.replies client).reads;
+  reads = λ client. found_at (replies_at code.replies client).reads;
 }
 
 -- the reply line of a command

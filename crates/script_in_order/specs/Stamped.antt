@@ -19,7 +19,7 @@ abbrev pub looked_in : World → ℕ → SyncPiece → SyncPiece
 looked_in w client piece = sync_in w client piece.colour
 
 -- The columns of these colours are raised, as far as memory is found; the colour at which it stopped.
-pub record Raises (old : World) (client stamp : ℕ) (colours : List ℕ) (new : World) (stopped : Option ℕ) : Type 0 where
+pub record RaisesColumns (old : World) (client stamp : ℕ) (colours : List ℕ) (new : World) (stopped : Option ℕ) : Type 0 where
   pub found : ℕ → Bool
   pub is : (grants : Grants) → grants.raises ≡ found
       → raised grants client stamp old colours ≡ record { world = new; stopped = stopped }
@@ -42,7 +42,7 @@ pub record ReadsRaised (old new : World) (client stamp : ℕ) (colours : List �
       → read_after_raises grants client colours first old None ≡ record { world = new; ends = ends }
 
 -- A stamped read led from the one world to the other, and ended so.
-pub record Reads (old new : World) (client : ℕ) (colours : List ℕ) (ends : ReadEnd) : Type 0 where
+pub record ReadsStamped (old new : World) (client : ℕ) (colours : List ℕ) (ends : ReadEnd) : Type 0 where
   pub found : ℕ → Bool
   pub finds : List (ℕ → Bool)
   pub is : (grants : Grants) → grants.raises ≡ found → FindsNext grants 0 finds

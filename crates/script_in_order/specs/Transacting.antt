@@ -1,5 +1,5 @@
 -- What a read or a commit of an object does to a world, what it is answered, and what its client keeps of the object.
-use Rattle.std.specs.Prelude.{◌≡◌, ℕ, Bool, true, false, List, [], Option, Some, None, if◌then◌else◌}
+use Rattle.std.specs.Prelude.{◌≡◌, ℕ, true, false, List, [], Option, Some, None, if◌then◌else◌}
 use Rattle.std.specs.List.{All, Contains}
 use Rattle.log_node.specs.Order.{same_key}
 use Rattle.log_node.specs.declared.ids.Key.{Key}
@@ -11,14 +11,10 @@ use Rattle.world_laws.specs.Worlds.{World}
 use Rattle.script_text.specs.declared.script.Object.{Object}
 use Rattle.script_text.specs.declared.script.Command.{Command}
 use Rattle.report_text.specs.declared.report.Answer.{Answer}
-use Rattle.report_text.specs.declared.report.PointPiece.{PointPiece}
-use Rattle.script_meaning.specs.States.{State, Grants, Reads, answered}
-use Rattle.script_meaning.specs.Stamped.{stamped_read}
-use Rattle.script_meaning.specs.Telling.{told_by}
-use Rattle.script_meaning.specs.Transactions.{verdict_tells}
+use Rattle.script_meaning.specs.States.{State, Grants, LastReads, answered}
 use Rattle.script_meaning.specs.Meaning.{done}
 use Rattle.script_in_order.specs.Doing.{with_replies}
-use Rattle.script_in_order.specs.Runs.{RepliesView, read_at, with_read, with_reply, reply_of}
+use Rattle.script_in_order.specs.Runs.{RepliesView, found_at, with_read_found, with_reply, reply_of}
 
 -- each of the keys stands in the line of a column
 abbrev pub AreOfLines : World → List Key → Type 0
@@ -36,7 +32,7 @@ found_with (Some before) told key own = Some before
 found_with None told key own = if same_key key own then Some told else None
 
 -- what each read found is such as the text of a transaction may name
-abbrev pub AreFit : Reads → Type 0
+abbrev pub AreFit : LastReads → Type 0
 AreFit reads = (object : ℕ) (versions : List Version) → reads object ≡ Some versions → AreVersions versions
 
 -- the command is answered, and its client keeps this of the object
@@ -48,24 +44,12 @@ answered_keeping state command object w answer kept =
 
 -- By this meaning the command, of a client whose last read of the object found what it takes, leads from one world to the
 -- other, with this answer, and leaves this for the next commit. It is granted memory before it does anything.
-pub record Leaves (meaning : Grants → State → State) (command : Command) (object : ℕ) (taken : Option (List Version))
+pub record LeavesForCommit (meaning : Grants → State → State) (command : Command) (object : ℕ) (taken : Option (List Version))
     (old new : World) (answer : Answer) (kept : Option (List Version)) : Type 0 where
   pub grants : Grants
   pub begun : grants.start ≡ true
   pub is : (told : State) → told.reads command.client object ≡ taken
       → meaning grants (with_replies old told) ≡ answered_keeping told command object new answer kept
-
--- The stamped read behind a commit, whose node stands under this key, in the row and at the points, leads from one world
--- to the other, and its verdict is answered so, with some memory for the read, whatever is granted besides.
-pub record Rules (client : ℕ) (colours : List ℕ) (own : Key) (row : Option ℕ) (points : List PointPiece)
-    (old new : World) (answer : Answer) : Type 0 where
-  pub raises : ℕ → Bool
-  pub helps : ℕ → ℕ → Bool
-  pub items : Bool
-  pub is : (grants : Grants) (state : State) (command : Command)
-      → (let all : Grants = record grants { raises = raises; read_helps = helps; items = items } in
-      let read = stamped_read (record all { helps = helps }) old client colours in
-      told_by verdict_tells all state command own row points read.world read.ends) ≡ answered state command new answer []
 
 -- The command, granted some memory, leads from one world to the other; of the replies to its client, one more is kept, and
 -- what it left of the object for the next commit.
@@ -74,6 +58,6 @@ pub record Transacts (objects : List Object) (command : Command) (object : ℕ) 
   pub grants : Grants
   pub answer : Answer
   pub kept : Option (List Version)
-  pub is : (told : State) → told.reads command.client object ≡ read_at before.reads object
+  pub is : (told : State) → told.reads command.client object ≡ found_at before.reads object
       → done objects grants (with_replies old told) command ≡ answered_keeping told command object new answer kept
-  pub replies : after ≡ with_reply (with_read before object kept) (reply_of command answer [])
+  pub replies : after ≡ with_reply (with_read_found before object kept) (reply_of command answer [])

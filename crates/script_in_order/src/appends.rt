@@ -8,7 +8,7 @@ ghost use Rattle.log_node.specs.Outcomes.{is_stamp_end_fence};
 ghost use Rattle.world_laws.specs.Worlds.{is_begun, next_id, row_of};
 ghost use Rattle.script_meaning.specs.Appends.{appended, appended_one, appended_several, ended_colour};
 ghost use Rattle.script_in_order.specs.Doing.{DoneBy};
-ghost use Rattle.script_in_order.specs.Points.{AreFinal, EndsAs};
+ghost use Rattle.script_in_order.specs.Points.{AreFinal, EndsByOutcome};
 
 use crate::clears::{clear, clear_all};
 use crate::points::{only_member, places, position, with_positions};
@@ -155,7 +155,7 @@ fn end(
     requires placed { map (λ (p : PointPiece). p.colour) places.items ≡ members colours }
     requires decided { outcome ≢ Outcome.Open }
     requires stamped { AreFinal (world_of world.old) row.client id (members colours) outcome }
-    ensures { EndsAs (world_of world.old) row id (members colours) outcome places.items (world_of world.new) result }
+    ensures { EndsByOutcome (world_of world.old) row id (members colours) outcome places.items (world_of world.new) result }
 {
     log_only_grows();
     world.agrees();

@@ -3,13 +3,14 @@ ghost use Rattle.std.specs.Prelude.{◌≡◌, ◌<◌, ℕ, true, false, [], If
 ghost use Rattle.log_node.specs.Vectors.{at, vector, one_more};
 ghost use Rattle.col_core.specs.History.{line};
 ghost use Rattle.col_core.specs.Rows.{node_wants};
-ghost use Rattle.world_laws.specs.Worlds.{World as Meant, chains_after, home_of};
+ghost use Rattle.object_fold.specs.CausalStates.{counts_of};
+ghost use Rattle.world_laws.specs.Worlds.{chains_after, home_of};
 ghost use Rattle.world_code.specs.WorldView.{world_of};
 ghost use Rattle.script_meaning.specs.CausalGets.{causal_values, got_values};
 ghost use Rattle.script_meaning.specs.States.{kind_in};
 ghost use Rattle.script_in_order.specs.Doing.{DoneBy};
 ghost use Rattle.script_in_order.specs.Folds.{AreFolded};
-ghost use Rattle.script_in_order.specs.CausalFolds.{place_at, held_node, held_nodes, cut_of, is_next, IsCausalFold};
+ghost use Rattle.script_in_order.specs.CausalFolds.{place_at, held_node, held_nodes, cut_to_play, is_next, IsCausalFold};
 
 use crate::clears::home;
 use crate::folds::Folds;
@@ -22,13 +23,6 @@ use script_text::{Command, Kind, Object};
 use std::alloc::{AllocError, Global};
 use std::sync::Arc;
 use world_code::World;
-
-/// A causal map, and how many nodes of each region's chain it was fed.
-#[derive(Drop)]
-pub struct CausalFold {
-    counts: Counts,
-    map: CausalMap,
-}
 
 // What a node wants of a colour.
 fn wants_of(node: &Node, colour: u8) -> Counts
@@ -82,7 +76,7 @@ fn node_at(world: &World, own: u8, colour: u8, region: u8, position: u64) -> &Ar
 fn is_next(world: &World, own: u8, colour: u8, counts: Counts, cut: Counts, region: u8) -> bool
     requires own { own < world.now.shape.regions }
     requires colour { colour < world.now.shape.colours }
-    requires cut { cut ≡ cut_of (world_of world.now) own colour }
+    requires cut { cut ≡ cut_to_play (world_of world.now) own colour }
     requires region { region < 4 }
     ensures { result ≡ is_next (world_of world.now) own colour counts region }
 {
@@ -99,7 +93,7 @@ fn is_next(world: &World, own: u8, colour: u8, counts: Counts, cut: Counts, regi
 fn next_region(world: &World, own: u8, colour: u8, counts: Counts, cut: Counts) -> Option<u8>
     requires own { own < world.now.shape.regions }
     requires colour { colour < world.now.shape.colours }
-    requires cut { cut ≡ cut_of (world_of world.now) own colour }
+    requires cut { cut ≡ cut_to_play (world_of world.now) own colour }
     ensures some { IfSome result (λ region. (region < 4)
         × (is_next (world_of world.now) own colour counts region ≡ true)) }
     ensures none { result ≡ None → (region : ℕ) → region < 4
@@ -113,90 +107,77 @@ fn next_region(world: &World, own: u8, colour: u8, counts: Counts, cut: Counts) 
     None
 }
 
-impl CausalFold {
-    /// The map before any node.
-    pub fn new(alloc: Global) -> CausalFold
-        ensures { (w : Meant) (own colour : ℕ) → IsCausalFold w own colour result }
-    {
-        CausalFold {
-            counts: Counts::zeros(),
-            map: CausalMap::new(alloc),
-        }
-    }
+// Feeds the next node of a region's chain.
+fn feed(
+    alloc: Global,
+    world: &World,
+    map: &mut CausalMap,
+    own: u8,
+    colour: u8,
+    cut: Counts,
+    region: u8,
+) -> Result<(), AllocError>
+    requires own { own < world.now.shape.regions }
+    requires colour { colour < world.now.shape.colours }
+    requires cut { cut ≡ cut_to_play (world_of world.now) own colour }
+    requires region { region < 4 }
+    requires next { is_next (world_of world.now) own colour (counts_of map.old) region ≡ true }
+    requires fold { IsCausalFold (world_of world.now) own colour map.old }
+    ensures fold { IsCausalFold (world_of world.now) own colour map.new }
+    ensures counts { OnOk result (counts_of map.new ≡ one_more (counts_of map.old) region) }
+{
+    world.is_whole();
+    let position = map.counts().of_region(region);
+    let node = node_at(world, own, colour, region, position);
+    // It needs what it wants, all of which may be played.
+    let needs = wants_of(node, colour).least(cut);
+    map.feed(alloc, region, needs, &node.text)?;
+    Ok(())
+}
 
-    // Feeds the next node of a region's chain.
-    fn feed(
-        &mut self,
-        alloc: Global,
-        world: &World,
-        own: u8,
-        colour: u8,
-        cut: Counts,
-        region: u8,
-    ) -> Result<(), AllocError>
-        requires own { own < world.now.shape.regions }
-        requires colour { colour < world.now.shape.colours }
-        requires cut { cut ≡ cut_of (world_of world.now) own colour }
-        requires region { region < 4 }
-        requires next { is_next (world_of world.now) own colour self.old.counts region ≡ true }
-        requires fold { IsCausalFold (world_of world.now) own colour self.old }
-        ensures fold { IsCausalFold (world_of world.now) own colour self.new }
-        ensures counts { OnOk result (self.new.counts ≡ one_more self.old.counts region) }
-    {
-        world.is_whole();
-        let position = self.counts.of_region(region);
-        let _end = cut.of_region(region);
-        let node = node_at(world, own, colour, region, position);
-        // It needs what it wants, all of which may be played.
-        let needs = wants_of(node, colour).least(cut);
-        self.map.feed(alloc, region, needs, &node.text)?;
-        self.counts = self.counts.one_more(region);
-        Ok(())
+// Feeds all nodes up to the cut that were not fed.
+fn feed_all(
+    alloc: Global,
+    world: &World,
+    map: &mut CausalMap,
+    own: u8,
+    colour: u8,
+) -> Result<(), AllocError>
+    requires own { own < world.now.shape.regions }
+    requires colour { colour < world.now.shape.colours }
+    requires fold { IsCausalFold (world_of world.now) own colour map.old }
+    ensures fold { IsCausalFold (world_of world.now) own colour map.new }
+    ensures all { OnOk result ((region : ℕ) → region < 4
+        → at (counts_of map.new) region ≡ at (cut_to_play (world_of world.now) own colour) region) }
+{
+    world.is_whole();
+    let cut = world.column(own, colour).cut();
+    while let Some(region) = next_region(world, own, colour, map.counts(), cut) {
+        feed(alloc, world, map, own, colour, cut, region)?;
     }
+    Ok(())
+}
 
-    // Feeds all nodes up to the cut that were not fed.
-    fn feed_all(
-        &mut self,
-        alloc: Global,
-        world: &World,
-        own: u8,
-        colour: u8,
-    ) -> Result<(), AllocError>
-        requires own { own < world.now.shape.regions }
-        requires colour { colour < world.now.shape.colours }
-        requires fold { IsCausalFold (world_of world.now) own colour self.old }
-        ensures fold { IsCausalFold (world_of world.now) own colour self.new }
-        ensures all { OnOk result ((region : ℕ) → region < 4
-            → at self.new.counts region ≡ at (cut_of (world_of world.now) own colour) region) }
-    {
-        world.is_whole();
-        let cut = world.column(own, colour).cut();
-        while let Some(region) = next_region(world, own, colour, self.counts, cut) {
-            self.feed(alloc, world, own, colour, cut, region)?;
-        }
-        Ok(())
-    }
-
-    /// What the map answers for a key over all nodes up to the cut.
-    pub(crate) fn values(
-        &mut self,
-        alloc: Global,
-        world: &World,
-        own: u8,
-        colour: u8,
-        key: &Text,
-    ) -> Result<Names, AllocError>
-        requires own { own < world.now.shape.regions }
-        requires colour { colour < world.now.shape.colours }
-        requires fold { IsCausalFold (world_of world.now) own colour self.old }
-        ensures fold { IsCausalFold (world_of world.now) own colour self.new }
-        ensures ok { let w = world_of world.now in IfOk result (λ values.
-            values ≡ causal_values (held_nodes w own colour (cut_of w own colour)) key.now) }
-    {
-        world.is_whole();
-        self.feed_all(alloc, world, own, colour)?;
-        self.map.get(alloc, key.as_bytes())
-    }
+/// What a region's map of a colour answers for a key over all nodes up to the cut, of which those that it was fed are not fed
+/// again.
+pub fn values(
+    alloc: Global,
+    world: &World,
+    map: &mut CausalMap,
+    own: u8,
+    colour: u8,
+    key: &Text,
+) -> Result<Names, AllocError>
+    requires own { own < world.now.shape.regions }
+    requires colour { colour < world.now.shape.colours }
+    requires fold { IsCausalFold (world_of world.now) own colour map.old }
+    ensures fold { IsCausalFold (world_of world.now) own colour map.new }
+    ensures ok { let w = world_of world.now in IfOk result (λ values.
+        values ≡ causal_values (held_nodes w own colour (cut_to_play w own colour)) key.now) }
+{
+    world.is_whole();
+    feed_all(alloc, world, map, own, colour)?;
+    map.get(alloc, key.as_bytes())
 }
 
 /// A get of a causal map on a colour: plays up to the cut, and answers the values of the latest writes of the key among

@@ -6,7 +6,7 @@ ghost use Rattle.world_code.specs.WorldView.{world_of};
 ghost use Rattle.world_code.specs.Looks.{open_below};
 ghost use Rattle.world_laws.specs.Worlds.{home_of, home_history};
 ghost use Rattle.script_meaning.specs.Helping.{helped_first, cleared};
-ghost use Rattle.script_in_order.specs.Helps.{Helps};
+ghost use Rattle.script_in_order.specs.Helps.{HelpsLead};
 
 use log_node::{Colours, Key};
 use world_code::World;
@@ -25,7 +25,7 @@ pub fn home(world: &World, client: u8) -> u8
 fn help_first(world: &mut World, by: u8, key: Key, colour: u8)
     requires by { by < length world.old.shape.homes }
     requires colour { colour < world.old.shape.colours }
-    ensures helps { Helps (λ grants h. helped_first grants by h
+    ensures helps { HelpsLead (λ grants h. helped_first grants by h
         (open_below key (h.world.histories (home_of h.world by) colour))) (world_of world.old) (world_of world.new) }
     ensures shape { world.new.shape ≡ world.old.shape }
 {
@@ -48,7 +48,7 @@ fn open_count(world: &World, by: u8, key: Key, colour: u8) -> u64
 pub fn clear(world: &mut World, by: u8, key: Key, colour: u8)
     requires by { by < length world.old.shape.homes }
     requires colour { colour < world.old.shape.colours }
-    ensures helps { Helps (λ grants h. cleared grants by key h colour) (world_of world.old) (world_of world.new) }
+    ensures helps { HelpsLead (λ grants h. cleared grants by key h colour) (world_of world.old) (world_of world.new) }
     ensures shape { world.new.shape ≡ world.old.shape }
 {
     let count = open_count(world, by, key, colour);
@@ -62,7 +62,7 @@ pub fn clear(world: &mut World, by: u8, key: Key, colour: u8)
 pub fn clear_all(world: &mut World, by: u8, key: Key, colours: Colours)
     requires by { by < length world.old.shape.homes }
     requires colours { All (λ colour. colour < world.old.shape.colours) (members colours) }
-    ensures helps { Helps (λ grants h. fold (cleared grants by key) h (members colours))
+    ensures helps { HelpsLead (λ grants h. fold (cleared grants by key) h (members colours))
         (world_of world.old) (world_of world.new) }
     ensures shape { world.new.shape ≡ world.old.shape }
 {

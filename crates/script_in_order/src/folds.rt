@@ -14,17 +14,16 @@ ghost use Rattle.script_text.specs.Fitting.{AreBelow, IsKindWithin, IsFitting};
 ghost use Rattle.world_code.specs.WorldView.{world_of};
 ghost use Rattle.script_meaning.specs.States.{kind_in};
 ghost use Rattle.script_meaning.specs.CausalGets.{causal_values};
-ghost use Rattle.script_meaning.specs.Dequeues.{object_at};
+ghost use Rattle.script_meaning.specs.Dequeues.{object_node_at};
 ghost use Rattle.script_meaning.specs.Gets.{key_answers};
 ghost use Rattle.script_meaning.specs.Stamped.{keys_read};
-ghost use Rattle.script_meaning.specs.Transactions.{verdict_in};
-ghost use Rattle.script_in_order.specs.CausalFolds.{held_nodes, cut_of, AreCausalFolds};
+ghost use Rattle.script_in_order.specs.CausalFolds.{held_nodes, cut_to_play, AreCausalFolds};
 ghost use Rattle.script_in_order.specs.Folds.{nodes_at, AreThere, IsKeptLine, IsShardFold, AreShardFolds, IsQueueFold, IsFoldOf, AreFolded, ShardsWithin, QueueWithin, MayFold, IsTxAt};
 
-use crate::causal::CausalFold;
+use crate::causal::values;
 use crate::lines_fold::{LinesFold, LinesRead};
 use log_node::{ColourList, Key, Keys, ListOf, MAX_COLOURS, Names, Node, Shape, Text, Versions};
-use object_fold::{KeptLine, LineFold, ShardMap, TxState, ValueQueue, Verdict};
+use object_fold::{CausalMap, KeptLine, LineFold, ShardMap, TxState, ValueQueue};
 use report_text::KeyAnswer;
 use script_text::{Kind, Object, Script};
 use std::alloc::{AllocError, Global};
@@ -39,7 +38,7 @@ pub enum Fold {
     /// Of a queue.
     Queue(KeptLine<ValueQueue>),
     /// Of a causal map: what each region's column lets play, by region.
-    Causal(Vec<CausalFold>),
+    Causal(Vec<CausalMap>),
     /// Of a transactional map.
     Tx(LinesFold<TxState>),
 }
@@ -47,7 +46,7 @@ pub enum Fold {
 /// What is folded of each object, by the object's number.
 #[derive(Drop)]
 pub struct Folds {
-    of: Vec<Fold>,
+    pub of: Vec<Fold>,
 }
 
 impl Model for Folds {
@@ -70,7 +69,7 @@ pub struct FirstNodes {
 /// The node with a key of a line.
 pub fn node_of(world: &World, key: Key) -> &Node
     requires { (region : ℕ) × (colour : ℕ) × Contains (line ((world_of world.now).histories region colour)) key }
-    ensures { keyed_node key result.now ≡ object_at (world_of world.now) key }
+    ensures { keyed_node key result.now ≡ object_node_at (world_of world.now) key }
 {
     world.is_whole();
     match world.node(key.id) {
@@ -166,13 +165,13 @@ fn open_shards(
 }
 
 // For each region the fold of no node of a causal map.
-fn open_causal(alloc: Global, count: u8) -> Result<Vec<CausalFold>, AllocError>
+fn open_causal(alloc: Global, count: u8) -> Result<Vec<CausalMap>, AllocError>
     ensures { (w : Meant) (colour : ℕ) → w.shape.regions ≡ count → colour < MAX_COLOURS
         → IfOk result (λ folds. AreCausalFolds w colour folds.items) }
 {
     let mut folds = Vec::new(alloc);
     for _ in 0..count {
-        folds.push(CausalFold::new(alloc))?;
+        folds.push(CausalMap::new(alloc))?;
     }
     Ok(folds)
 }
@@ -283,13 +282,14 @@ impl Folds {
         requires may { (objects : List Object) × AreFolded (world_of world.now) objects self.old
             × (kind_in objects object ≡ Some (Kind.Causal colour)) }
         ensures values { let w = world_of world.now in
-            IfOk result (λ values. values ≡ causal_values (held_nodes w region colour (cut_of w region colour)) key.now) }
+            IfOk result (λ values. values ≡ causal_values (held_nodes w region colour (cut_to_play w region colour)) key.now) }
         ensures folded { (objects : List Object) → kind_in objects object ≡ Some (Kind.Causal colour)
             → AreFolded (world_of world.now) objects self.old → AreFolded (world_of world.now) objects self.new }
     {
         match &mut self.of[object as usize] {
             Fold::Causal(folds) => {
-                folds[region as usize].values(alloc, world, region, colour, key)
+                let map = &mut folds[region as usize];
+                values(alloc, world, map, region, colour, key)
             }
             _ => unreachable!(),
         }
@@ -308,7 +308,7 @@ impl Folds {
         requires client { read.client < length world.now.shape.homes }
         requires within { AreBelow world.now.shape.colours read.colours }
         requires may { (objects : List Object) × IsTxAt objects object × AreFolded (world_of world.now) objects self.old }
-        ensures found { IfOk result (λ found. let nodes = map (object_at (world_of world.now))
+        ensures found { IfOk result (λ found. let nodes = map (object_node_at (world_of world.now))
             (keys_read (world_of world.now) read.client read.stamp (members read.colours)) in
             (found.0 ≡ key_answers (value_of (writes_after nodes)) keys.now) × (found.1 ≡ versions_after nodes keys.now)) }
         ensures folded { (objects : List Object) → IsTxAt objects object → AreFolded (world_of world.now) objects self.old
@@ -316,30 +316,6 @@ impl Folds {
     {
         match &mut self.of[object as usize] {
             Fold::Tx(fold) => fold.found(alloc, world, read, keys),
-            _ => unreachable!(),
-        }
-    }
-
-    /// The verdict on the node with a key among the nodes that are read of a transactional map. The fold goes on from where
-    /// it is; without memory it may begin anew.
-    pub fn verdict(
-        &mut self,
-        alloc: Global,
-        world: &World,
-        object: u8,
-        read: LinesRead,
-        own: Key,
-    ) -> Result<Verdict, AllocError>
-        requires client { read.client < length world.now.shape.homes }
-        requires within { AreBelow world.now.shape.colours read.colours }
-        requires may { (objects : List Object) × IsTxAt objects object × AreFolded (world_of world.now) objects self.old }
-        ensures verdict { IfOk result (λ verdict. verdict ≡ verdict_in (world_of world.now)
-            (keys_read (world_of world.now) read.client read.stamp (members read.colours)) own) }
-        ensures folded { (objects : List Object) → IsTxAt objects object → AreFolded (world_of world.now) objects self.old
-            → AreFolded (world_of world.now) objects self.new }
-    {
-        match &mut self.of[object as usize] {
-            Fold::Tx(fold) => fold.verdict(alloc, world, read, own),
             _ => unreachable!(),
         }
     }

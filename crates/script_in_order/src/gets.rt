@@ -1,17 +1,16 @@
 // Gets of maps: what they answer for keys, after a sync or a stamped read.
 ghost use Rattle.std.specs.Prelude.{◌≡◌, ◌<◌, ◌≤◌, ℕ, List, [], IfOk, OnErr, None, length, take};
-ghost use Rattle.std.specs.List.{All};
 ghost use Rattle.col_core.specs.History.{line};
 ghost use Rattle.playback.specs.Merging.{up_to};
 ghost use Rattle.world_laws.specs.Worlds.{home_of, home_history};
-ghost use Rattle.script_text.specs.Fitting.{IsKindWithin, UsesObject};
-ghost use Rattle.lawful_run.specs.Asks.{colours_of, shards};
+ghost use Rattle.script_text.specs.Fitting.{UsesObject};
+ghost use Rattle.lawful_run.specs.Asks.{colours_of_object, shards};
 ghost use Rattle.world_code.specs.WorldView.{world_of};
 ghost use Rattle.script_meaning.specs.States.{kind_in};
 ghost use Rattle.script_meaning.specs.Objects.{caller_in, refusing_home};
 ghost use Rattle.script_meaning.specs.Gets.{got, got_value, got_keys, key_answers, value_up_to};
-ghost use Rattle.script_in_order.specs.Doing.{DoneBy};
-ghost use Rattle.script_in_order.specs.Folds.{line_of, AreThere, AreFolded, ShardsWithin, IsMapAt};
+ghost use Rattle.script_in_order.specs.Doing.{DoneBy, AreKindsWithin};
+ghost use Rattle.script_in_order.specs.Folds.{whole_line, AreThere, AreFolded, ShardsWithin, IsMapAt};
 
 use crate::causal::get_values;
 use crate::clears::home;
@@ -39,7 +38,7 @@ pub fn get(
     folds: &mut Folds,
 ) -> Result<Answer, AllocError>
     requires caller { command.now.client < length world.old.shape.homes }
-    requires kinds { All (λ (o : Object). IsKindWithin world.old.shape.regions world.old.shape.colours o.kind) objects.now }
+    requires kinds { AreKindsWithin world.old.shape objects.now }
     requires uses { UsesObject objects.now (What.Get object key.now) }
     requires near { refusing_home (caller_in (world_of world.old) objects.now command.now.client)
         (What.Get object key.now) ≡ None }
@@ -71,7 +70,7 @@ fn get_value(
     folds: &mut Folds,
 ) -> Result<Answer, AllocError>
     requires caller { command.now.client < length world.old.shape.homes }
-    requires kinds { All (λ (o : Object). IsKindWithin world.old.shape.regions world.old.shape.colours o.kind) objects.now }
+    requires kinds { AreKindsWithin world.old.shape objects.now }
     requires uses { UsesObject objects.now (What.Get object key.now) }
     requires at_home { (colours : List ℕ) × IsMapAt (world_of world.old) command.now.client objects.now object colours }
     requires folded { AreFolded (world_of world.old) objects.now folds.old }
@@ -107,7 +106,7 @@ pub fn nodes_up_to(world: &World, client: u8, colour: u8, stamp: u64) -> FirstNo
     ensures region { result.region ≡ home_of (world_of world.now) client }
     ensures colour { result.colour ≡ colour }
     ensures count { result.count ≡ length (up_to stamp (line (home_history (world_of world.now) client colour))) }
-    ensures nodes { take result.count (line_of (world_of world.now) result)
+    ensures nodes { take result.count (whole_line (world_of world.now) result)
         ≡ up_to stamp (line (home_history (world_of world.now) client colour)) }
 {
     world.agrees();
@@ -132,15 +131,15 @@ fn values_up_to(
     folds: &mut Folds,
 ) -> Result<ListOf<KeyAnswer>, AllocError>
     requires client { client < length world.now.shape.homes }
-    requires kinds { All (λ (o : Object). IsKindWithin world.now.shape.regions world.now.shape.colours o.kind) objects.now }
+    requires kinds { AreKindsWithin world.now.shape objects.now }
     requires few { world.now.shape.colours ≤ MAX_COLOURS }
     requires at_home { (colours : List ℕ) × IsMapAt (world_of world.now) client objects.now object colours }
     requires folded { AreFolded (world_of world.now) objects.now folds.old }
     requires behind { ShardsWithin folds.old object
-        (shards (colours_of (caller_in (world_of world.now) objects.now client) object) keys.now)
+        (shards (colours_of_object (caller_in (world_of world.now) objects.now client) object) keys.now)
         (λ colour. length (up_to stamp (line (home_history (world_of world.now) client colour)))) }
     ensures values { IfOk result (λ values. values ≡ key_answers (value_up_to (world_of world.now) client
-        (colours_of (caller_in (world_of world.now) objects.now client) object) stamp) keys.now) }
+        (colours_of_object (caller_in (world_of world.now) objects.now client) object) stamp) keys.now) }
     ensures folded { AreFolded (world_of world.now) objects.now folds.new }
 {
     let mut answers = ListOf::new(alloc);
@@ -166,7 +165,7 @@ pub fn get_keys(
     folds: &mut Folds,
 ) -> Result<Answer, AllocError>
     requires caller { command.now.client < length world.old.shape.homes }
-    requires kinds { All (λ (o : Object). IsKindWithin world.old.shape.regions world.old.shape.colours o.kind) objects.now }
+    requires kinds { AreKindsWithin world.old.shape objects.now }
     requires uses { UsesObject objects.now (What.GetAll object keys.now) }
     requires near { refusing_home (caller_in (world_of world.old) objects.now command.now.client)
         (What.GetAll object keys.now) ≡ None }

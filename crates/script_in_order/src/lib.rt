@@ -23,7 +23,9 @@ mod scans;
 mod stamped;
 mod stops;
 mod syncs;
+mod told;
 mod transactions;
 mod tx_answers;
 
 pub use in_order::run_in_order;
+pub use told::Shown;

@@ -8,9 +8,9 @@ ghost use Rattle.object_fold.specs.Folds.{told_of};
 ghost use Rattle.script_text.specs.Fitting.{AreBelow};
 ghost use Rattle.world_laws.specs.Worlds.{World as Meant};
 ghost use Rattle.world_code.specs.WorldView.{world_of};
-ghost use Rattle.script_meaning.specs.Dequeues.{object_at};
+ghost use Rattle.script_meaning.specs.Dequeues.{object_node_at};
 ghost use Rattle.script_meaning.specs.Stamped.{keys_read};
-ghost use Rattle.script_in_order.specs.Folds.{AreThere, first_keys, keys_behind, AreRead, IsLinesFold};
+ghost use Rattle.script_in_order.specs.Folds.{AreThere, first_keys, keys_behind, AreReadUpTo, IsLinesFold};
 ghost use Rattle.script_in_order.specs.Transacting.{AreOfLines, AreOthers, found_with};
 
 use crate::folds::{FirstNodes, node_of};
@@ -43,7 +43,7 @@ fn firsts_of(alloc: Global, world: &World, read: LinesRead) -> Result<Vec<FirstN
     requires client { read.client < length world.now.shape.homes }
     requires within { AreBelow world.now.shape.colours read.colours }
     ensures { IfOk result (λ firsts.
-        AreRead (world_of world.now) read.client read.stamp (members read.colours) firsts.items) }
+        AreReadUpTo (world_of world.now) read.client read.stamp (members read.colours) firsts.items) }
 {
     world.agrees();
     let mut firsts = Vec::new(alloc);
@@ -101,8 +101,8 @@ fn feed_all<F: NodeFold>(
     keys: &[Key],
 ) -> Result<(), AllocError>
     requires stand { AreOfLines (world_of world.now) keys.now }
-    ensures { (before : List Key) → F.Holds kept.old.state (map (object_at (world_of world.now)) before)
-        → OnOk result (F.Holds kept.new.state (map (object_at (world_of world.now)) (before ++ keys.now))) }
+    ensures { (before : List Key) → F.Holds kept.old.state (map (object_node_at (world_of world.now)) before)
+        → OnOk result (F.Holds kept.new.state (map (object_node_at (world_of world.now)) (before ++ keys.now))) }
 {
     for key in keys {
         let _told = kept.feed(alloc, *key, &node_of(world, *key).text)?;
@@ -135,11 +135,11 @@ fn feed_for<F: NodeFold>(
     own: Key,
 ) -> Result<Option<F::Told>, AllocError>
     requires stand { AreOfLines (world_of world.now) keys.now }
-    ensures told { (before : List Key) → F.Holds kept.old.state (map (object_at (world_of world.now)) before)
+    ensures told { (before : List Key) → F.Holds kept.old.state (map (object_node_at (world_of world.now)) before)
         → AreOthers own before
-        → IfOk result (λ told. told ≡ told_of F.told (map (object_at (world_of world.now)) (before ++ keys.now)) own) }
-    ensures folded { (before : List Key) → F.Holds kept.old.state (map (object_at (world_of world.now)) before)
-        → OnOk result (F.Holds kept.new.state (map (object_at (world_of world.now)) (before ++ keys.now))) }
+        → IfOk result (λ told. told ≡ told_of F.told (map (object_node_at (world_of world.now)) (before ++ keys.now)) own) }
+    ensures folded { (before : List Key) → F.Holds kept.old.state (map (object_node_at (world_of world.now)) before)
+        → OnOk result (F.Holds kept.new.state (map (object_node_at (world_of world.now)) (before ++ keys.now))) }
 {
     let mut found = None;
     for key in keys {
@@ -186,7 +186,7 @@ impl<F: NodeFold> LinesFold<F> {
         requires client { read.client < length world.now.shape.homes }
         requires within { AreBelow world.now.shape.colours read.colours }
         ensures { IfOk result (λ goes. IsTrue goes → (self.now.stamp ≤ read.stamp)
-            × AreRead (world_of world.now) read.client self.now.stamp (members read.colours) self.now.firsts.items) }
+            × AreReadUpTo (world_of world.now) read.client self.now.stamp (members read.colours) self.now.firsts.items) }
     {
         let before = LinesRead {
             client: read.client,
@@ -232,7 +232,7 @@ impl<F: NodeFold> LinesFold<F> {
         requires client { read.client < length world.now.shape.homes }
         requires within { AreBelow world.now.shape.colours read.colours }
         requires folded { IsLinesFold F.Holds (world_of world.now) self.old }
-        ensures told { IfOk result (λ told. told ≡ told_of F.told (map (object_at (world_of world.now))
+        ensures told { IfOk result (λ told. told ≡ told_of F.told (map (object_node_at (world_of world.now))
             (keys_read (world_of world.now) read.client read.stamp (members read.colours))) own) }
         ensures folded { IsLinesFold F.Holds (world_of world.now) self.new }
     {
@@ -263,7 +263,7 @@ impl<F: NodeFold> LinesFold<F> {
         requires client { read.client < length world.now.shape.homes }
         requires within { AreBelow world.now.shape.colours read.colours }
         requires folded { IsLinesFold F.Holds (world_of world.now) self.old }
-        ensures ok { OnOk result (F.Holds self.new.kept.state (map (object_at (world_of world.now))
+        ensures ok { OnOk result (F.Holds self.new.kept.state (map (object_node_at (world_of world.now))
             (keys_read (world_of world.now) read.client read.stamp (members read.colours)))) }
         ensures folded { IsLinesFold F.Holds (world_of world.now) self.new }
     {

@@ -1,15 +1,14 @@
 // What commands of objects append: the text of a form, on the colours of the shards.
 ghost use Rattle.std.specs.Prelude.{◌≡◌, ◌<◌, ◌∷◌, [], IsTrue, IfOk, OnErr, Some, length, slice_get};
-ghost use Rattle.std.specs.List.{All};
 ghost use Rattle.log_node.specs.Sets.{members, set_of};
 ghost use Rattle.object_form.specs.Forms.{IsForm, form_text};
 ghost use Rattle.object_fold.specs.Nodes.{shard_of};
-ghost use Rattle.script_text.specs.Fitting.{AreBelow, AreObjectColours, HasColours, IsKindWithin, UsesObject, is_queue};
-ghost use Rattle.lawful_run.specs.Asks.{object_colours, keys_of, put_form};
+ghost use Rattle.script_text.specs.Fitting.{AreBelow, AreObjectColours, HasColours, UsesObject, is_queue};
+ghost use Rattle.lawful_run.specs.Asks.{object_colours, keys_of_pairs, put_form};
 ghost use Rattle.world_code.specs.WorldView.{world_of};
 ghost use Rattle.script_meaning.specs.Appends.{appended};
 ghost use Rattle.script_meaning.specs.Objects.{shard_set, put_into, deleted_from, put_all_into, enqueued_in};
-ghost use Rattle.script_in_order.specs.Doing.{DoneBy};
+ghost use Rattle.script_in_order.specs.Doing.{DoneBy, AreKindsWithin};
 
 use crate::appends::append;
 use log_node::{Colours, Form, ListOf, MAX_COLOURS, Pair, Pairs, Text};
@@ -64,7 +63,7 @@ pub fn key_shards(kind: &Kind, keys: &[Text]) -> Colours
 // The set of the shards of the keys of some pairs.
 fn pair_shards(kind: &Kind, pairs: &[Pair]) -> Colours
     requires { AreObjectColours MAX_COLOURS (object_colours (Some kind.now)) }
-    ensures { result ≡ shard_set (object_colours (Some kind.now)) (keys_of pairs.now) }
+    ensures { result ≡ shard_set (object_colours (Some kind.now)) (keys_of_pairs pairs.now) }
 {
     let mut set = Colours::NONE;
     for pair in pairs {
@@ -139,7 +138,7 @@ pub fn put(
     world: &mut World,
 ) -> Result<Answer, AllocError>
     requires caller { command.now.client < length world.old.shape.homes }
-    requires kinds { All (λ (o : Object). IsKindWithin world.old.shape.regions world.old.shape.colours o.kind) objects.now }
+    requires kinds { AreKindsWithin world.old.shape objects.now }
     requires uses { UsesObject objects.now (What.Put object key.now value.now) }
     ensures ok { IfOk result (λ answer. DoneBy
         (λ grants state. put_into objects.now grants state command.now object key.now value.now) command.now
@@ -162,7 +161,7 @@ pub fn delete(
     world: &mut World,
 ) -> Result<Answer, AllocError>
     requires caller { command.now.client < length world.old.shape.homes }
-    requires kinds { All (λ (o : Object). IsKindWithin world.old.shape.regions world.old.shape.colours o.kind) objects.now }
+    requires kinds { AreKindsWithin world.old.shape objects.now }
     requires uses { UsesObject objects.now (What.Del object key.now) }
     ensures ok { IfOk result (λ answer. DoneBy
         (λ grants state. deleted_from objects.now grants state command.now object key.now) command.now
@@ -187,7 +186,7 @@ pub fn put_all(
     world: &mut World,
 ) -> Result<Answer, AllocError>
     requires caller { command.now.client < length world.old.shape.homes }
-    requires kinds { All (λ (o : Object). IsKindWithin world.old.shape.regions world.old.shape.colours o.kind) objects.now }
+    requires kinds { AreKindsWithin world.old.shape objects.now }
     requires uses { UsesObject objects.now (What.PutAll object pairs.now) }
     ensures ok { IfOk result (λ answer. DoneBy
         (λ grants state. put_all_into objects.now grants state command.now object pairs.now) command.now
@@ -213,7 +212,7 @@ pub fn enqueue(
     world: &mut World,
 ) -> Result<Answer, AllocError>
     requires caller { command.now.client < length world.old.shape.homes }
-    requires kinds { All (λ (o : Object). IsKindWithin world.old.shape.regions world.old.shape.colours o.kind) objects.now }
+    requires kinds { AreKindsWithin world.old.shape objects.now }
     requires uses { UsesObject objects.now (What.Enq object value.now) }
     ensures ok { IfOk result (λ answer. DoneBy
         (λ grants state. enqueued_in objects.now grants state command.now object value.now) command.now

@@ -1,16 +1,15 @@
 // Dequeues: an append, a sync, and the front of the queue before the own node.
 ghost use Rattle.std.specs.Prelude.{◌≡◌, ◌<◌, ◌≤◌, [], ℕ, List, IfOk, OnErr, None, length};
-ghost use Rattle.std.specs.List.{All};
 ghost use Rattle.object_form.specs.Forms.{form_text};
 ghost use Rattle.col_core.specs.History.{line};
 ghost use Rattle.world_laws.specs.Worlds.{World as Meant, home_history};
 ghost use Rattle.world_laws.specs.Laws.{IsReached};
-ghost use Rattle.script_text.specs.Fitting.{IsKindWithin, UsesObject};
+ghost use Rattle.script_text.specs.Fitting.{UsesObject};
 ghost use Rattle.world_code.specs.WorldView.{world_of};
 ghost use Rattle.script_meaning.specs.Objects.{caller_in, refusing_home};
 ghost use Rattle.script_meaning.specs.Appends.{appended_one};
 ghost use Rattle.script_meaning.specs.Dequeues.{sync_now, dequeued_on, dequeued};
-ghost use Rattle.script_in_order.specs.Doing.{DoneBy};
+ghost use Rattle.script_in_order.specs.Doing.{DoneBy, AreKindsWithin};
 ghost use Rattle.script_in_order.specs.Folds.{AreFolded, QueueWithin, IsQueueAt};
 ghost use Rattle.script_in_order.specs.Reading.{ReadsOwn};
 
@@ -139,7 +138,7 @@ pub fn dequeue(
     folds: &mut Folds,
 ) -> Result<Answer, AllocError>
     requires caller { command.now.client < length world.old.shape.homes }
-    requires kinds { All (λ (o : Object). IsKindWithin world.old.shape.regions world.old.shape.colours o.kind) objects.now }
+    requires kinds { AreKindsWithin world.old.shape objects.now }
     requires uses { UsesObject objects.now (What.Deq object) }
     requires near { refusing_home (caller_in (world_of world.old) objects.now command.now.client) (What.Deq object) ≡ None }
     requires folded { AreFolded (world_of world.old) objects.now folds.old }

@@ -1,6 +1,6 @@
 // The replies to one client, and what its reads of objects found.
 ghost use Rattle.std.specs.Prelude.{◌≡◌, ◌<◌, IfOk, None, length};
-ghost use Rattle.script_in_order.specs.Runs.{no_replies, with_reply, read_at, with_read};
+ghost use Rattle.script_in_order.specs.Runs.{no_replies, with_reply, found_at, with_read_found};
 
 use log_node::{ListOf, Versions};
 use report_text::ReplyLine;
@@ -55,8 +55,8 @@ impl Replies {
     /// Takes what the last read of an object found.
     pub fn take_read(&mut self, object: u8) -> Option<Versions>
         requires { object < length self.old.reads }
-        ensures value { result ≡ read_at self.old.reads object }
-        ensures reads { self.new ≡ with_read self.old object None }
+        ensures value { result ≡ found_at self.old.reads object }
+        ensures reads { self.new ≡ with_read_found self.old object None }
     {
         mem::replace(&mut self.reads[object as usize], None)
     }
@@ -64,7 +64,7 @@ impl Replies {
     /// Keeps what a read of an object found.
     pub fn keep_read(&mut self, object: u8, found: Option<Versions>)
         requires { object < length self.old.reads }
-        ensures { self.new ≡ with_read self.old object found }
+        ensures { self.new ≡ with_read_found self.old object found }
     {
         self.reads[object as usize] = found;
     }

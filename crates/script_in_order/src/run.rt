@@ -7,7 +7,7 @@ ghost use Rattle.world_laws.specs.Worlds.{opened};
 ghost use Rattle.script_meaning.specs.States.{StopsAreLast};
 ghost use Rattle.script_in_order.specs.Doing.{IsFit, transaction_of};
 ghost use Rattle.script_in_order.specs.Folds.{AreFolded};
-ghost use Rattle.script_in_order.specs.Runs.{no_replies, replies_at, read_at, asks, IsDone, IsRunAt};
+ghost use Rattle.script_in_order.specs.Runs.{no_replies, replies_at, found_at, asks, IsDone, IsRunAt};
 ghost use Rattle.script_in_order.specs.Transacting.{AreFit, Transacts};
 
 use crate::answers::reply_of;
@@ -81,7 +81,7 @@ fn do_transaction(
     requires kind { transaction_of command.now.what ≡ Some object }
     requires fits { IsFit (world_of world.old) objects.now command.now.client command.now.what }
     requires reads { length mine.old.reads ≡ length objects.now }
-    requires rests { AreFit (read_at mine.old.reads) }
+    requires rests { AreFit (found_at mine.old.reads) }
     requires room { 0 < mine.old.room }
     requires folded { AreFolded (world_of world.old) objects.now folds.old }
     ensures done { Transacts objects.now command.now object (world_of world.old) (world_of world.new) mine.old mine.new }
@@ -111,7 +111,7 @@ fn do_command(
     requires client { command.now.client < length replies.old.items }
     requires room { 0 < (replies_at replies.old.items command.now.client).room }
     requires reads { length (replies_at replies.old.items command.now.client).reads ≡ length objects.now }
-    requires rests { AreFit (read_at (replies_at replies.old.items command.now.client).reads) }
+    requires rests { AreFit (found_at (replies_at replies.old.items command.now.client).reads) }
     ensures done { IsDone objects.now command.now (record { world = world.old; replies = replies.old.items })
         (record { world = world.new; replies = replies.new.items }) }
     ensures folded { AreFolded (world_of world.new) objects.now folds.new }

@@ -5,7 +5,7 @@ ghost use Rattle.log_node.specs.declared.ids.Key.{Key};
 ghost use Rattle.log_node.specs.Sets.{members};
 ghost use Rattle.script_text.specs.Fitting.{AreBelow};
 ghost use Rattle.world_code.specs.WorldView.{world_of};
-ghost use Rattle.script_meaning.specs.Helping.{node_with};
+ghost use Rattle.script_meaning.specs.Helping.{node_by_id};
 ghost use Rattle.script_meaning.specs.Stamped.{shown_key, keys_read, scanned};
 ghost use Rattle.script_in_order.specs.Doing.{DoneBy};
 
@@ -18,7 +18,7 @@ use world_code::World;
 
 // A node that was read, whose needs are not looked up.
 fn shown_key(world: &World, key: Key) -> Result<Item, AllocError>
-    requires listed { node_with (world_of world.now) key.id ≢ None }
+    requires listed { node_by_id (world_of world.now) key.id ≢ None }
     ensures { IfOk result (λ item. item ≡ shown_key (world_of world.now) key) }
 {
     match world.node(key.id) {
@@ -35,7 +35,7 @@ fn shown_key(world: &World, key: Key) -> Result<Item, AllocError>
 
 // The nodes with these keys.
 fn shown_keys(alloc: Global, world: &World, keys: &[Key]) -> Result<Items, AllocError>
-    requires listed { All (λ (key : Key). node_with (world_of world.now) key.id ≢ None) keys.now }
+    requires listed { All (λ (key : Key). node_by_id (world_of world.now) key.id ≢ None) keys.now }
     ensures { IfOk result (λ items. items ≡ map (shown_key (world_of world.now)) keys.now) }
 {
     let mut items = Vec::with_capacity(alloc, keys.len())?;

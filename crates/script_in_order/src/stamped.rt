@@ -9,7 +9,7 @@ ghost use Rattle.world_laws.specs.Worlds.{home_of, home_history, after};
 ghost use Rattle.script_text.specs.Fitting.{AreBelow};
 ghost use Rattle.report_text.specs.declared.report.SyncPiece.{SyncPiece};
 ghost use Rattle.script_meaning.specs.Stamped.{read_stamp, raise_in, sync_in, key_above, played, keys_read};
-ghost use Rattle.script_in_order.specs.Stamped.{no_look, looked_in, Raises, ReadsRaised, Reads, end_in};
+ghost use Rattle.script_in_order.specs.Stamped.{no_look, looked_in, RaisesColumns, ReadsRaised, ReadsStamped, end_in};
 
 use crate::clears::{clear_all, home};
 use crate::moves::base;
@@ -157,7 +157,7 @@ fn raise(world: &mut World, client: u8, stamp: u64, colour: u8) -> bool
 // Raises the columns of these colours, up to the first for which there is no memory, which it answers.
 fn raise_all(world: &mut World, client: u8, stamp: u64, colours: Colours) -> Option<u8>
     requires client { client < length world.old.shape.homes }
-    ensures raises { Raises (world_of world.old) client stamp (members colours) (world_of world.new) result }
+    ensures raises { RaisesColumns (world_of world.old) client stamp (members colours) (world_of world.new) result }
     ensures shape { world.new.shape ≡ world.old.shape }
 {
     for colour in colours.members() {
@@ -239,7 +239,7 @@ pub fn stamped_read(
 ) -> Result<Stamped, AllocError>
     requires client { client < length world.old.shape.homes }
     requires within { AreBelow world.old.shape.colours colours }
-    ensures ok { IfOk result (λ read. Reads (world_of world.old) (world_of world.new) client (members colours)
+    ensures ok { IfOk result (λ read. ReadsStamped (world_of world.old) (world_of world.new) client (members colours)
         (end_in (world_of world.new) client (members colours) read)) }
     ensures shape { world.new.shape ≡ world.old.shape }
     ensures err { OnErr result (world.new ≡ world.old) }

@@ -1,38 +1,26 @@
 // Transactions: reads of transactional maps, and commits that rest on them.
-ghost use Rattle.std.specs.Prelude.{◌≡◌, ◌≢◌, ◌<◌, ◌++◌, ℕ, List, [], Option, IsTrue, IfOk, IfSome, OnErr, Some, None, length, map};
-ghost use Rattle.std.specs.List.{All};
-ghost use Rattle.col_core.specs.History.{line, entry_key};
-ghost use Rattle.log_node.specs.Sets.{members, set_of};
+ghost use Rattle.std.specs.Prelude.{◌≡◌, ◌<◌, ◌++◌, List, [], Option, IsTrue, IfOk, IfSome, OnErr, Some, None, length, map};
+ghost use Rattle.log_node.specs.Sets.{set_of};
 ghost use Rattle.object_form.specs.Forms.{AreVersions};
-ghost use Rattle.object_fold.specs.Nodes.{ObjectNode};
-ghost use Rattle.object_fold.specs.States.{IsTxState};
-ghost use Rattle.object_fold.specs.Transactions.{value_of, writes_after, versions_after};
-ghost use Rattle.script_text.specs.Fitting.{AreBelow, AreObjectColours, IsKindWithin, UsesObject, is_tx};
-ghost use Rattle.world_laws.specs.Worlds.{World as Meant, next_id};
-ghost use Rattle.lawful_run.specs.Asks.{object_colours, keys_of};
+ghost use Rattle.script_text.specs.Fitting.{AreObjectColours, UsesObject, is_tx};
+ghost use Rattle.lawful_run.specs.Asks.{object_colours, keys_of_pairs};
 ghost use Rattle.world_code.specs.WorldView.{world_of};
 ghost use Rattle.script_meaning.specs.Objects.{shard_set};
-ghost use Rattle.script_meaning.specs.Dequeues.{object_at};
-ghost use Rattle.script_meaning.specs.Gets.{key_answers};
-ghost use Rattle.script_meaning.specs.Stamped.{keys_read};
-ghost use Rattle.script_meaning.specs.Transactions.{version_keys, ruled, verdict_in, read_in, committed_by};
+ghost use Rattle.script_meaning.specs.Transactions.{version_keys, read_in, committed_by};
 ghost use Rattle.script_meaning.specs.Meaning.{done};
-ghost use Rattle.script_in_order.specs.Doing.{IsFit, DoneBy, transaction_of};
-ghost use Rattle.script_in_order.specs.Stamped.{Reads, end_in};
-ghost use Rattle.script_in_order.specs.Folds.{AreFolded, IsTxAt};
-ghost use Rattle.script_in_order.specs.Transacting.{Leaves, Rules};
+ghost use Rattle.script_in_order.specs.Doing.{IsFit, DoneBy, transaction_of, AreKindsWithin};
+ghost use Rattle.script_in_order.specs.Folds.{AreFolded};
+ghost use Rattle.script_in_order.specs.Transacting.{LeavesForCommit};
 
-use crate::appends::next_id;
-use crate::folds::Folds;
+use crate::folds::{Fold, Folds};
 use crate::homes::refusing_home;
 use crate::lines_fold::LinesRead;
-use crate::object_appends::{append_form, copied_pairs, shard};
+use crate::object_appends::{copied_pairs, shard};
 use crate::stamped::{Stamped, stamped_read};
-use log_node::{
-    Colours, Form, Key, Keys, ListOf, MAX_COLOURS, Pair, Pairs, Text, Version, Versions,
-};
-use object_fold::Verdict;
-use report_text::{Answer, PointPiece, Points, RaisePiece, SyncPiece};
+use crate::told::append_and_tell;
+use log_node::{Colours, Form, Keys, MAX_COLOURS, Pair, Pairs, Version, Versions};
+use object_form::write_form;
+use report_text::Answer;
 use script_text::{Command, Kind, Object, ReadUse, Use, What};
 use std::alloc::{AllocError, Global};
 use world_code::World;
@@ -72,7 +60,7 @@ fn all_colours(kind: &Kind) -> Colours
 // The set of the shards of the keys that a transaction has read and writes.
 fn shards_of(kind: &Kind, versions: &[Version], pairs: &[Pair]) -> Colours
     requires { AreObjectColours MAX_COLOURS (object_colours (Some kind.now)) }
-    ensures { result ≡ shard_set (object_colours (Some kind.now)) (version_keys versions.now ++ keys_of pairs.now) }
+    ensures { result ≡ shard_set (object_colours (Some kind.now)) (version_keys versions.now ++ keys_of_pairs pairs.now) }
 {
     let mut set = Colours::NONE;
     for version in versions {
@@ -97,11 +85,11 @@ fn read(
 ) -> Result<(Answer, Option<Versions>), AllocError>
     requires asks { command.now.what ≡ What.Read object keys.now }
     requires caller { command.now.client < length world.old.shape.homes }
-    requires kinds { All (λ (o : Object). IsKindWithin world.old.shape.regions world.old.shape.colours o.kind) objects.now }
+    requires kinds { AreKindsWithin world.old.shape objects.now }
     requires uses { UsesObject objects.now (What.Read object keys.now) }
     requires folded { AreFolded (world_of world.old) objects.now folds.old }
     ensures ok { IfOk result (λ g. (taken : Option (List Version))
-        → Leaves (λ grants state. read_in objects.now grants state command.now object keys.now) command.now object taken
+        → LeavesForCommit (λ grants state. read_in objects.now grants state command.now object keys.now) command.now object taken
         (world_of world.old) (world_of world.new) g.0 g.1) }
     ensures err { OnErr result (world_of world.new ≡ world_of world.old) }
     ensures folded { AreFolded (world_of world.new) objects.now folds.new }
@@ -137,141 +125,8 @@ fn read(
     }
 }
 
-// The answer that shows a verdict.
-fn ruled(
-    verdict: Verdict,
-    row: Option<u32>,
-    points: ListOf<PointPiece>,
-    read_stamp: u64,
-    raises: ListOf<RaisePiece>,
-    syncs: ListOf<SyncPiece>,
-) -> Answer
-    ensures { result ≡ ruled verdict row points read_stamp raises syncs }
-{
-    match verdict {
-        Verdict::Committed { stamp } => Answer::Ruled {
-            conflict: None,
-            stamp,
-            row,
-            points,
-            read_stamp,
-            raises,
-            syncs,
-        },
-        Verdict::Conflict { key, stamp } => Answer::Ruled {
-            conflict: Some(key),
-            stamp,
-            row,
-            points,
-            read_stamp,
-            raises,
-            syncs,
-        },
-    }
-}
-
-// The verdict on the own node among the nodes that are read, and its points as a list.
-fn verdict_at(
-    alloc: Global,
-    world: &World,
-    object: u8,
-    lines: LinesRead,
-    own: Key,
-    points: Points,
-    folds: &mut Folds,
-) -> Result<(Verdict, ListOf<PointPiece>), AllocError>
-    requires client { lines.client < length world.now.shape.homes }
-    requires within { AreBelow world.now.shape.colours lines.colours }
-    requires may { (objects : List Object) × IsTxAt objects object × AreFolded (world_of world.now) objects folds.old }
-    ensures ok { IfOk result (λ r. (r.0 ≡ verdict_in (world_of world.now)
-        (keys_read (world_of world.now) lines.client lines.stamp (members lines.colours)) own) × (r.1 ≡ points)) }
-    ensures folded { (objects : List Object) → IsTxAt objects object → AreFolded (world_of world.now) objects folds.old
-        → AreFolded (world_of world.now) objects folds.new }
-{
-    let verdict = folds.verdict(alloc, world, object, lines, own)?;
-    let points = Vec::from_slice(alloc, points.as_slice())?;
-    Ok((verdict, ListOf::from(points)))
-}
-
-// The verdict behind a commit whose node stands under this key, in the row and at the points, by what its stamped read of
-// these colours came to.
-fn rule_by(
-    alloc: Global,
-    client: u8,
-    object: u8,
-    colours: Colours,
-    own: Key,
-    row: Option<u32>,
-    points: Points,
-    read: Stamped,
-    world: &World,
-    folds: &mut Folds,
-) -> Answer
-    requires caller { client < length world.now.shape.homes }
-    requires within { AreBelow world.now.shape.colours colours }
-    requires may { (objects : List Object) × IsTxAt objects object × AreFolded (world_of world.now) objects folds.old }
-    ensures is_ruled { (old : Meant) → Reads old (world_of world.now) client (members colours)
-        (end_in (world_of world.now) client (members colours) read)
-        → Rules client (members colours) own row points old (world_of world.now) result }
-    ensures folded { (objects : List Object) → IsTxAt objects object → AreFolded (world_of world.now) objects folds.old
-        → AreFolded (world_of world.now) objects folds.new }
-{
-    match read {
-        Stamped::Unraised => Answer::UnreadNoMemory { stamp: own.stamp },
-        Stamped::Refused { colour, base } => Answer::UnreadTrimmed {
-            stamp: own.stamp,
-            colour,
-            base,
-        },
-        Stamped::Whole {
-            stamp,
-            raises,
-            syncs,
-        } => {
-            let lines = LinesRead {
-                client,
-                colours,
-                stamp,
-            };
-            match verdict_at(alloc, world, object, lines, own, points, folds) {
-                Ok((verdict, points)) => ruled(verdict, row, points, stamp, raises, syncs),
-                Err(_) => Answer::UnreadNoMemory { stamp: own.stamp },
-            }
-        }
-    }
-}
-
-// The stamped read behind a commit whose node stands under this key, in the row and at the points, and the verdict on it.
-fn rule(
-    alloc: Global,
-    client: u8,
-    object: u8,
-    colours: Colours,
-    own: Key,
-    row: Option<u32>,
-    points: Points,
-    world: &mut World,
-    folds: &mut Folds,
-) -> Answer
-    requires caller { client < length world.old.shape.homes }
-    requires within { AreBelow world.old.shape.colours colours }
-    requires some { members colours ≢ [] }
-    requires may { (objects : List Object) × IsTxAt objects object × AreFolded (world_of world.old) objects folds.old }
-    ensures is_ruled { Rules client (members colours) own row points (world_of world.old) (world_of world.new) result }
-    ensures folded { (objects : List Object) → IsTxAt objects object → AreFolded (world_of world.old) objects folds.old
-        → AreFolded (world_of world.new) objects folds.new }
-{
-    world.agrees();
-    match stamped_read(alloc, world, client, colours) {
-        Err(_) => Answer::UnreadNoMemory { stamp: own.stamp },
-        Ok(read) => rule_by(
-            alloc, client, object, colours, own, row, points, read, world, folds,
-        ),
-    }
-}
-
-// A commit that rests on these versions: an append of its transaction to the shards of the keys read and written, a stamped
-// read of all colours of the map, and the verdict.
+// A commit that rests on these versions: its transaction is appended to the shards of the keys read and written, and it is told
+// the verdict.
 fn commit_on(
     alloc: Global,
     objects: &[Object],
@@ -283,7 +138,7 @@ fn commit_on(
     folds: &mut Folds,
 ) -> Result<Answer, AllocError>
     requires caller { command.now.client < length world.old.shape.homes }
-    requires kinds { All (λ (o : Object). IsKindWithin world.old.shape.regions world.old.shape.colours o.kind) objects.now }
+    requires kinds { AreKindsWithin world.old.shape objects.now }
     requires uses { UsesObject objects.now (What.Commit object pairs.now) }
     requires rests { AreVersions reads }
     requires folded { AreFolded (world_of world.old) objects.now folds.old }
@@ -298,24 +153,10 @@ fn commit_on(
     let colours = all_colours(kind);
     let set = shards_of(kind, reads.as_slice(), pairs.as_slice());
     let writes = copied_pairs(alloc, pairs.as_slice())?;
-    let id = next_id(world, command.client);
-    let form = Form::Transaction { reads, writes };
-    match append_form(alloc, command, set, form, world)? {
-        Answer::Stood { stamp, row, points } => {
-            let own = Key { stamp, id };
-            Ok(rule(
-                alloc,
-                command.client,
-                object,
-                colours,
-                own,
-                row,
-                points,
-                world,
-                folds,
-            ))
-        }
-        other => Ok(other),
+    let text = write_form(alloc, &Form::Transaction { reads, writes })?;
+    match &mut folds.of[object as usize] {
+        Fold::Tx(fold) => append_and_tell(alloc, command, colours, set, &text, world, fold),
+        _ => unreachable!(),
     }
 }
 
@@ -331,7 +172,7 @@ fn commit(
     folds: &mut Folds,
 ) -> Result<Answer, AllocError>
     requires caller { command.now.client < length world.old.shape.homes }
-    requires kinds { All (λ (o : Object). IsKindWithin world.old.shape.regions world.old.shape.colours o.kind) objects.now }
+    requires kinds { AreKindsWithin world.old.shape objects.now }
     requires uses { UsesObject objects.now (What.Commit object pairs.now) }
     requires rests { IfSome taken AreVersions }
     requires folded { AreFolded (world_of world.old) objects.now folds.old }
@@ -362,7 +203,7 @@ pub fn transact(
     requires fits { IsFit (world_of world.old) objects.now command.now.client command.now.what }
     requires rests { IfSome taken AreVersions }
     requires folded { AreFolded (world_of world.old) objects.now folds.old }
-    ensures ok { IfOk result (λ g. Leaves (λ grants state. done objects.now grants state command.now) command.now object
+    ensures ok { IfOk result (λ g. LeavesForCommit (λ grants state. done objects.now grants state command.now) command.now object
         taken (world_of world.old) (world_of world.new) g.0 g.1) }
     ensures err { OnErr result (world_of world.new ≡ world_of world.old) }
     ensures folded { AreFolded (world_of world.new) objects.now folds.new }

@@ -1,4 +1,4 @@
-// Transactional maps: what a read of one finds, and the verdict on a transaction.
+// Transactional maps: what a read of one finds.
 ghost use Rattle.std.specs.Prelude.{◌≡◌, ◌<◌, List, IfOk, length, map};
 ghost use Rattle.log_node.specs.Sets.{members};
 ghost use Rattle.object_fold.specs.Nodes.{ObjectNode};
@@ -6,39 +6,19 @@ ghost use Rattle.object_fold.specs.States.{IsTxState};
 ghost use Rattle.object_fold.specs.Transactions.{value_of, writes_after, versions_after};
 ghost use Rattle.script_text.specs.Fitting.{AreBelow};
 ghost use Rattle.world_code.specs.WorldView.{world_of};
-ghost use Rattle.script_meaning.specs.Dequeues.{object_at};
+ghost use Rattle.script_meaning.specs.Dequeues.{object_node_at};
 ghost use Rattle.script_meaning.specs.Gets.{key_answers};
 ghost use Rattle.script_meaning.specs.Stamped.{keys_read};
-ghost use Rattle.script_meaning.specs.Transactions.{verdict_in};
 ghost use Rattle.script_in_order.specs.Folds.{IsLinesFold};
 
 use crate::lines_fold::{LinesFold, LinesRead};
-use log_node::{Key, Keys, ListOf, Text, Versions};
-use object_fold::{TxState, Verdict};
+use log_node::{Keys, ListOf, Text, Versions};
+use object_fold::TxState;
 use report_text::KeyAnswer;
 use std::alloc::{AllocError, Global};
 use world_code::World;
 
 impl LinesFold<TxState> {
-    /// The verdict on the node with a key among all nodes that are read. Where there is no memory, the fold begins anew.
-    pub fn verdict(
-        &mut self,
-        alloc: Global,
-        world: &World,
-        read: LinesRead,
-        own: Key,
-    ) -> Result<Verdict, AllocError>
-        requires client { read.client < length world.now.shape.homes }
-        requires within { AreBelow world.now.shape.colours read.colours }
-        requires folded { IsLinesFold IsTxState (world_of world.now) self.old }
-        ensures verdict { IfOk result (λ verdict. verdict ≡ verdict_in (world_of world.now)
-            (keys_read (world_of world.now) read.client read.stamp (members read.colours)) own) }
-        ensures folded { IsLinesFold IsTxState (world_of world.now) self.new }
-    {
-        let told = self.told(alloc, world, read, own)?;
-        Ok(told.unwrap_or(Verdict::Committed { stamp: own.stamp }))
-    }
-
     /// The values of keys after all nodes that are read, and who wrote them last. Where there is no memory, the fold may
     /// begin anew.
     pub fn found(
@@ -51,7 +31,7 @@ impl LinesFold<TxState> {
         requires client { read.client < length world.now.shape.homes }
         requires within { AreBelow world.now.shape.colours read.colours }
         requires folded { IsLinesFold IsTxState (world_of world.now) self.old }
-        ensures found { IfOk result (λ found. let nodes = map (object_at (world_of world.now))
+        ensures found { IfOk result (λ found. let nodes = map (object_node_at (world_of world.now))
             (keys_read (world_of world.now) read.client read.stamp (members read.colours)) in
             (found.0 ≡ key_answers (value_of (writes_after nodes)) keys.now) × (found.1 ≡ versions_after nodes keys.now)) }
         ensures folded { IsLinesFold IsTxState (world_of world.now) self.new }

@@ -14,24 +14,25 @@ use Rattle.script_text.specs.Fitting.{IsFitting}
 use Rattle.script_meaning.specs.States.{State, Grants, no_reads, StopsAreLast}
 use Rattle.script_meaning.specs.Meaning.{LeadTo, nothing, next, done}
 use Rattle.script_meaning.specs.Appends.{with_single, appended}
-use Rattle.script_meaning.proofs.GrantedCommands.{done_extends, append_extends, single_runs}
-use Rattle.script_meaning.proofs.InvariantHolds.{runs_lead}
-pub use Rattle.script_meaning.proofs.Lines.{final_stays}
-pub use Rattle.script_meaning.proofs.Rows.{standing_as}
-pub use Rattle.script_meaning.proofs.HelpGrants.{single_same, all_cleared_same}
-pub use Rattle.script_meaning.proofs.CausalAnswers.{causal_answer, one_answer}
-pub use Rattle.script_meaning.proofs.CausalNodes.{AtPlace, at_place, causal_node_is, place_within}
-pub use Rattle.script_meaning.proofs.ChainNodes.{line_node}
-pub use Rattle.script_meaning.proofs.StampedEnds.{rising_line, keys_listed, keys_stand}
-pub use Rattle.script_meaning.proofs.StampedReads.{stamp_low}
-pub use Rattle.script_meaning.proofs.ShardSets.{keys_set, shard_members, set_has, shard_below, shards_below, shards_has, key_in, rising_some, rising_below, own_below}
-pub use Rattle.script_meaning.proofs.GrantedSteps.{RunsTo, stays_there}
-pub use Rattle.script_meaning.proofs.VersionsFit.{can_read}
-pub use Rattle.script_meaning.proofs.GrantedReads.{read_runs}
-pub use Rattle.script_meaning.proofs.LaterNodes.{line_longer, nodes_stay, new_behind, whole_stamp, read_behind}
-pub use Rattle.script_meaning.proofs.ObjectKinds.{object_has, queue_colour, queue_one, some_of}
-pub use Rattle.script_meaning.proofs.Playing.{at_or}
-pub use Rattle.script_meaning.proofs.ObjectForms.{key_is_word, key_some, pairs_are}
+use Rattle.script_meaning.specs.Telling.{ReadAnswer, appended_and_told}
+use Rattle.script_meaning.proofs.Run.GrantedCommands.{done_extends, append_extends, telling_extends, single_runs}
+use Rattle.script_meaning.proofs.Run.InvariantHolds.{runs_lead}
+pub use Rattle.script_meaning.proofs.World.Lines.{final_stays}
+pub use Rattle.script_meaning.proofs.World.Rows.{standing_as}
+pub use Rattle.script_meaning.proofs.Run.HelpGrants.{single_same, all_cleared_same}
+pub use Rattle.script_meaning.proofs.Object.CausalAnswers.{causal_answer, one_answer}
+pub use Rattle.script_meaning.proofs.Object.CausalNodes.{AtPlace, at_place, causal_node_is, place_within}
+pub use Rattle.script_meaning.proofs.World.ChainNodes.{line_node}
+pub use Rattle.script_meaning.proofs.Read.StampedEnds.{rising_line, keys_listed, keys_stand}
+pub use Rattle.script_meaning.proofs.Read.StampedReads.{stamp_low}
+pub use Rattle.script_meaning.proofs.Object.ShardSets.{keys_set, shard_members, set_has, shard_below, shards_below, shards_has, key_in, rising_some, rising_below, own_below}
+pub use Rattle.script_meaning.proofs.Run.GrantedSteps.{RunsTo, stays_there}
+pub use Rattle.script_meaning.proofs.Transaction.VersionsFit.{can_read}
+pub use Rattle.script_meaning.proofs.Run.GrantedReads.{read_runs}
+pub use Rattle.script_meaning.proofs.Object.LaterNodes.{line_longer, nodes_stay, new_behind, whole_stamp, read_behind}
+pub use Rattle.script_meaning.proofs.Object.ObjectKinds.{object_has, queue_colour, queue_one, some_of}
+pub use Rattle.script_meaning.proofs.World.Playing.{at_or}
+pub use Rattle.script_meaning.proofs.Object.ObjectForms.{key_is_word, key_some, pairs_are}
 
 pub lead_shape : (script : Script) {commands : List Command} {state : State} → LeadTo script commands state
     → state.world.shape ≡ script.shape
@@ -69,3 +70,10 @@ append_to grants state command colours text ms = (append_extends [] grants state
 pub done_to : (objects : List Object) (grants : Grants) (state : State) (command : Command)
     → RunsTo state.world (done objects grants state command).world
 done_to objects grants state command = (done_extends objects grants state command).world
+
+-- what a command leads to that is told what becomes of its node
+pub told_to : (tells : ReadAnswer) (objects : List Object) (grants : Grants) (state : State) (command : Command) (object : ℕ)
+    (set : Colours) (text : List ℕ)
+    → RunsTo state.world (appended_and_told tells objects grants state command object set text).world
+told_to tells objects grants state command object set text =
+    (telling_extends objects grants state command tells object set text).world

@@ -37,15 +37,15 @@ with_single grants w client text colour =
     (after w (Single client colour text))
 
 -- What follows an append that stands, by the world then, its stamp, its row and its points.
-abbrev pub Follows : Type 0
-Follows = World → ℕ → Option ℕ → List PointPiece → State
+abbrev pub Continuation : Type 0
+Continuation = World → ℕ → Option ℕ → List PointPiece → State
 
 -- it is answered so
-abbrev pub answered_stood : State → Command → Follows
+abbrev pub answered_stood : State → Command → Continuation
 answered_stood state command w stamp row points = answered state command w (answers.Stood stamp row points) []
 
 -- An append to one colour, and what follows it: refused where no stamp is left.
-abbrev pub appended_one_so : Grants → State → Command → List ℕ → ℕ → Follows → State
+abbrev pub appended_one_so : Grants → State → Command → List ℕ → ℕ → Continuation → State
 appended_one_so grants state command text colour follows =
     let w = state.world in
     let client = command.client in
@@ -55,13 +55,14 @@ appended_one_so grants state command text colour follows =
     (point_in w after_all client (next_id w client) colour ∷ [])
     else answered state command w (answers.StampEnd colour) []
 
+-- an append to one colour, which is answered by where it stands
 abbrev pub appended_one : Grants → State → Command → List ℕ → ℕ → State
 appended_one grants state command text colour =
     appended_one_so grants state command text colour (answered_stood state command)
 
 -- the client has begun as many rows as it may
-abbrev pub is_full : World → ℕ → Bool
-is_full w client = not (nat_lt (w.clients client).used w.shape.rows)
+abbrev pub has_no_row_left : World → ℕ → Bool
+has_no_row_left w client = not (nat_lt (w.clients client).used w.shape.rows)
 
 -- The steps of an append to several colours: the row begins, its colours are marked, it is decided, and it is settled
 -- in each colour.
@@ -77,7 +78,7 @@ ended_colour w row colours =
 
 -- An append, after whose steps the world is this one, goes on by the outcome of its row: where that is final the
 -- client has seen the stamp, and each colour is cleared below the node's key.
-abbrev pub appended_by_so : Grants → State → Command → World → Row → List ℕ → Outcome → Follows → State
+abbrev pub appended_by_so : Grants → State → Command → World → Row → List ℕ → Outcome → Continuation → State
 appended_by_so grants state command w row colours Open follows = answered state command w answers.NoMemory []
 appended_by_so grants state command w row colours (Gone Memory) follows =
     answered state command w answers.NoMemory []
@@ -89,32 +90,35 @@ appended_by_so grants state command w row colours (Final stamp) follows =
     let after_all = all_cleared grants client (entry_key stamp id) colours (after w (Seen client stamp)) in
     follows after_all stamp (Some row.number) (map (point_in state.world after_all client id) colours)
 
+-- the same of a begun append to several colours, by the outcome of its row
 abbrev pub appended_by : Grants → State → Command → World → Row → List ℕ → Outcome → State
 appended_by grants state command w row colours outcome =
     appended_by_so grants state command w row colours outcome (answered_stood state command)
 
 -- an append to several colours, and what follows it: refused where no row is left
-abbrev pub appended_several_so : Grants → State → Command → Colours → List ℕ → Follows → State
+abbrev pub appended_several_so : Grants → State → Command → Colours → List ℕ → Continuation → State
 appended_several_so grants state command colours text follows =
     let w = state.world in
     let client = command.client in
     let row = next_row w client in
     let stepped = run_steps w (append_steps grants w client colours text) in
-    if is_full w client then answered state command w (answers.Full (w.clients client).used) []
+    if has_no_row_left w client then answered state command w (answers.Full (w.clients client).used) []
     else appended_by_so grants state command stepped row (members colours) (row_of stepped row).last follows
 
+-- an append to several colours, which is answered by where it stands
 abbrev pub appended_several : Grants → State → Command → Colours → List ℕ → State
 appended_several grants state command colours text =
     appended_several_so grants state command colours text (answered_stood state command)
 
 -- an append to the members of a set, and what follows it
-abbrev pub appended_so : Grants → State → Command → Colours → List ℕ → List ℕ → Follows → State
+abbrev pub appended_so : Grants → State → Command → Colours → List ℕ → List ℕ → Continuation → State
 appended_so grants state command colours text [] follows = answered state command state.world answers.NoMemory []
 appended_so grants state command colours text (colour ∷ []) follows =
     appended_one_so grants state command text colour follows
 appended_so grants state command colours text (colour ∷ other ∷ others) follows =
     appended_several_so grants state command colours text follows
 
+-- an append to the members of a set, which is answered by where it stands
 abbrev pub appended : Grants → State → Command → Colours → List ℕ → List ℕ → State
 appended grants state command colours text ms =
     appended_so grants state command colours text ms (answered_stood state command)
@@ -125,6 +129,6 @@ stopped grants state command colours text zero = answered state command state.wo
 stopped grants state command colours text (suc n) =
     let w = state.world in
     let client = command.client in
-    if is_full w client then answered state command w (answers.Full (w.clients client).used) []
+    if has_no_row_left w client then answered state command w (answers.Full (w.clients client).used) []
     else answered state command (run_steps w (take (suc n) (append_steps grants w client colours text)))
     (answers.Stopped (suc n)) []

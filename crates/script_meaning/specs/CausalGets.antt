@@ -44,14 +44,14 @@ put_in_order value (other ∷ others) =
     if is_lt (slice_cmp nat_cmp other value) then other ∷ put_in_order value others else value ∷ other ∷ others
 
 -- values sorted by their bytes
-abbrev pub in_order : List (List ℕ) → List (List ℕ)
-in_order [] = []
-in_order (value ∷ values) = put_in_order value (in_order values)
+abbrev pub sorted_values : List (List ℕ) → List (List ℕ)
+sorted_values [] = []
+sorted_values (value ∷ values) = put_in_order value (sorted_values values)
 
 -- the values of the latest writes of the key among these nodes, sorted by their bytes
 unfoldable pub causal_values : List ChainNode → List ℕ → List (List ℕ)
 causal_values nodes key =
-    in_order (map (λ node. unwrap_or (written_value key node) []) (filter (is_latest_write nodes key) nodes))
+    sorted_values (map (λ node. unwrap_or (written_value key node) []) (filter (is_latest_write nodes key) nodes))
 
 -- the node at a place of these chains, as a causal map reads it
 abbrev pub causal_node : World → Chains → Place → ChainNode

@@ -14,21 +14,21 @@ use Rattle.script_text.specs.declared.script.Command.{Command}
 use Rattle.report_text.specs.declared.report.Answer.TheVariants as answers
 use Rattle.report_text.specs.declared.report.PointPiece.{PointPiece}
 use Rattle.report_text.specs.declared.report.SyncPiece.{SyncPiece}
-use Rattle.lawful_run.specs.Asks.{colours_of}
+use Rattle.lawful_run.specs.Asks.{colours_of_object}
 use Rattle.script_meaning.specs.States.{State, Grants, answered}
-use Rattle.script_meaning.specs.Helping.{node_with}
+use Rattle.script_meaning.specs.Helping.{node_by_id}
 use Rattle.script_meaning.specs.Appends.{point_in, with_single}
 use Rattle.script_meaning.specs.Objects.{caller_in}
 
 -- the node with a key as objects read it
-abbrev pub object_at : World → Key → ObjectNode
-object_at w key =
-    let node = unwrap_or (node_with w key.id) no_row.node in
+abbrev pub object_node_at : World → Key → ObjectNode
+object_node_at w key =
+    let node = unwrap_or (node_by_id w key.id) no_row.node in
     record { key = key; colours = node.colours; text = node.text }
 
 -- the first so many nodes of the own line
 abbrev pub first_nodes : World → ℕ → ℕ → ℕ → List ObjectNode
-first_nodes w client colour count = map (object_at w) (take count (line (home_history w client colour)))
+first_nodes w client colour count = map (object_node_at w) (take count (line (home_history w client colour)))
 
 -- the sync that a client makes now
 abbrev pub sync_now : World → ℕ → ℕ → SyncPiece
@@ -68,10 +68,11 @@ dequeued_on grants state command colour =
     else answered state command w (answers.StampEnd colour) []
 
 -- a dequeue, by the colours of its object: a queue has one
-abbrev pub dequeued_by : Grants → State → Command → List ℕ → State
-dequeued_by grants state command [] = state
-dequeued_by grants state command (colour ∷ colours) = dequeued_on grants state command colour
+abbrev pub dequeued_from : Grants → State → Command → List ℕ → State
+dequeued_from grants state command [] = state
+dequeued_from grants state command (colour ∷ colours) = dequeued_on grants state command colour
 
+-- a dequeue of the object with this number
 abbrev pub dequeued : List Object → Grants → State → Command → ℕ → State
 dequeued objects grants state command object =
-    dequeued_by grants state command (colours_of (caller_in state.world objects command.client) object)
+    dequeued_from grants state command (colours_of_object (caller_in state.world objects command.client) object)

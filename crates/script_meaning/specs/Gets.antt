@@ -17,10 +17,10 @@ use Rattle.report_text.specs.declared.report.Answer.TheVariants as answers
 use Rattle.report_text.specs.declared.report.KeyAnswer.{KeyAnswer}
 use Rattle.report_text.specs.declared.report.RaisePiece.{RaisePiece}
 use Rattle.report_text.specs.declared.report.SyncPiece.{SyncPiece}
-use Rattle.lawful_run.specs.Asks.{colours_of, shards}
+use Rattle.lawful_run.specs.Asks.{colours_of_object, shards}
 use Rattle.script_meaning.specs.States.{State, Grants, answered}
 use Rattle.script_meaning.specs.Objects.{caller_in}
-use Rattle.script_meaning.specs.Dequeues.{object_at, first_nodes, sync_now, base_now}
+use Rattle.script_meaning.specs.Dequeues.{object_node_at, first_nodes, sync_now, base_now}
 use Rattle.script_meaning.specs.CausalGets.{got_values}
 use Rattle.script_meaning.specs.Stamped.{ended_by, stamped_read}
 
@@ -55,7 +55,7 @@ key_answers value_of keys = map (λ key. record { key = key; value = value_of ke
 abbrev pub value_up_to : World → ℕ → List ℕ → ℕ → List ℕ → Value
 value_up_to w client colours stamp key =
     let colour = shard_of colours key in
-    shard_value colours colour (map (object_at w) (up_to stamp (line (home_history w client colour)))) key
+    shard_value colours colour (map (object_node_at w) (up_to stamp (line (home_history w client colour)))) key
 
 -- the answer to a getall of a map with these colours, which was read in this world
 abbrev pub keys_answer : World → ℕ → List ℕ → List (List ℕ) → ℕ → List RaisePiece → List SyncPiece → List Key → Answer
@@ -65,6 +65,6 @@ keys_answer w client colours asked stamp raises syncs keys =
 -- several keys of a map: a stamped read of their shards
 abbrev pub got_keys : List Object → Grants → State → Command → ℕ → List (List ℕ) → State
 got_keys objects grants state command object asked =
-    let colours = colours_of (caller_in state.world objects command.client) object in
+    let colours = colours_of_object (caller_in state.world objects command.client) object in
     let read = stamped_read grants state.world command.client (shards colours asked) in
     ended_by grants state command (keys_answer read.world command.client colours asked) (λ _. []) read.world read.ends

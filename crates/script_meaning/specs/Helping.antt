@@ -17,8 +17,8 @@ pub record Helping : Type 0 where
   pub helps : ℕ
 
 -- the node with an id, where there is one
-abbrev pub node_with : World → Id → Option Node
-node_with w id = slice_get (w.nodes id.client) id.count
+abbrev pub node_by_id : World → Id → Option Node
+node_by_id w id = slice_get (w.nodes id.client) id.count
 
 -- The row is helped, where the node has one: its missing marks are set, it is decided and settled.
 abbrev pub helped_row : Grants → ℕ → Helping → Option Row → Helping
@@ -36,7 +36,7 @@ helped_node grants by h (Some node) = helped_row grants by h node.row
 -- the first of these open entries is helped
 abbrev pub helped_first : Grants → ℕ → Helping → List Standing → Helping
 helped_first grants by h [] = h
-helped_first grants by h (e ∷ es) = helped_node grants by h (node_with h.world e.key.id)
+helped_first grants by h (e ∷ es) = helped_node grants by h (node_by_id h.world e.key.id)
 
 -- So many times the least open entry of the colour's column below the key is helped, where there is one.
 abbrev pub helped_times : ℕ → Grants → ℕ → ℕ → Key → Helping → Helping

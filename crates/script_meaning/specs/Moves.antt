@@ -15,11 +15,11 @@ use Rattle.log_node.specs.Vectors.{zeros}
 use Rattle.log_node.specs.Reach.{Chains}
 use Rattle.playback.specs.Orders.{play_order}
 use Rattle.script_meaning.specs.States.{State, Grants, answered}
-use Rattle.script_meaning.specs.Helping.{node_with}
+use Rattle.script_meaning.specs.Helping.{node_by_id}
 
 -- a node of a chain, with what its client appended
-abbrev pub placed : World → Head → PlacedNode
-placed w head = record { head = head; node = unwrap_or (node_with w head.key.id) no_row.node }
+abbrev pub node_placed : World → Head → PlacedNode
+node_placed w head = record { head = head; node = unwrap_or (node_by_id w head.key.id) no_row.node }
 
 -- the chains of a colour's column in a client's region
 abbrev pub home_chains : World → ℕ → ℕ → Chains
@@ -31,11 +31,11 @@ no_head = record { key = entry_key 0 no_row.node.id; needs = zeros }
 
 -- the node at a place of these chains, with what its client appended
 abbrev pub placed_at : World → Chains → Place → PlacedNode
-placed_at w chains place = placed w (slice_index_or (chains place.region) place.position no_head)
+placed_at w chains place = node_placed w (slice_index_or (chains place.region) place.position no_head)
 
 -- the nodes that the client has not played, up to the cut, in the order of play
-abbrev pub nodes_played : World → ℕ → ℕ → List PlacedNode
-nodes_played w client colour =
+abbrev pub nodes_unplayed : World → ℕ → ℕ → List PlacedNode
+nodes_unplayed w client colour =
     let chains = home_chains w client colour in
     map (placed_at w chains) (play_order chains ((w.clients client).played colour) (played_cut w client colour))
 
@@ -44,7 +44,7 @@ abbrev pub synced : State → Command → ℕ → State
 synced state command colour =
     let w = state.world in
     let client = command.client in
-    let nodes = nodes_played w client colour in
+    let nodes = nodes_unplayed w client colour in
     if may_play w client colour then
     answered state command (after w (Play client colour))
     (answers.Synced (record {

@@ -11,7 +11,7 @@ use Rattle.script_text.specs.declared.script.Object.{Object}
 use Rattle.script_text.specs.declared.script.Command.{Command}
 use Rattle.script_text.specs.declared.script.What.{What}
 use Rattle.lawful_run.specs.Callers.{Caller}
-use Rattle.lawful_run.specs.Asks.{kind_of, colours_of, home_asked, shards, keys_of, put_form}
+use Rattle.lawful_run.specs.Asks.{kind_of_object, colours_of_object, home_asked, shards, keys_of_pairs, put_form}
 use Rattle.script_meaning.specs.States.{State, Grants}
 use Rattle.script_meaning.specs.Appends.{appended}
 
@@ -46,23 +46,23 @@ appended_form grants state command set form = appended grants state command set 
 abbrev pub put_into : List Object → Grants → State → Command → ℕ → List ℕ → List ℕ → State
 put_into objects grants state command object key value =
     let caller = caller_in state.world objects command.client in
-    appended_form grants state command (shard_set (colours_of caller object) (key ∷ []))
-    (put_form (kind_of caller object) key value)
+    appended_form grants state command (shard_set (colours_of_object caller object) (key ∷ []))
+    (put_form (kind_of_object caller object) key value)
 
 -- a deletion: in the shard of the key
 abbrev pub deleted_from : List Object → Grants → State → Command → ℕ → List ℕ → State
 deleted_from objects grants state command object key =
     appended_form grants state command
-    (shard_set (colours_of (caller_in state.world objects command.client) object) (key ∷ [])) (forms.Delete key)
+    (shard_set (colours_of_object (caller_in state.world objects command.client) object) (key ∷ [])) (forms.Delete key)
 
 -- several puts at once: to the shards of all keys
 abbrev pub put_all_into : List Object → Grants → State → Command → ℕ → List Pair → State
 put_all_into objects grants state command object pairs =
     appended_form grants state command
-    (shard_set (colours_of (caller_in state.world objects command.client) object) (keys_of pairs)) (forms.PutAll pairs)
+    (shard_set (colours_of_object (caller_in state.world objects command.client) object) (keys_of_pairs pairs)) (forms.PutAll pairs)
 
 -- an enqueue: to the colour of the queue
 abbrev pub enqueued_in : List Object → Grants → State → Command → ℕ → List ℕ → State
 enqueued_in objects grants state command object value =
-    appended_form grants state command (set_of (colours_of (caller_in state.world objects command.client) object))
+    appended_form grants state command (set_of (colours_of_object (caller_in state.world objects command.client) object))
     (forms.Enqueue value)

@@ -16,7 +16,7 @@ use Rattle.report_text.specs.declared.report.RaisePiece.{RaisePiece}
 use Rattle.report_text.specs.declared.report.SyncPiece.{SyncPiece}
 use Rattle.script_meaning.specs.States.{State, Grants, answered}
 use Rattle.script_meaning.specs.Helping.{all_cleared}
-use Rattle.script_meaning.specs.Moves.{placed, next_at}
+use Rattle.script_meaning.specs.Moves.{node_placed, next_at}
 
 -- the stamp of a read: the greatest of the client's floor and the clocks of its colours
 abbrev pub read_stamp : World → ℕ → List ℕ → ℕ
@@ -111,7 +111,7 @@ stamped_read grants w client colours =
 
 -- a node that is read, with what its client appended; its needs are not looked up
 abbrev pub shown_key : World → Key → PlacedNode
-shown_key w key = placed w (record { key = key; needs = zeros })
+shown_key w key = node_placed w (record { key = key; needs = zeros })
 
 -- What a command comes to that makes a stamped read, by how that ended: one that is whole by its stamp, raises, syncs and
 -- keys, where memory for what is made of them is granted.

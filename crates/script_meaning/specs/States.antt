@@ -29,18 +29,18 @@ abbrev pub StopsAreLast : Script → Type 0
 StopsAreLast script = AllPairs (λ (c d : Command). IsTrue (is_stop c.what) → d.client ≢ c.client) script.commands
 
 -- for each object what a client's last read of it found, until a commit uses that up
-abbrev pub Reads : Type 0
-Reads = ℕ → Option (List Version)
+abbrev pub LastReads : Type 0
+LastReads = ℕ → Option (List Version)
 
 -- no read is kept
-abbrev pub no_reads : Reads
+abbrev pub no_reads : LastReads
 no_reads object = None
 
 -- the world, the replies to each client, and the reads that each keeps
 pub record State : Type 0 where
   pub world : World
   pub replies : ℕ → List ReplyLine
-  pub reads : ℕ → Reads
+  pub reads : ℕ → LastReads
 
 -- before the first command
 abbrev pub opening : Script → State
@@ -74,7 +74,7 @@ all_granted = record {
 }
 
 -- the reads that a client is left with by a command: a read and a commit let that of their object go
-abbrev pub reads_left : What → Reads → Reads
+abbrev pub reads_left : What → LastReads → LastReads
 reads_left what reads = (kept_behind what (kept_before what (record nothing_kept { reads = reads }))).reads
 
 -- the world then, one reply more to the client that asked, and the reads that it is left with

@@ -153,11 +153,3 @@ module _ {T : Type 0} where
         in_kept = omega (arith, b, d, parts, in_kept);
         in_waiting = omega (arith, parts, in_waiting);
       }
-
-  -- the line goes on by what is delivered
-  pub line-continued : {clock spare clock' spare' : ℕ} {line : List Key} {kept kept' : List T}
-      {waiting waiting' : List (Waiting T)} {l k w l' k' w' : ℕ} (more : List Key) →
-      IsQueue clock spare line kept waiting l k w → IsQueue clock' spare' (line ++ more) kept' waiting' l' k' w' →
-      IsContinued (line_of (all_entries line waiting)) (line_of (all_entries (line ++ more) waiting'))
-  line-continued {line} {waiting} {waiting'} more old new =
-      (more, line-queued new ∙ ap (λ ks. ks ++ more) (sym (line-queued old)))

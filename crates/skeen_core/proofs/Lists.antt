@@ -17,10 +17,6 @@ module _ {X : Type 0} where
   each-append P [] ys a b = b
   each-append P (x ∷ xs) ys a b = (a.0, each-append P xs ys a.1 b)
 
-  pub each-left : (P : X → Type 0) (xs ys : List X) → AllByRecursion P (xs ++ ys) → AllByRecursion P xs
-  each-left P [] ys h = tt
-  each-left P (x ∷ xs) ys h = (h.0, each-left P xs ys h.1)
-
   pub each-right : (P : X → Type 0) (xs ys : List X) → AllByRecursion P (xs ++ ys) → AllByRecursion P ys
   each-right P [] ys h = h
   each-right P (x ∷ xs) ys h = each-right P xs ys h.1

@@ -119,6 +119,7 @@ impl<T: Drop> Queue<T> {
     /// Takes the memory for one more entry, unless it is there.
     pub fn room(&mut self) -> Result<(), AllocError>
         ensures ok { OnOk result (self.new ≡ record self.old { spare = max 1 self.old.spare }) }
+        ensures cause { IfErr result (λ _. self.old.spare ≡ 0) }
         ensures err { OnErr result (self.new ≡ self.old) }
     {
         if self.spare > 0 {

@@ -7,7 +7,7 @@ use Rattle.stamp_board.specs.declared.view.Size.{Size}
 use Rattle.log_client.specs.declared.store.Store.{Store}
 use Rattle.log_client.specs.declared.client.Client.{Client}
 use Rattle.log_client.specs.Clients.{IsClient, tracks_of}
-use Rattle.log_client.specs.Objects.{AreColours}
+use Rattle.log_client.specs.Objects.{HasColoursOf}
 use Rattle.tests_clients.specs.Stores.{IsSmall}
 
 -- it has played of two colours
@@ -18,10 +18,10 @@ below_two : (P : ℕ → Type 0) → P 0 → P 1 → All P (0 ∷ 1 ∷ [])
 below_two P zero one = All-cons P 0 (1 ∷ []) zero (All-cons P 1 [] one (All-nil P))
 
 pub both_colours : (s : Store) (c : Client) (colours : List ℕ) → IsSmall s → IsClient s c → colours ≡ 0 ∷ 1 ∷ []
-    → AreColours c colours
+    → HasColoursOf c colours
 both_colours s c colours small is e =
     let two = two_tracks s c small is in
-    subst (AreColours c) (sym e) (record {
+    subst (HasColoursOf c) (sym e) (record {
       some = omega arith;
       within = below_two (λ k. k < length (tracks_of c)) (omega (arith, two)) (omega (arith, two));
       few = below_two (λ k. k < MAX_COLOURS) (omega arith) (omega arith);

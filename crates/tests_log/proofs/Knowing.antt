@@ -16,7 +16,7 @@ use Rattle.chain_store.specs.Telling.{Tells, Hears, view_told}
 use Rattle.append_core.specs.declared.stood.Stood.{Stood}
 use Rattle.append_core.specs.declared.several.MultiFault.{MultiFault}
 use Rattle.append_core.specs.declared.several.MultiFault.TheVariants as faults
-use Rattle.append_core.specs.Several.{Leaves, StandsInAll}
+use Rattle.append_core.specs.Several.{HoldLeaves, HoldAppendsSeveral}
 
 module _ (r : Region) (g h : Hold) (b : BegunAppend) where
   pub append_later : IsLater g.seat h.seat → h.passes.number ≡ g.passes.number → KnowsAppend r g b → KnowsAppend r h b
@@ -66,7 +66,7 @@ append_heard r teller g h note b of of' tells hears other k =
     }
 
 -- an append to several colours is of the same client's hold, whatever comes
-fault_number : (r : Region) (g h : Hold) (x : Node) (stop : Option ℕ) (fault : MultiFault) → Leaves r g h x stop fault
+fault_number : (r : Region) (g h : Hold) (x : Node) (stop : Option ℕ) (fault : MultiFault) → HoldLeaves r g h x stop fault
     → h.passes.number ≡ g.passes.number
 fault_number r g h x stop (faults.Full used) l = absurd l
 fault_number r g h x stop (faults.StampEnd colour) l = l.1.all.goes.number
@@ -80,6 +80,6 @@ fault_number r g h x stop faults.NoMemory l = elim l [
 ]
 
 pub several_number : (r : Region) (g h : Hold) (x : Node) (stop : Option ℕ) (answer : Result Stood MultiFault)
-    → IfOk answer (StandsInAll r g h x) → IfErr answer (Leaves r g h x stop) → h.passes.number ≡ g.passes.number
+    → IfOk answer (HoldAppendsSeveral r g h x) → IfErr answer (HoldLeaves r g h x stop) → h.passes.number ≡ g.passes.number
 several_number r g h x stop (Ok s) ok err = ok.goes.number
 several_number r g h x stop (Err fault) ok err = fault_number r g h x stop fault err

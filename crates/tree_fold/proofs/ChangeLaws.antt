@@ -13,7 +13,7 @@ use Rattle.object_form.proofs.CallerLemmas.{before_cut, after_cut, cut_back}
 use Rattle.tree_fold.specs.declared.change.Change.{Change}
 use Rattle.tree_fold.specs.declared.change.Change.TheVariants.{Make, Remove, Move}
 use Rattle.tree_fold.specs.Paths.{Path, is_below_root, path_text}
-use Rattle.tree_fold.specs.Changes.{arrow, change_text, IsChange, HasText, IsReading}
+use Rattle.tree_fold.specs.Changes.{arrow, change_text, IsChange, IsWrittenAs, IsReadAs}
 use Rattle.tree_fold.specs.Readings.{below_root_of, make_of, remove_of, move_of, change_after, change_of}
 use Rattle.tree_fold.proofs.PathLaws.{below_parts, below_read, below_back, path_lacks, text_some, text_size}
 
@@ -45,7 +45,7 @@ reads_back (Move source target) h =
 
 -- the text is that of the change, if there is one
 abbrev Fits : Option Change → List ℕ → Type 0
-Fits read text = (change : Change) → read ≡ Some change → HasText change text
+Fits read text = (change : Change) → read ≡ Some change → IsWrittenAs change text
 
 make_fits : (o : Option Path) (bytes : List ℕ) → below_root_of (before equals bytes) ≡ o → Fits (make_of o (after equals bytes)) (107 ∷ 58 ∷ bytes)
 make_fits None bytes e change read = absurd cc
@@ -55,7 +55,7 @@ make_fits (Some path) bytes e change read = elim (cases_Bool (is_word (after equ
       let is : Make path (after equals bytes) ≡ change = cc in
       let back = below_back (before equals bytes) path e in
       let some : 0 < length (after equals bytes) = omega (arith, (word_size (after equals bytes) word).0) in
-      let P : Change → Type 0 = λ c. HasText c (107 ∷ 58 ∷ bytes) in
+      let P : Change → Type 0 = λ c. IsWrittenAs c (107 ∷ 58 ∷ bytes) in
       subst P is ((back.0, word), ap (λ t. 107 ∷ 58 ∷ t) (ap (λ t. t ++ equals ∷ after equals bytes) back.1 ∙ cut_back equals bytes some))
   | inr other ↦ let found = rw other at read in absurd cc
 ]
@@ -65,7 +65,7 @@ remove_fits None bytes e change read = absurd cc
 remove_fits (Some path) bytes e change read =
     let is : Remove path ≡ change = cc in
     let back = below_back bytes path e in
-    let P : Change → Type 0 = λ c. HasText c (120 ∷ 58 ∷ bytes) in
+    let P : Change → Type 0 = λ c. IsWrittenAs c (120 ∷ 58 ∷ bytes) in
     subst P is (back.0, ap (λ t. 120 ∷ 58 ∷ t) back.1)
 
 move_fits : (o p : Option Path) (bytes : List ℕ) → below_root_of (before arrow bytes) ≡ o → below_root_of (after arrow bytes) ≡ p → Fits (move_of o p) (118 ∷ 58 ∷ bytes)
@@ -76,7 +76,7 @@ move_fits (Some source) (Some target) bytes e f change read =
     let from = below_back (before arrow bytes) source e in
     let to = below_back (after arrow bytes) target f in
     let some : 0 < length (after arrow bytes) = let P : List ℕ → Type 0 = λ t. 0 < length t in subst P to.1 (text_some target) in
-    let P : Change → Type 0 = λ c. HasText c (118 ∷ 58 ∷ bytes) in
+    let P : Change → Type 0 = λ c. IsWrittenAs c (118 ∷ 58 ∷ bytes) in
     let text : path_text source ++ arrow ∷ path_text target ≡ bytes = rw (from.1, to.1) (cut_back arrow bytes some) in
     subst P is ((from.0, to.0), ap (λ t. 118 ∷ 58 ∷ t) text)
 
@@ -108,27 +108,27 @@ change_fits (letter ∷ sign ∷ bytes) = λ change e. elim (cases_Bool (eqb sig
 
 -- ---- the laws
 
-read_is : (text : List ℕ) (o : Option Change) → IsReading text o → change_of text ≡ o
+read_is : (text : List ℕ) (o : Option Change) → IsReadAs text o → change_of text ≡ o
 read_is text (Some change) has = ap change_of (sym has.1) ∙ reads_back change has.0
 read_is text None no_change = by (change_of text) refl where
   by : (o : Option Change) → change_of text ≡ o → change_of text ≡ None
   by None e = e
   by (Some change) e = absurd (no_change change (change_fits text change e))
 
-is_read : (text : List ℕ) (o : Option Change) → change_of text ≡ o → IsReading text o
+is_read : (text : List ℕ) (o : Option Change) → change_of text ≡ o → IsReadAs text o
 is_read text (Some change) e = change_fits text change e
 is_read text None e = λ change has. let found : Some change ≡ None = sym (reads_back change has.0) ∙ ap change_of has.1 ∙ e in absurd cc
 
-pub reads_as_one : (text : List ℕ) (o : Option Change) → IsReading text o ↔ (change_of text ≡ o)
+pub reads_as_one : (text : List ℕ) (o : Option Change) → IsReadAs text o ↔ (change_of text ≡ o)
 reads_as_one text o = (read_is text o, is_read text o)
 
-pub texts_differ : (change other : Change) (text : List ℕ) → HasText change text → HasText other text → change ≡ other
+pub texts_differ : (change other : Change) (text : List ℕ) → IsWrittenAs change text → IsWrittenAs other text → change ≡ other
 texts_differ change other text h k =
     let same : Some change ≡ Some other = sym (reads_back change h.0) ∙ ap change_of (h.1 ∙ sym k.1) ∙ reads_back other k.0 in
     cc
 
 -- what is computed of a text is read
-pub reads_ok : {E : Type 0} (text : List ℕ) (r : Result (Option Change) E) → IfOk r (λ change. change ≡ change_of text) → IfOk r (λ change. IsReading text change)
+pub reads_ok : {E : Type 0} (text : List ℕ) (r : Result (Option Change) E) → IfOk r (λ change. change ≡ change_of text) → IfOk r (λ change. IsReadAs text change)
 reads_ok text (Ok change) h = is_read text change (sym h)
 reads_ok text (Err e) h = tt
 

@@ -11,7 +11,7 @@ use Rattle.tree_fold.specs.declared.change.Change.{Change}
 use Rattle.tree_fold.specs.declared.change.Change.TheVariants.{Make, Remove}
 use Rattle.tree_fold.specs.Paths.{Path, begins_with, goes_on_from, is_same}
 use Rattle.tree_fold.specs.Trees.{Tree, value_in, is_there, has_more, moved_path, is_too_deep, why, changed}
-use Rattle.tree_fold.specs.Orders.{path_order, Rises, IsKept, IsPlace, IsBranch, Does}
+use Rattle.tree_fold.specs.Orders.{path_order, PathsRise, AreTreeEntries, IsPlace, IsBranch, MakesChange}
 use Rattle.tree_fold.proofs.OrderLemmas.{same_is, same_turned, above_is, below_not_begun}
 use Rattle.tree_fold.proofs.EntryLemmas.{all_map, all_two, all_join, all_left, all_right, item_drop, Over, Below, whole_rises, rises_without, rises_put, NotBelow, Apart, value_later, value_none, value_behind, value_swap, value_absent, below_apart, later_apart, found_none, found_other, at_place}
 use Rattle.tree_fold.proofs.TreeLemmas.{alike, value_if, may_make, may_remove, value_removed}
@@ -19,7 +19,7 @@ use Rattle.tree_fold.proofs.ClosedLemmas.{closed_same, closed_changed}
 use Rattle.log_node.proofs.CallerLemmas.{or_false}
 
 -- entries that rise and have the values that a change makes are what it does
-pub does : (es new : List Entry) (change : Change) → IsKept es → why es change ≡ None → Rises new → ((q : Path) → value_in new q ≡ value_in (changed es change) q) → Does es new change
+pub does : (es new : List Entry) (change : Change) → AreTreeEntries es → why es change ≡ None → PathsRise new → ((q : Path) → value_in new q ≡ value_in (changed es change) q) → MakesChange es new change
 does es new change kept done rises values =
     record { kept = record { rises = rises; closed = closed_same (changed es change) new (λ q. sym (values q)) (closed_changed es change kept.closed done) }; values = values }
 
@@ -38,8 +38,8 @@ insert_is [] (suc i) e le = absurd (omega arith)
 insert_is (x ∷ es) zero e le = refl
 insert_is (x ∷ es) (suc i) e le = ap (λ l. x ∷ l) (insert_is es i e (omega arith))
 
-pub make_does : (es new : List Entry) (p : Path) (value : List ℕ) (i : ℕ) → IsKept es → why es (Make p value) ≡ None → IsPlace es p i
-    → new ≡ insert es i (record { path = p; value = value }) → Does es new (Make p value)
+pub make_does : (es new : List Entry) (p : Path) (value : List ℕ) (i : ℕ) → AreTreeEntries es → why es (Make p value) ≡ None → IsPlace es p i
+    → new ≡ insert es i (record { path = p; value = value }) → MakesChange es new (Make p value)
 make_does es new p value i kept done place is =
     let e : Entry = record { path = p; value = value } in
     let low = take i es in
@@ -54,7 +54,7 @@ make_does es new p value i kept done place is =
     let over : AllByRecursion (Over e) high =
     all_two (NotBelow p) (Apart p) (Over e) (λ x h k. above_is p x.path h k) high place.above (all_right (Apart p) low high parted) in
     does es new (Make p value) kept done
-    (let rises : Rises (low ++ (e ∷ [] ++ high)) = rises_put low (e ∷ []) high (whole_rises es i kept.rises) (tt, tt) under (over, tt) in rw parts rises)
+    (let rises : PathsRise (low ++ (e ∷ [] ++ high)) = rises_put low (e ∷ []) high (whole_rises es i kept.rises) (tt, tt) under (over, tt) in rw parts rises)
     (λ q.
     ap (λ (l : List Entry). value_in l q) parts
     ∙ value_swap q low (e ∷ []) high (elim (cases_Bool (is_same q p)) [
@@ -65,7 +65,7 @@ make_does es new p value i kept done place is =
 
 -- ---- a path that is removed
 
-module _ (es : List Entry) (p : Path) (i : ℕ) (rises : Rises es) (place : IsPlace es p i) (some : is_some (value_in es p) ≡ true) where
+module _ (es : List Entry) (p : Path) (i : ℕ) (rises : PathsRise es) (place : IsPlace es p i) (some : is_some (value_in es p) ≡ true) where
   none_is : value_in es p ≡ None → ⊥
   none_is e = let no = sym some ∙ ap is_some e in absurd cc
 
@@ -81,11 +81,11 @@ module _ (es : List Entry) (p : Path) (i : ℕ) (rises : Rises es) (place : IsPl
     | inr apart ↦ absurd (none_is (ap (λ o. option_map (λ (e : Entry). e.value) o) (found_other es p i rises place x place_within is apart)))
   ]
 
-pub remove_within : (es : List Entry) (p : Path) (i : ℕ) → IsKept es → 1 ≤ length p → why es (Remove p) ≡ None → IsPlace es p i → i < length es
+pub remove_within : (es : List Entry) (p : Path) (i : ℕ) → AreTreeEntries es → 1 ≤ length p → why es (Remove p) ≡ None → IsPlace es p i → i < length es
 remove_within es p i kept some done place = place_within es p i kept.rises place (value_if es p (may_remove es p done).there some)
 
-pub remove_does : (es new : List Entry) (p : Path) (i : ℕ) (x : Entry) → IsKept es → 1 ≤ length p → why es (Remove p) ≡ None → IsPlace es p i → x ≡ get_or es i x
-    → new ≡ take i es ++ drop (i + 1) es → Does es new (Remove p)
+pub remove_does : (es new : List Entry) (p : Path) (i : ℕ) (x : Entry) → AreTreeEntries es → 1 ≤ length p → why es (Remove p) ≡ None → IsPlace es p i → x ≡ get_or es i x
+    → new ≡ take i es ++ drop (i + 1) es → MakesChange es new (Remove p)
 remove_does es new p i x kept some done place item is =
     let there = value_if es p (may_remove es p done).there some in
     let within = place_within es p i kept.rises place there in
@@ -97,7 +97,7 @@ remove_does es new p i x kept some done place item is =
     let at = at_place es p i kept.rises place x within item in
     let apart : AllByRecursion (Apart p) (low ++ high) = all_join (Apart p) low high (below_apart p low place.below) (later_apart p x high at.0 at.1) in
     does es new (Remove p) kept done
-    (let r : Rises (low ++ (x ∷ [] ++ high)) = rw whole kept.rises in rw parts (rises_without low (x ∷ []) high r))
+    (let r : PathsRise (low ++ (x ∷ [] ++ high)) = rw whole kept.rises in rw parts (rises_without low (x ∷ []) high r))
     (λ q. ap (λ (l : List Entry). value_in l q) parts ∙ elim (cases_Bool (is_same p q)) [
       | inl gone ↦
           let P : Path → Type 0 = λ r. AllByRecursion (Apart r) (low ++ high) in

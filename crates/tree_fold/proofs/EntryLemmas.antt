@@ -12,7 +12,7 @@ use borrow.Rule.Slice.PartMut.{put_mid, Post-is}
 use Rattle.tree_fold.specs.declared.entries.Entry.{Entry}
 use Rattle.tree_fold.specs.Paths.{Path, begins_with, is_same}
 use Rattle.tree_fold.specs.Trees.{value_in}
-use Rattle.tree_fold.specs.Orders.{path_order, Rises, IsPlace, IsBranch, renamed}
+use Rattle.tree_fold.specs.Orders.{path_order, PathsRise, IsPlace, IsBranch, renamed}
 use Rattle.tree_fold.proofs.OrderLemmas.{begins_is, begins_self, same_is, order_trans, order_at_most, between, less_apart, above_apart, above_is}
 
 -- ---- what holds of all items
@@ -97,19 +97,19 @@ Below xs ys = AllByRecursion (λ x. AllByRecursion (λ y. path_order x.path y.pa
 abbrev pub Over : Entry → Entry → Type 0
 Over x y = path_order x.path y.path ≡ Less
 
-pub rises_left : (xs ys : List Entry) → Rises (xs ++ ys) → Rises xs
+pub rises_left : (xs ys : List Entry) → PathsRise (xs ++ ys) → PathsRise xs
 rises_left [] ys r = tt
 rises_left (x ∷ xs) ys r = (all_left (Over x) xs ys r.0, rises_left xs ys r.1)
 
-pub rises_right : (xs ys : List Entry) → Rises (xs ++ ys) → Rises ys
+pub rises_right : (xs ys : List Entry) → PathsRise (xs ++ ys) → PathsRise ys
 rises_right [] ys r = r
 rises_right (x ∷ xs) ys r = rises_right xs ys r.1
 
-pub rises_below : (xs ys : List Entry) → Rises (xs ++ ys) → Below xs ys
+pub rises_below : (xs ys : List Entry) → PathsRise (xs ++ ys) → Below xs ys
 rises_below [] ys r = tt
 rises_below (x ∷ xs) ys r = (all_right (Over x) xs ys r.0, rises_below xs ys r.1)
 
-pub rises_join : (xs ys : List Entry) → Rises xs → Rises ys → Below xs ys → Rises (xs ++ ys)
+pub rises_join : (xs ys : List Entry) → PathsRise xs → PathsRise ys → Below xs ys → PathsRise (xs ++ ys)
 rises_join [] ys r s below = s
 rises_join (x ∷ xs) ys r s below = (all_join (Over x) xs ys r.0 below.0, rises_join xs ys r.1 s below.1)
 
@@ -121,16 +121,16 @@ pub below_right : (xs ys zs : List Entry) → Below xs (ys ++ zs) → Below xs z
 below_right [] ys zs h = tt
 below_right (x ∷ xs) ys zs h = (all_right (Over x) ys zs h.0, below_right xs ys zs h.1)
 
-pub whole_rises : (es : List Entry) (i : ℕ) → Rises es → Rises (take i es ++ drop i es)
+pub whole_rises : (es : List Entry) (i : ℕ) → PathsRise es → PathsRise (take i es ++ drop i es)
 whole_rises es i r = rw take-append-drop r
 
 -- without what stands in the middle
-pub rises_without : (xs ys zs : List Entry) → Rises (xs ++ (ys ++ zs)) → Rises (xs ++ zs)
+pub rises_without : (xs ys zs : List Entry) → PathsRise (xs ++ (ys ++ zs)) → PathsRise (xs ++ zs)
 rises_without xs ys zs r =
     rises_join xs zs (rises_left xs (ys ++ zs) r) (rises_right ys zs (rises_right xs (ys ++ zs) r)) (below_right xs ys zs (rises_below xs (ys ++ zs) r))
 
 -- with something put into the middle
-pub rises_put : (xs ys zs : List Entry) → Rises (xs ++ zs) → Rises ys → Below xs ys → Below ys zs → Rises (xs ++ (ys ++ zs))
+pub rises_put : (xs ys zs : List Entry) → PathsRise (xs ++ zs) → PathsRise ys → Below xs ys → Below ys zs → PathsRise (xs ++ (ys ++ zs))
 rises_put xs ys zs r s low high =
     rises_join xs (ys ++ zs) (rises_left xs zs r) (rises_join ys zs s (rises_right xs zs r) high) (below_join xs ys zs low (rises_below xs zs r))
 
@@ -144,7 +144,7 @@ is_less Greater h = absurd cc
 less_is : (o : Ordering) → o ≡ Less → is_lt o ≡ true
 less_is o h = ap is_lt h
 
-pub parted_below : (es : List Entry) (path : Path) → Rises es → IsPartitionedBy (λ e. is_lt (path_order e.path path)) es
+pub parted_below : (es : List Entry) (path : Path) → PathsRise es → IsPartitionedBy (λ e. is_lt (path_order e.path path)) es
 parted_below [] path r i j d le lt h = absurd (omega arith)
 parted_below (x ∷ es) path r zero zero d le lt h = h
 parted_below (x ∷ es) path r zero (suc j) d le lt h =
@@ -169,7 +169,7 @@ place_is es path i le point =
 abbrev pub NotBelow : Path → Entry → Type 0
 NotBelow path e = is_lt (path_order e.path path) ≡ false
 
-pub parted_branch : (es : List Entry) (path : Path) → Rises es → AllByRecursion (NotBelow path) es → IsPartitionedBy (λ e. begins_with path e.path) es
+pub parted_branch : (es : List Entry) (path : Path) → PathsRise es → AllByRecursion (NotBelow path) es → IsPartitionedBy (λ e. begins_with path e.path) es
 parted_branch [] path r all i j d le lt h = absurd (omega arith)
 parted_branch (x ∷ es) path r all zero zero d le lt h = h
 parted_branch (x ∷ es) path r all zero (suc j) d le lt h = elim (cases_Bool (is_same path x.path)) [
@@ -208,12 +208,12 @@ branch_is es path from count p le point =
     }
 
 -- the same, of the entries from the place on
-pub branch_at : (es ds : List Entry) (path : Path) (from count : ℕ) → ds ≡ drop from es → Rises es → IsPlace es path from → count ≤ length ds
+pub branch_at : (es ds : List Entry) (path : Path) (from count : ℕ) → ds ≡ drop from es → PathsRise es → IsPlace es path from → count ≤ length ds
     → (IsPartitionedBy (λ (e : Entry). begins_with path e.path) ds → IsPartitionPoint (λ (e : Entry). begins_with path e.path ≡ true) (λ e. begins_with path e.path ≡ false) ds count)
     → IsBranch es path (from, from + count)
 branch_at es ds path from count same r p le point =
     let low : AllByRecursion (NotBelow path) ds = rw same p.above in
-    let rise : Rises ds = rw same (rises_right (take from es) (drop from es) (rw take-append-drop r)) in
+    let rise : PathsRise ds = rw same (rises_right (take from es) (drop from es) (rw take-append-drop r)) in
     let found = point (parted_branch ds path rise low) in
     branch_is es path from count p (rw same at le) (rw same at found)
 
@@ -272,13 +272,13 @@ below_apart path es all = let P : Entry → Type 0 = λ e. path_order e.path pat
 pub later_apart : (path : Path) (x : Entry) (es : List Entry) → is_lt (path_order x.path path) ≡ false → AllByRecursion (Over x) es → AllByRecursion (Apart path) es
 later_apart path x es low over = all_map (Over x) (Apart path) (λ e h. less_apart path e.path (order_at_most x.path path e.path low h)) es over
 
-module _ (es : List Entry) (path : Path) (i : ℕ) (r : Rises es) (p : IsPlace es path i) where
+module _ (es : List Entry) (path : Path) (i : ℕ) (r : PathsRise es) (p : IsPlace es path i) where
   find_at_place : find (λ e. is_same path e.path) es ≡ find (λ e. is_same path e.path) (drop i es)
   find_at_place =
       let P : List Entry → Type 0 = λ l. find (λ e. is_same path e.path) l ≡ find (λ e. is_same path e.path) (drop i es) in
       subst P (take-append-drop i es) (find_skip path (take i es) (drop i es) (below_apart path (take i es) p.below))
 
-  pub rises_drop : Rises (drop i es)
+  pub rises_drop : PathsRise (drop i es)
   rises_drop = rises_right (take i es) (drop i es) (rw take-append-drop r)
 
   pub found_none : length es ≤ i → find (λ e. is_same path e.path) es ≡ None
@@ -292,7 +292,7 @@ module _ (es : List Entry) (path : Path) (i : ℕ) (r : Rises es) (p : IsPlace e
   at_place x lt is =
       let P : List Entry → Type 0 = λ l. AllByRecursion (NotBelow path) l in
       let low = subst P (item_drop es i x lt is) p.above in
-      let over = subst Rises (item_drop es i x lt is) rises_drop in
+      let over = subst PathsRise (item_drop es i x lt is) rises_drop in
       (low.0, over.0)
 
   pub found_other : (x : Entry) → i < length es → x ≡ get_or es i x → is_same path x.path ≡ false → find (λ e. is_same path e.path) es ≡ None

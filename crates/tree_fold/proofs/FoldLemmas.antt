@@ -7,17 +7,17 @@ use Rattle.tree_fold.specs.declared.change.Change.{Change}
 use Rattle.tree_fold.specs.declared.told.TreeWhy.{TreeWhy}
 use Rattle.tree_fold.specs.declared.told.Told.{Told}
 use Rattle.tree_fold.specs.Readings.{change_of}
-use Rattle.tree_fold.specs.Trees.{Tree, why, changed, tree_by, tree_with, tree_after, told_by, told_of}
+use Rattle.tree_fold.specs.Trees.{Tree, why, changed, tree_by, tree_with, tree_after, told_under, told_of_change}
 use Rattle.tree_fold.specs.TreeStates.{SameTree}
-use Rattle.tree_fold.specs.Orders.{IsKept, Does}
+use Rattle.tree_fold.specs.Orders.{AreTreeEntries, MakesChange}
 use Rattle.tree_fold.proofs.TreeLemmas.{why_same}
 use Rattle.tree_fold.proofs.ClosedLemmas.{changed_same}
 
 -- what a change does of entries, for a tree with the same values
-pub does_same : (es new tree : Tree) (change : Change) → IsKept es → why es change ≡ None → Does es new change → SameTree es tree → SameTree new (changed tree change)
+pub does_same : (es new tree : Tree) (change : Change) → AreTreeEntries es → why es change ≡ None → MakesChange es new change → SameTree es tree → SameTree new (changed tree change)
 does_same es new tree change kept done did same = λ q. did.values q ∙ changed_same es tree same kept.closed change done q
 
-pub does_ok : {A E : Type 0} (es new tree : Tree) (change : Change) (r : Result A E) → IsKept es → why es change ≡ None → OnOk r (Does es new change) → SameTree es tree
+pub does_ok : {A E : Type 0} (es new tree : Tree) (change : Change) (r : Result A E) → AreTreeEntries es → why es change ≡ None → OnOk r (MakesChange es new change) → SameTree es tree
     → OnOk r (SameTree new (changed tree change))
 does_ok es new tree change (Ok a) kept done did same = does_same es new tree change kept done did same
 does_ok es new tree change (Err e) kept done did same = tt
@@ -33,9 +33,9 @@ done es new tree change e same did = rw (with_why es tree change None same e) di
 
 -- what is told of a change over the nodes
 pub told_same : (es : Tree) (stamp : ℕ) (nodes : List ObjectNode) (change : Change) (o : Option Change) (told : Told)
-    → SameTree es (tree_after nodes) → Some change ≡ o → told ≡ told_by stamp (why es change) → Some told ≡ told_of stamp (tree_after nodes) o
+    → SameTree es (tree_after nodes) → Some change ≡ o → told ≡ told_under stamp (why es change) → Some told ≡ told_of_change stamp (tree_after nodes) o
 told_same es stamp nodes change o told same e h =
-    ap (λ (t : Told). Some t) (h ∙ ap (told_by stamp) (why_same es (tree_after nodes) same change)) ∙ ap (told_of stamp (tree_after nodes)) e
+    ap (λ (t : Told). Some t) (h ∙ ap (told_under stamp) (why_same es (tree_after nodes) same change)) ∙ ap (told_of_change stamp (tree_after nodes)) e
 
 -- the tree after one more node
 pub one_more : (nodes : List ObjectNode) (node : ObjectNode) → tree_after (nodes ++ node ∷ []) ≡ tree_with (tree_after nodes) (change_of node.text)

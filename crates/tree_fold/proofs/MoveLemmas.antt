@@ -10,7 +10,7 @@ use Rattle.tree_fold.specs.declared.entries.Entry.{Entry}
 use Rattle.tree_fold.specs.declared.change.Change.TheVariants.{Move}
 use Rattle.tree_fold.specs.Paths.{Path, begins_with, is_same}
 use Rattle.tree_fold.specs.Trees.{value_in, moved_path, why}
-use Rattle.tree_fold.specs.Orders.{path_order, Rises, IsKept, IsPlace, IsBranch, IsPutBefore, IsPutBehind, Does, renamed}
+use Rattle.tree_fold.specs.Orders.{path_order, PathsRise, AreTreeEntries, IsPlace, IsBranch, IsPutBefore, IsPutBehind, MakesChange, renamed}
 use Rattle.tree_fold.proofs.OrderLemmas.{begins_is, begins_front, same_turned, order_front, order_trans, order_up, above_is, below_not_begun, below_all, above_all}
 use Rattle.tree_fold.proofs.EntryLemmas.{all_map, all_two, all_join, all_left, all_right, is_less, Over, Below, rises_left, rises_right, rises_without, rises_put, NotBelow, Apart, value_swap, not_begun_apart, renamed_by}
 use Rattle.tree_fold.proofs.TreeLemmas.{may_move, NoneBegins, begins_apart}
@@ -52,7 +52,7 @@ module _ (source target : Path) where
       let before : path_order (source ++ r) (source ++ s) ≡ Less = rw (← begins_is source x.path b, ← begins_is source y.path all.0) over.0 in
       (order_front target r s ∙ sym (order_front source r s) ∙ before, put_over x es b all.1 over.1)
 
-  put_rises : (es : List Entry) → AllByRecursion Begins es → Rises es → Rises (map put es)
+  put_rises : (es : List Entry) → AllByRecursion Begins es → PathsRise es → PathsRise (map put es)
   put_rises [] all r = tt
   put_rises (x ∷ es) all r = (put_over x es all.0 all.1 r.0, put_rises es all.1 r.1)
 
@@ -93,13 +93,13 @@ module _ (source target : Path) where
         same_other p h k = same_turned p q (begins_apart target p q h k)
 
   -- a move of the middle part to a place among the others
-  put_does : (es new low mid high front back : List Entry) → IsKept es → why es (Move source target) ≡ None → low ++ (mid ++ high) ≡ es
+  put_does : (es new low mid high front back : List Entry) → AreTreeEntries es → why es (Move source target) ≡ None → low ++ (mid ++ high) ≡ es
       → AllByRecursion Out low → AllByRecursion Begins mid → AllByRecursion Out high → front ++ back ≡ low ++ high
       → AllByRecursion (λ (x : Entry). path_order x.path target ≡ Less) front → AllByRecursion Above back → new ≡ front ++ (map put mid ++ back)
-      → Does es new (Move source target)
+      → MakesChange es new (Move source target)
   put_does es new low mid high front back kept done parts out_low begins out_high split below above is =
-      let r : Rises (low ++ (mid ++ high)) = rw parts kept.rises in
-      let rest : Rises (front ++ back) = rw split (rises_without low mid high r) in
+      let r : PathsRise (low ++ (mid ++ high)) = rw parts kept.rises in
+      let rest : PathsRise (front ++ back) = rw split (rises_without low mid high r) in
       let mid_rises = rises_left mid high (rises_right low (mid ++ high) r) in
       let N : Entry → Type 0 = λ e. begins_with target e.path ≡ false in
       let L : Entry → Type 0 = λ e. path_order e.path target ≡ Less in
@@ -107,7 +107,7 @@ module _ (source target : Path) where
       let front_none : AllByRecursion N front = all_map L N (λ e h. below_not_begun target e.path h) front below in
       let moved : map put_any (low ++ (mid ++ high)) ≡ low ++ (map put mid ++ high) =
       map_join put_any low (mid ++ high) ∙ ap (λ (l : List Entry). map put_any low ++ l) (map_join put_any mid high) ∙ rw (stays_put low out_low, all_put mid begins, stays_put high out_high) refl in
-      let rises : Rises (front ++ (map put mid ++ back)) = rises_put front (map put mid) back rest (put_rises mid begins mid_rises) (under_put front mid below) (put_under mid back above) in
+      let rises : PathsRise (front ++ (map put mid ++ back)) = rises_put front (map put mid) back rest (put_rises mid begins mid_rises) (under_put front mid below) (put_under mid back above) in
       does es new (Move source target) kept done (rw is rises)
       (λ q.
       ap (λ (l : List Entry). value_in l q) is ∙ put_swap q front mid back front_none
@@ -119,7 +119,7 @@ module _ (source target : Path) where
       let N : Entry → Type 0 = λ e. begins_with target e.path ≡ false in
       all_two (NotBelow target) N Above (λ e h k. (above_is target e.path h (not_begun_apart target e.path k), k)) es low none
 
-  module _ (es new : List Entry) (from to : ℕ) (paths : List Path) (kept : IsKept es) (done : why es (Move source target) ≡ None) (branch : IsBranch es source (from, to))
+  module _ (es new : List Entry) (from to : ℕ) (paths : List Path) (kept : AreTreeEntries es) (done : why es (Move source target) ≡ None) (branch : IsBranch es source (from, to))
       (named : paths ≡ map (λ (e : Entry). target ++ drop (length source) e.path) (slice_range es from to)) where
     names_put : renamed (slice_range es from to) paths ≡ map put (slice_range es from to)
     names_put = ap (renamed (slice_range es from to)) named ∙ renamed_by (λ e. target ++ drop (length source) e.path) (slice_range es from to)
@@ -147,7 +147,7 @@ module _ (source target : Path) where
         let A : Entry → Type 0 = λ e. (path_order source e.path ≡ Less) × (begins_with source e.path ≡ false) in
         all_map A Out (λ e h. h.1) (drop to es) branch.above
 
-    pub before_does : is_lt (path_order target source) ≡ true → IsPutBefore es new from to target paths → Does es new (Move source target)
+    pub before_does : is_lt (path_order target source) ≡ true → IsPutBefore es new from to target paths → MakesChange es new (Move source target)
     before_does less before =
         let low = take from es in
         let mid = slice_range es from to in
@@ -163,7 +163,7 @@ module _ (source target : Path) where
         before.place.below (all_join Above (drop at low) high (above_all_of (drop at low) before.place.above (all_right N (take at low) (drop at low) tail)) later)
         (before.is ∙ ap (λ (l : List Entry). take at low ++ (l ++ (drop at low ++ high))) names_put)
 
-    pub behind_does : is_lt (path_order target source) ≡ false → IsPutBehind es new from to target paths → Does es new (Move source target)
+    pub behind_does : is_lt (path_order target source) ≡ false → IsPutBehind es new from to target paths → MakesChange es new (Move source target)
     behind_does more behind =
         let low = take from es in
         let mid = slice_range es from to in

@@ -13,7 +13,7 @@ use Rattle.tree_fold.specs.declared.entries.Entry.{Entry}
 use Rattle.tree_fold.specs.Paths.{Path, begins_with, is_same}
 use Rattle.tree_fold.specs.Trees.{Tree, value_in, is_there, NamesRise, AreNamesIn}
 use Rattle.tree_fold.specs.TreeStates.{SameTree}
-use Rattle.tree_fold.specs.Orders.{path_order, Rises, IsBranch, sole, next_names}
+use Rattle.tree_fold.specs.Orders.{path_order, PathsRise, IsBranch, sole, next_names}
 use Rattle.tree_fold.proofs.OrderLemmas.{same_names, begins_is, begins_front, same_is, same_self, order_front}
 use Rattle.tree_fold.proofs.EntryLemmas.{Over, rises_left, rises_right}
 use Rattle.tree_fold.proofs.TreeLemmas.{alike, there_same, begins_apart}
@@ -112,7 +112,7 @@ module _ (front : Path) where
         let before : path_order (front ++ name ∷ []) (front ++ m ∷ []) ≡ Less = rw (← whole, ← sole_path y m all.0 e) over.0 in
         rw (next_some count y es m e) (name_less name m (sym (order_front front (name ∷ []) (m ∷ [])) ∙ before), later)
 
-  names_rise : (es : List Entry) → AllByRecursion Begins es → Rises es → NamesRise (next_names count es)
+  names_rise : (es : List Entry) → AllByRecursion Begins es → PathsRise es → NamesRise (next_names count es)
   names_rise [] all r = tt
   names_rise (x ∷ es) all r = by (names_rise es all.1 r.1) (sole (drop count x.path)) refl where
     by : NamesRise (next_names count es) → (o : Option (List ℕ)) → sole (drop count x.path) ≡ o → NamesRise (next_names count (x ∷ es))
@@ -121,12 +121,12 @@ module _ (front : Path) where
 
 -- ---- the answer
 
-pub are_names : (es tree : Tree) (path : Path) (ends : ℕ × ℕ) (names : List (List ℕ)) → Rises es → SameTree es tree → IsBranch es path ends → is_there es path ≡ true
+pub are_names : (es tree : Tree) (path : Path) (ends : ℕ × ℕ) (names : List (List ℕ)) → PathsRise es → SameTree es tree → IsBranch es path ends → is_there es path ≡ true
     → names ≡ next_names (length path) (slice_range es ends.0 ends.1) → AreNamesIn tree path names
 are_names es tree path ends names rises same branch there is =
     let mid = slice_range es ends.0 ends.1 in
     let high = drop ends.1 es in
-    let whole : Rises (take ends.0 es ++ (mid ++ high)) = rw (branch_parts es ends.0 ends.1 branch.from_to) rises in
+    let whole : PathsRise (take ends.0 es ++ (mid ++ high)) = rw (branch_parts es ends.0 ends.1 branch.from_to) rises in
     record {
       there = sym (there_same es tree same path) ∙ there;
       exactly = λ name.

@@ -11,7 +11,7 @@ use Rattle.std.proofs.lemmas.List.Elements.{filter_map-append}
 use Rattle.tree_fold.specs.declared.entries.Entry.{Entry}
 use Rattle.tree_fold.specs.Paths.{Path, begins_with, is_same}
 use Rattle.tree_fold.specs.Trees.{value_in, is_there}
-use Rattle.tree_fold.specs.Orders.{path_order, Rises, IsKept, IsBranch, IsTops, IsNext, sole, next_names}
+use Rattle.tree_fold.specs.Orders.{path_order, PathsRise, AreTreeEntries, IsBranch, IsTops, IsNextTop, sole, next_names}
 use Rattle.tree_fold.proofs.OrderLemmas.{begins_is, begins_front, begins_self, same_is, same_self, same_turned, order_self, begun_not_below, below_not_begun, over_not_below, self_not_below}
 use Rattle.tree_fold.proofs.EntryLemmas.{all_map, all_two, all_left, all_right, item_drop, Over, NotBelow, parted_branch, rises_left, rises_right, whole_rises, Apart, value_here, value_later, value_none, value_skip, value_behind, later_apart, all_taken, all_dropped}
 use Rattle.tree_fold.proofs.TreeLemmas.{there_if, value_if, begins_apart}
@@ -107,14 +107,14 @@ module _ (front : Path) where
 
 -- ---- the next place
 
-pub next_short : (front : Path) (es : List Entry) (at : ℕ) (x : Entry) → at < length es → x ≡ get_or es at x → IsTops front (drop at es) → length x.path ≤ length front → IsNext front es at (at + 1)
+pub next_short : (front : Path) (es : List Entry) (at : ℕ) (x : Entry) → at < length es → x ≡ get_or es at x → IsTops front (drop at es) → length x.path ≤ length front → IsNextTop front es at (at + 1)
 next_short front es at x lt is t short =
     let tops : IsTops front (x ∷ drop (suc at) es) = rw (← item_drop es at x lt is) t in
     let none : at + 1 - (at + 1) ≡ 0 = omega arith in
     record { above = omega arith; within = omega arith; skipped = rw none refl; tops = rw add-one (behind_front front x (drop (suc at) es) tops short) }
 
 pub next_long : (front : Path) (es ds : List Entry) (at c : ℕ) (x : Entry) → at < length es → x ≡ get_or es at x → ds ≡ drop at es → IsTops front (drop at es) → length front < length x.path
-    → c ≤ length ds → IsPartitionPoint (λ (e : Entry). begins_with x.path e.path ≡ true) (λ e. begins_with x.path e.path ≡ false) ds c → IsNext front es at (at + c)
+    → c ≤ length ds → IsPartitionPoint (λ (e : Entry). begins_with x.path e.path ≡ true) (λ e. begins_with x.path e.path ≡ false) ds c → IsNextTop front es at (at + c)
 next_long front es ds at c x lt is same t long le point =
     let B : Entry → Type 0 = λ e. begins_with x.path e.path ≡ true in
     let N : Entry → Type 0 = λ e. begins_with x.path e.path ≡ false in
@@ -127,7 +127,7 @@ next_long front es ds at c x lt is same t long le point =
     by c (drop (length front) x.path) first last size (begins_is front x.path tops.begin.0) tops where
       by : (k : ℕ) (rest : Path) → AllByRecursion (λ (e : Entry). begins_with x.path e.path ≡ true) (take k (x ∷ drop (suc at) es))
           → AllByRecursion (λ (e : Entry). begins_with x.path e.path ≡ false) (drop k (x ∷ drop (suc at) es)) → k ≤ length es - at → x.path ≡ front ++ rest
-          → IsTops front (x ∷ drop (suc at) es) → IsNext front es at (at + k)
+          → IsTops front (x ∷ drop (suc at) es) → IsNextTop front es at (at + k)
       by zero rest first last size is tops = absurd (both_ways (begins_with x.path x.path) last.0 (begins_self x.path))
       by (suc k) [] first last size is tops = absurd (omega (arith, ap length is, length-append front []))
       by (suc k) (n ∷ rest) first last size is tops =
@@ -146,21 +146,21 @@ next_long front es ds at c x lt is same t long le point =
 pub next_at : (front : Path) (es ds : List Entry) (at c : ℕ) (x : Entry) (path : Path) → at < length es → x ≡ get_or es at x → path ≡ x.path → ds ≡ drop at es → IsTops front (drop at es)
     → length front < length path → c ≤ length ds
     → (IsPartitionedBy (λ (e : Entry). begins_with path e.path) ds → IsPartitionPoint (λ (e : Entry). begins_with path e.path ≡ true) (λ e. begins_with path e.path ≡ false) ds c)
-    → IsNext front es at (at + c)
+    → IsNextTop front es at (at + c)
 next_at front es ds at c x path lt is named same t long le point =
     let whole : ds ≡ x ∷ drop (suc at) es = same ∙ item_drop es at x lt is in
     let tops : IsTops front (x ∷ drop (suc at) es) = rw (← item_drop es at x lt is) t in
     let P : Path → Type 0 = λ p. AllByRecursion (NotBelow p) (x ∷ drop (suc at) es) in
     let low : AllByRecursion (NotBelow path) (x ∷ drop (suc at) es) =
     subst P (sym named) (self_not_below x.path, all_map (Over x) (NotBelow x.path) (λ e h. over_not_below x.path e.path h) (drop (suc at) es) tops.rises.0) in
-    let rise : Rises ds = rw whole tops.rises in
+    let rise : PathsRise ds = rw whole tops.rises in
     let not_below : AllByRecursion (NotBelow path) ds = rw whole low in
     let found = point (parted_branch ds path rise not_below) in
     next_long front es ds at c x lt is same t (rw named at long) le (rw named at found)
 
 -- ---- the names so far
 
-pub next_step : (front : Path) (es : List Entry) (at next : ℕ) (x : Entry) → at < length es → x ≡ get_or es at x → IsNext front es at next
+pub next_step : (front : Path) (es : List Entry) (at next : ℕ) (x : Entry) → at < length es → x ≡ get_or es at x → IsNextTop front es at next
     → next_names (length front) (take next es) ≡ next_names (length front) (take at es) ++ filter_map sole (drop (length front) x.path ∷ [])
 next_step front es at next x lt is n =
     let f = λ (e : Entry). sole (drop (length front) e.path) in
@@ -177,7 +177,7 @@ next_step front es at next x lt is n =
 
 -- ---- the branch of a path
 
-pub branch_tops : (es : List Entry) (path : Path) (ends : ℕ × ℕ) → IsKept es → IsBranch es path ends → IsTops path (slice_range es ends.0 ends.1)
+pub branch_tops : (es : List Entry) (path : Path) (ends : ℕ × ℕ) → AreTreeEntries es → IsBranch es path ends → IsTops path (slice_range es ends.0 ends.1)
 branch_tops es path ends kept branch =
     let low = take ends.0 es in
     let mid = slice_range es ends.0 ends.1 in
@@ -185,7 +185,7 @@ branch_tops es path ends kept branch =
     let parts = branch_parts es ends.0 ends.1 branch.from_to in
     let L : Entry → Type 0 = λ e. path_order e.path path ≡ Less in
     let A : Entry → Type 0 = λ e. (path_order path e.path ≡ Less) × (begins_with path e.path ≡ false) in
-    let whole : Rises (low ++ (mid ++ high)) = rw parts kept.rises in
+    let whole : PathsRise (low ++ (mid ++ high)) = rw parts kept.rises in
     let value : (rest : Path) → value_in es (path ++ rest) ≡ value_in mid (path ++ rest) =
     λ rest.
     let q = path ++ rest in

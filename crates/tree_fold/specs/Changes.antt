@@ -22,10 +22,10 @@ IsChange (Remove path) = IsTrue (is_below_root path)
 IsChange (Move source target) = IsTrue (is_below_root source) × IsTrue (is_below_root target)
 
 -- the change may be, and this is its text
-abbrev pub HasText : Change → List ℕ → Type 0
-HasText change text = IsChange change × (change_text change ≡ text)
+abbrev pub IsWrittenAs : Change → List ℕ → Type 0
+IsWrittenAs change text = IsChange change × (change_text change ≡ text)
 
 -- the text is read as the change that has it, or as none where none has it
-abbrev pub IsReading : List ℕ → Option Change → Type 0
-IsReading text (Some change) = HasText change text
-IsReading text None = (change : Change) → HasText change text → ⊥
+abbrev pub IsReadAs : List ℕ → Option Change → Type 0
+IsReadAs text (Some change) = IsWrittenAs change text
+IsReadAs text None = (change : Change) → IsWrittenAs change text → ⊥

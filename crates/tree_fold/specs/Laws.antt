@@ -7,7 +7,7 @@ use Rattle.object_form.specs.Forms.{IsForm, form_text}
 use Rattle.object_form.specs.Readings.{form_of}
 use Rattle.tree_fold.specs.declared.change.Change.{Change}
 use Rattle.tree_fold.specs.Paths.{Path, HasPathText}
-use Rattle.tree_fold.specs.Changes.{IsChange, change_text, HasText, IsReading}
+use Rattle.tree_fold.specs.Changes.{IsChange, change_text, IsWrittenAs, IsReadAs}
 use Rattle.tree_fold.specs.Readings.{path_of, change_of}
 
 -- a text is that of one path: of the one that is computed of it, and of no other
@@ -15,16 +15,16 @@ abbrev pub PathsReadAsOne : Type 0
 PathsReadAsOne = (bytes : List ℕ) (path : Path) → HasPathText path bytes ↔ (path_of bytes ≡ Some path)
 
 -- no two changes have one text
-abbrev pub TextsDiffer : Type 0
-TextsDiffer = (change other : Change) (text : List ℕ) → HasText change text → HasText other text → change ≡ other
+abbrev pub ChangeTextsDiffer : Type 0
+ChangeTextsDiffer = (change other : Change) (text : List ℕ) → IsWrittenAs change text → IsWrittenAs other text → change ≡ other
 
 -- a text is read as one change or none: as the one that is computed of it, and as no other
-abbrev pub ReadsAsOne : Type 0
-ReadsAsOne = (text : List ℕ) (change : Option Change) → IsReading text change ↔ (change_of text ≡ change)
+abbrev pub ReadsAsOneChange : Type 0
+ReadsAsOneChange = (text : List ℕ) (change : Option Change) → IsReadAs text change ↔ (change_of text ≡ change)
 
 -- what is written of a change is read as this change
-abbrev pub ReadsBack : Type 0
-ReadsBack = (change : Change) → IsChange change → change_of (change_text change) ≡ Some change
+abbrev pub ChangesReadBack : Type 0
+ChangesReadBack = (change : Change) → IsChange change → change_of (change_text change) ≡ Some change
 
 -- the text of a change is one that a node may have
 abbrev pub ChangesFit : Type 0

@@ -16,13 +16,13 @@ abbrev pub path_order : Path → Path → Ordering
 path_order a b = slice_cmp (slice_cmp nat_cmp) a b
 
 -- the entries rise strictly in their paths
-abbrev pub Rises : List Entry → Type 0
-Rises [] = Unit {0}
-Rises (entry ∷ entries) = AllByRecursion (λ other. path_order entry.path other.path ≡ Less) entries × Rises entries
+abbrev pub PathsRise : List Entry → Type 0
+PathsRise [] = Unit {0}
+PathsRise (entry ∷ entries) = AllByRecursion (λ other. path_order entry.path other.path ≡ Less) entries × PathsRise entries
 
 -- what the entries of a tree always are
-pub record IsKept (entries : List Entry) : Type 0 where
-  pub rises : Rises entries
+pub record AreTreeEntries (entries : List Entry) : Type 0 where
+  pub rises : PathsRise entries
   -- where a path is there, so is each beginning of it
   pub closed : (path rest : Path) → IsTrue (is_there entries (path ++ rest)) → IsTrue (is_there entries path)
 
@@ -47,8 +47,8 @@ renamed [] (path ∷ paths) = []
 renamed (entry ∷ entries) (path ∷ paths) = record { path = path; value = entry.value } ∷ renamed entries paths
 
 -- the one entries have the values that a change makes of the other ones, and are kept
-pub record Does (old new : List Entry) (change : Change) : Type 0 where
-  pub kept : IsKept new
+pub record MakesChange (old new : List Entry) (change : Change) : Type 0 where
+  pub kept : AreTreeEntries new
   pub values : (path : Path) → value_in new path ≡ value_in (changed old change) path
 
 -- entries that stood from the one place up to the other now have these paths and stand before the others that are not
@@ -78,13 +78,13 @@ next_names count entries = filter_map (λ e. sole (drop count e.path)) entries
 
 -- entries that begin with a front, rising; where one of them has more names, that with the first of these alone is there
 pub record IsTops (front : Path) (entries : List Entry) : Type 0 where
-  pub rises : Rises entries
+  pub rises : PathsRise entries
   pub begin : AllByRecursion (λ e. begins_with front e.path ≡ true) entries
   pub tops : (name : List ℕ) (rest : Path) → IsTrue (is_some (value_in entries (front ++ name ∷ rest)))
       → IsTrue (is_some (value_in entries (front ++ name ∷ [])))
 
 -- between the entry at a place and the next place no entry has just one name behind the front
-pub record IsNext (front : Path) (entries : List Entry) (at next : ℕ) : Type 0 where
+pub record IsNextTop (front : Path) (entries : List Entry) (at next : ℕ) : Type 0 where
   pub above : at < next
   pub within : next ≤ length entries
   pub skipped : next_names (length front) (slice_range entries (at + 1) next) ≡ []

@@ -6,9 +6,11 @@ use Rattle.object_form.specs.Forms.{is_letter_or_digit}
 use Rattle.tree_fold.specs.declared.path.PathFault.{PathFault}
 use Rattle.tree_fold.specs.declared.path.PathFault.TheVariants.{BadPath, NoMemory}
 
+-- the names from the root on; the root has none
 abbrev pub Path : Type 0
 Path = List (List ℕ)
 
+-- the byte between two names
 abbrev pub slash : ℕ
 slash = 47
 

@@ -28,6 +28,7 @@ below_root None = None
 below_root (Some []) = None
 below_root (Some (name ∷ names)) = Some (name ∷ names)
 
+-- the path that bytes say, if they say one below the root
 abbrev pub below_root_of : List ℕ → Option Path
 below_root_of bytes = below_root (path_of bytes)
 
@@ -36,10 +37,12 @@ abbrev pub make_of : Option Path → List ℕ → Option Change
 make_of None value = None
 make_of (Some path) value = if is_word value then Some (Make path value) else None
 
+-- the removal of a path, if there is one
 abbrev pub remove_of : Option Path → Option Change
 remove_of None = None
 remove_of (Some path) = Some (Remove path)
 
+-- the move from one path to another, if both are there
 abbrev pub move_of : Option Path → Option Path → Option Change
 move_of None target = None
 move_of (Some source) None = None

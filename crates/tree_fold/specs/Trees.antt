@@ -84,14 +84,14 @@ abbrev pub tree_after : List ObjectNode → Tree
 tree_after nodes = fold (λ tree node. tree_with tree (change_of node.text)) [] nodes
 
 -- what is told of a change under a stamp that fails for this reason, or is done
-abbrev pub told_by : ℕ → Option TreeWhy → Told
-told_by stamp None = Done stamp
-told_by stamp (Some reason) = Failed stamp reason
+abbrev pub told_under : ℕ → Option TreeWhy → Told
+told_under stamp None = Done stamp
+told_under stamp (Some reason) = Failed stamp reason
 
 -- what is told of one more node under a stamp, if it has a change
-abbrev pub told_of : ℕ → Tree → Option Change → Option Told
-told_of stamp tree None = None
-told_of stamp tree (Some change) = Some (told_by stamp (why tree change))
+abbrev pub told_of_change : ℕ → Tree → Option Change → Option Told
+told_of_change stamp tree None = None
+told_of_change stamp tree (Some change) = Some (told_under stamp (why tree change))
 
 -- the names rise strictly in their bytes
 abbrev pub NamesRise : List (List ℕ) → Type 0

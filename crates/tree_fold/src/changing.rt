@@ -1,7 +1,7 @@
 // Changes that may be done, done on entries.
 ghost use Rattle.std.specs.Prelude.{◌≡◌, ◌≤◌, ◌-◌, length, take, drop, map, slice_range, ◌++◌, IfOk, OnOk, OnErr, None};
 ghost use Rattle.tree_fold.specs.Trees.{why};
-ghost use Rattle.tree_fold.specs.Orders.{Rises, IsKept, IsPlace, IsPutBefore, IsPutBehind, Does};
+ghost use Rattle.tree_fold.specs.Orders.{PathsRise, AreTreeEntries, IsPlace, IsPutBefore, IsPutBehind, MakesChange};
 
 use crate::change::Change;
 use crate::entries::{Entry, branch_of, path_order, place_of};
@@ -11,9 +11,9 @@ use std::alloc::{AllocError, Global};
 
 /// Makes a path.
 pub fn make(entries: &mut Vec<Entry>, path: Names, value: Text) -> Result<(), AllocError>
-    requires kept { IsKept entries.old.items }
+    requires kept { AreTreeEntries entries.old.items }
     requires done { why entries.old.items (Change.Make path value) ≡ None }
-    ensures ok { OnOk result (Does entries.old.items entries.new.items (Change.Make path value)) }
+    ensures ok { OnOk result (MakesChange entries.old.items entries.new.items (Change.Make path value)) }
     ensures err { OnErr result (entries.new.items ≡ entries.old.items) }
 {
     let place = place_of(entries, path.as_slice());
@@ -23,10 +23,10 @@ pub fn make(entries: &mut Vec<Entry>, path: Names, value: Text) -> Result<(), Al
 
 /// Removes a path.
 pub fn remove(entries: &mut Vec<Entry>, path: &[Text])
-    requires kept { IsKept entries.old.items }
+    requires kept { AreTreeEntries entries.old.items }
     requires below { 1 ≤ length path.now }
     requires done { why entries.old.items (Change.Remove path.now) ≡ None }
-    ensures { Does entries.old.items entries.new.items (Change.Remove path.now) }
+    ensures { MakesChange entries.old.items entries.new.items (Change.Remove path.now) }
 {
     let place = place_of(entries, path);
     entries.remove(place);
@@ -34,7 +34,7 @@ pub fn remove(entries: &mut Vec<Entry>, path: &[Text])
 
 // Gives the entries from the one place up to the other new paths, and carries them back to the target's place.
 fn put_before(entries: &mut [Entry], from: usize, to: usize, target: &[Text], paths: Vec<Names>)
-    requires rises { Rises (take from entries.old) }
+    requires rises { PathsRise (take from entries.old) }
     requires from { from ≤ to }
     requires to { to ≤ length entries.old }
     requires paths { length paths.items ≤ to - from }
@@ -47,7 +47,7 @@ fn put_before(entries: &mut [Entry], from: usize, to: usize, target: &[Text], pa
 
 // How many of the entries from a place on are below a path.
 fn place_behind(entries: &[Entry], from: usize, path: &[Text]) -> usize
-    requires rises { Rises (drop from entries.now) }
+    requires rises { PathsRise (drop from entries.now) }
     requires from { from ≤ length entries.now }
     ensures { IsPlace (drop from entries.now) path.now result }
 {
@@ -56,7 +56,7 @@ fn place_behind(entries: &[Entry], from: usize, path: &[Text]) -> usize
 
 // Gives the entries from the one place up to the other new paths, and carries them on to the target's place.
 fn put_behind(entries: &mut [Entry], from: usize, to: usize, target: &[Text], paths: Vec<Names>)
-    requires rises { Rises (drop to entries.old) }
+    requires rises { PathsRise (drop to entries.old) }
     requires from { from ≤ to }
     requires to { to ≤ length entries.old }
     requires paths { length paths.items ≤ to - from }
@@ -91,9 +91,9 @@ pub fn relocate(
     source: &[Text],
     target: &[Text],
 ) -> Result<(), AllocError>
-    requires kept { IsKept entries.old }
+    requires kept { AreTreeEntries entries.old }
     requires done { why entries.old (Change.Move source.now target.now) ≡ None }
-    ensures ok { OnOk result (Does entries.old entries.new (Change.Move source.now target.now)) }
+    ensures ok { OnOk result (MakesChange entries.old entries.new (Change.Move source.now target.now)) }
     ensures err { OnErr result (entries.new ≡ entries.old) }
 {
     let (from, to) = branch_of(entries, source);

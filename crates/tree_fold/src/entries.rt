@@ -4,7 +4,7 @@ ghost use Rattle.std.specs.Prelude.{◌≡◌, ◌<◌, ◌-◌, nat_lt, drop, l
 ghost use Rattle.std.specs.List.{list_any, find, filter_map};
 ghost use Rattle.std.specs.Option.{option_copied};
 ghost use Rattle.tree_fold.specs.Paths.{begins_with, is_same, parent_of};
-ghost use Rattle.tree_fold.specs.Orders.{path_order, Rises, IsPlace, IsBranch, IsTops, IsNext, sole, next_names};
+ghost use Rattle.tree_fold.specs.Orders.{path_order, PathsRise, IsPlace, IsBranch, IsTops, IsNextTop, sole, next_names};
 
 use log_node::{ListOf, Names, Text};
 use std::alloc::{AllocError, Global};
@@ -76,7 +76,7 @@ pub fn rest_of(path: &[Text], count: usize) -> &[Text]
 
 /// How many entries are below a path.
 pub fn place_of(entries: &[Entry], path: &[Text]) -> usize
-    requires { Rises entries.now }
+    requires { PathsRise entries.now }
     ensures { IsPlace entries.now path.now result }
 {
     entries.partition_point(|entry| path_order(entry.path.as_slice(), path).is_lt())
@@ -84,7 +84,7 @@ pub fn place_of(entries: &[Entry], path: &[Text]) -> usize
 
 /// The entry of a path.
 pub fn entry_of<'a>(entries: &'a [Entry], path: &[Text]) -> Option<&'a Entry>
-    requires { Rises entries.now }
+    requires { PathsRise entries.now }
     ensures { option_copied result ≡ find (λ e. is_same path.now e.path) entries.now }
 {
     let place = place_of(entries, path);
@@ -101,7 +101,7 @@ pub fn entry_of<'a>(entries: &'a [Entry], path: &[Text]) -> Option<&'a Entry>
 
 /// Where the entries that begin with a path stand: from the one place up to the other.
 pub fn branch_of(entries: &[Entry], path: &[Text]) -> (usize, usize)
-    requires { Rises entries.now }
+    requires { PathsRise entries.now }
     ensures { IsBranch entries.now path.now result }
 {
     let from = place_of(entries, path);
@@ -136,7 +136,7 @@ fn put_sole(alloc: Global, names: &mut Names, path: &[Text]) -> Result<(), Alloc
 fn next_place(entries: &[Entry], front: &[Text], at: usize) -> usize
     requires within { at < length entries.now }
     requires tops { IsTops front.now (drop at entries.now) }
-    ensures { IsNext front.now entries.now at result }
+    ensures { IsNextTop front.now entries.now at result }
 {
     let path = entries[at].path.as_slice();
     if path.len() <= front.len() {

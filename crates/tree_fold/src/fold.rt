@@ -5,7 +5,7 @@ ghost use Rattle.object_fold.specs.Nodes.{ObjectNode};
 ghost use Rattle.tree_fold.specs.Paths.{Path};
 ghost use Rattle.tree_fold.specs.Changes.{IsChange};
 ghost use Rattle.tree_fold.specs.Readings.{change_of};
-ghost use Rattle.tree_fold.specs.Trees.{value_in, is_there, has_more, is_too_deep, why, changed, tree_with, tree_after, told_by, told_of, IsNamesAnswer};
+ghost use Rattle.tree_fold.specs.Trees.{value_in, is_there, has_more, is_too_deep, why, changed, tree_with, tree_after, told_under, told_of_change, IsNamesAnswer};
 ghost use Rattle.tree_fold.specs.TreeStates.{SameTree, IsTree};
 
 use crate::change::Change;
@@ -31,11 +31,11 @@ impl Model for TreeFold {
 
     ghost Value = { List Seen };
 
-    ghost use Rattle.tree_fold.specs.Orders.{IsKept};
+    ghost use Rattle.tree_fold.specs.Orders.{AreTreeEntries};
 
     ghost view = { λ a. a.entries.items };
 
-    ghost invariant = { λ a. IsKept a.entries.items };
+    ghost invariant = { λ a. AreTreeEntries a.entries.items };
 }
 
 impl TreeFold {
@@ -156,7 +156,7 @@ impl TreeFold {
     // Does a change, or tells why it fails.
     fn take(&mut self, alloc: Global, stamp: u64, change: Change) -> Result<Told, AllocError>
         requires { IsChange change }
-        ensures told { IfOk result (λ told. told ≡ told_by stamp (why self.old change)) }
+        ensures told { IfOk result (λ told. told ≡ told_under stamp (why self.old change)) }
         ensures ok { (tree : List Entry) → SameTree self.old tree
             → OnOk result (SameTree self.new (tree_with tree (Some change))) }
         ensures err { OnErr result (self.new ≡ self.old) }
@@ -174,7 +174,7 @@ impl TreeFold {
     /// error the tree is as before.
     pub fn feed(&mut self, alloc: Global, key: Key, text: &Text) -> Result<Option<Told>, AllocError>
         ensures told { (nodes : List ObjectNode) → IsTree self.old nodes
-            → IfOk result (λ told. told ≡ told_of key.stamp (tree_after nodes) (change_of text.now)) }
+            → IfOk result (λ told. told ≡ told_of_change key.stamp (tree_after nodes) (change_of text.now)) }
         ensures ok { (nodes : List ObjectNode) (node : ObjectNode) → node.text ≡ text.now → IsTree self.old nodes
             → OnOk result (IsTree self.new (nodes ++ node ∷ [])) }
         ensures err { OnErr result (self.new ≡ self.old) }

@@ -1,5 +1,5 @@
 //! Laws of the texts of paths and changes. Each function does nothing, and its contract is the law.
-ghost use Rattle.tree_fold.specs.Laws.{PathsReadAsOne, TextsDiffer, ReadsAsOne, ReadsBack, ChangesFit, ChangesArePlain, FormsAreNoChanges};
+ghost use Rattle.tree_fold.specs.Laws.{PathsReadAsOne, ChangeTextsDiffer, ReadsAsOneChange, ChangesReadBack, ChangesFit, ChangesArePlain, FormsAreNoChanges};
 
 /// Each text is that of one path or of none.
 pub fn paths_read_as_one()
@@ -8,17 +8,17 @@ pub fn paths_read_as_one()
 
 /// No two changes have one text.
 pub fn texts_differ()
-    ensures { TextsDiffer }
+    ensures { ChangeTextsDiffer }
 {}
 
 /// Each text is read as one change or as none.
 pub fn reads_as_one()
-    ensures { ReadsAsOne }
+    ensures { ReadsAsOneChange }
 {}
 
 /// What is written of a change is read as this change.
 pub fn reads_back()
-    ensures { ReadsBack }
+    ensures { ChangesReadBack }
 {}
 
 /// The text of a change is one that a node may have.

@@ -1,6 +1,6 @@
 // The change of a text.
 ghost use Rattle.std.specs.Prelude.{◌≡◌, IfOk};
-ghost use Rattle.tree_fold.specs.Changes.{IsReading};
+ghost use Rattle.tree_fold.specs.Changes.{IsReadAs};
 ghost use Rattle.tree_fold.specs.Readings.{below_root_of, make_of, remove_of, move_of, change_after, change_of};
 
 use crate::change::Change;
@@ -86,7 +86,7 @@ fn change_in(alloc: Global, bytes: &[u8]) -> Result<Option<Change>, AllocError>
 
 /// The change of a node's text: the one that has this text, if one has it. `AllocError` where memory is refused.
 pub fn read_change(alloc: Global, text: &Text) -> Result<Option<Change>, AllocError>
-    ensures reading { IfOk result (λ change. IsReading text.now change) }
+    ensures reading { IfOk result (λ change. IsReadAs text.now change) }
     ensures change { IfOk result (λ change. change ≡ change_of text.now) }
 {
     change_in(alloc, text.as_bytes())

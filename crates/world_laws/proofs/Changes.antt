@@ -107,10 +107,6 @@ chain_stays own region h e q none =
     (λ f. chain_longer own region h e (λ is. apart (region == own) (eq-eqb region own is) f)
     ∙ (ap (λ (l : List Head). chains_after own h region ++ l) none ∙ append-nil (chains_after own h region)))
 
-pub chains_stay : (own : ℕ) (h : List Entry) (e : Entry) → IsQuiet e.event
-    → ((region : ℕ) → carried region e.event ≡ []) → chains_after own (h ++ e ∷ []) ≡ chains_after own h
-chains_stay own h e q none = fun_ext (λ region. chain_stays own region h e q (none region))
-
 -- Bases
 
 base_from-last : (own regions region : ℕ) (before ds : List Dated) (d : Dated)
@@ -147,14 +143,3 @@ base_stays own regions h e none =
     (trimmed_to own regions (dated own h) e.event (cut_after own h) region) (none region))) where
       no_more : (n m : ℕ) → m ≡ 0 → max n m ≡ n
       no_more n m is = omega (arith, is)
-
--- Copies
-
--- what a region holds is the beginning of the origin's chain
-pub holds_beginning : (w : World) → Held w → (origin region colour : ℕ) → AreTwo w origin region colour
-    → chains_after region (w.histories region colour) origin
-    ≡ take (held_of w origin region colour) (chains_after origin (w.histories origin colour) origin)
-holds_beginning w h origin region colour two =
-    let t = h.copies colour origin region two.origin_is two.region_is two.differ in
-    let xs = chains_after region (w.histories region colour) origin in
-    sym (ap (take (length xs)) (sym t.beginning) ∙ take_at xs t.rest (length xs) refl)

@@ -16,8 +16,8 @@ use Rattle.report_text.specs.declared.report.ColumnReport.{ColumnReport}
 use Rattle.col_core.specs.Log.{Log}
 use Rattle.col_core.specs.Keeping.{Kept, nothing_kept}
 use Rattle.lawful_run.specs.Callers.{Caller}
-use Rattle.lawful_run.specs.Asks.{kind_of, colours_of, shards, keys_of}
-use Rattle.lawful_run.specs.Deeds.{saying_of, Says, AsksToAppend}
+use Rattle.lawful_run.specs.Asks.{kind_of_object, colours_of_object, shards, keys_of_pairs}
+use Rattle.lawful_run.specs.Deeds.{saying_of, SaysNode, AsksToAppend}
 use Rattle.lawful_run.specs.Columns.{IsColumnReport}
 use Rattle.lawful_run.specs.Explains.{Explained, Answers, start, next}
 use Rattle.lawful_run.specs.Lawful.{LawfulRun}
@@ -115,7 +115,7 @@ column_at case run k c e = all_at (IsColumnReport run.log case.script) case.repo
 abbrev NamesVersions : Caller → Kept → ℕ → List Pair → Colours → List ℕ → Type 0
 NamesVersions caller kept object pairs colours text =
     (versions : List Version) × (kept.reads object ≡ Some versions)
-    × (members colours ≡ shards (colours_of caller object) (map (λ (v : Version). v.key) versions ++ keys_of pairs))
+    × (members colours ≡ shards (colours_of_object caller object) (map (λ (v : Version). v.key) versions ++ keys_of_pairs pairs))
     × (text ≡ form_text (forms.Transaction versions pairs))
 
 pub versions_named : (caller : Caller) (kept : Kept) (object : ℕ) (pairs : List Pair) (colours : Colours) (text : List ℕ)
@@ -123,7 +123,7 @@ pub versions_named : (caller : Caller) (kept : Kept) (object : ℕ) (pairs : Lis
     → NamesVersions caller kept object pairs colours text
 versions_named caller kept object pairs colours text = by (kept.reads object) refl where
   by : (found : Option (List Version)) → kept.reads object ≡ found
-      → Says (colours_of caller object) (saying_of (kind_of caller object) found (whats.Commit object pairs)) colours text
+      → SaysNode (colours_of_object caller object) (saying_of (kind_of_object caller object) found (whats.Commit object pairs)) colours text
       → NamesVersions caller kept object pairs colours text
   by None is asks = absurd asks
   by (Some versions) is asks = (versions, is, asks.0, asks.1)

@@ -16,6 +16,7 @@ use Rattle.col_core.specs.History.{entries}
 use Rattle.col_core.specs.Rows.{BegunRow}
 use Rattle.col_core.specs.Log.{Log, places_of}
 use Rattle.col_core.specs.Keeping.{Kept, with_made, with_row}
+use Rattle.col_core.specs.Appending.{IsStepWithin}
 use Rattle.script_text.specs.declared.script.Command.{Command}
 use Rattle.report_text.specs.declared.report.Answer.TheVariants as answers
 use Rattle.report_text.specs.declared.report.ReplyLine.{ReplyLine}
@@ -24,7 +25,7 @@ use Rattle.report_text.specs.declared.report.ClientReport.{ClientReport}
 use Rattle.lawful_run.specs.Callers.{Caller}
 use Rattle.lawful_run.specs.Asks.{may_help}
 use Rattle.lawful_run.specs.Deeds.{manner_of}
-use Rattle.lawful_run.specs.Stops.{StopsAfter, Stops, stopped_at_once, stopped_after, IsStepWithin}
+use Rattle.lawful_run.specs.Stops.{StopsAfter, Stops, stopped_at_once, stopped_after}
 use Rattle.lawful_run.specs.Columns.{IsClientIn}
 use Rattle.lawful_run.specs.Lawful.{LawfulRun, HasStopped, HasHelping}
 use Rattle.wrong_reports.specs.Cases.{Case, IsUnlawful, a, b, x, y, id, proposes, on_both}

@@ -16,7 +16,7 @@ use Rattle.col_core.specs.Keeping.{Kept, nothing_kept}
 use Rattle.log_node.specs.declared.node.At.TheVariants.{Event}
 use Rattle.script_text.specs.declared.script.What.TheVariants.{Scan}
 use Rattle.lawful_run.specs.Callers.{caller_of}
-use Rattle.lawful_run.specs.Reads.{RaisesAt, HidesRead, HidesSync, not_played, played}
+use Rattle.lawful_run.specs.Reads.{RaisesClock, HidesRead, HidesSync, not_played, played}
 use Rattle.lawful_run.specs.Refusals.{FindsNoMemory, nothing, gone, gave, hidden}
 use Rattle.lawful_run.specs.Lawful.{LawfulRun}
 use Rattle.wrong_reports.specs.Cases.{IsUnlawful, a, on_x, by, trims, counts}
@@ -51,9 +51,9 @@ module _ (run : LawfulRun a_hidden_raise_to_nothing.script a_hidden_raise_to_not
 
     P : ℕ → Type 0
     P place = Contains {X = ℕ} (0 ∷ []) 0
-        × RaisesAt run.log (caller_of a_hidden_raise_to_nothing.script 0) nothing_kept h.stamp 0 (Event place)
+        × RaisesClock run.log (caller_of a_hidden_raise_to_nothing.script 0) nothing_kept h.stamp 0 (Event place)
 
-    raised : RaisesAt run.log (caller_of a_hidden_raise_to_nothing.script 0) nothing_kept h.stamp 0 (Event 0)
+    raised : RaisesClock run.log (caller_of a_hidden_raise_to_nothing.script 0) nothing_kept h.stamp 0 (Event 0)
     raised = (subst (All P) (sym places) (h.raises 0) 0 0 (lit< tt)).1
 
     five : 5 ≡ h.stamp

@@ -29,8 +29,8 @@ use Rattle.script_text.specs.declared.script.Kind.TheVariants as kinds
 use Rattle.script_text.specs.declared.script.What.TheVariants as whats
 use Rattle.lawful_run.specs.Callers.{Caller, caller_of, node_of}
 use Rattle.col_core.specs.Ids.{IsStepOf}
-use Rattle.lawful_run.specs.Asks.{kind_of}
-use Rattle.lawful_run.specs.Reads.{HidesRead, ShowsKey, Syncs, RaisesAt, kept_after_place, Raises, ClearSyncs}
+use Rattle.lawful_run.specs.Asks.{kind_of_object}
+use Rattle.lawful_run.specs.Reads.{HidesRead, ShowsKey, Syncs, RaisesClock, kept_after_place, Raises, ClearSyncs}
 use Rattle.lawful_run.specs.Refusals.{FindsNoMemory, nothing, gone, gave, hidden}
 use Rattle.wrong_reports.specs.Cases.{IsUnlawful, a, b, e, x, id, by, counts, enters}
 use Rattle.wrong_reports.specs.Rows.{proposed}
@@ -176,7 +176,7 @@ more_seen kept own colour n c le =
     (λ t. subst (λ d. kept.seen own d ≤ n) (sym (eqb-true c colour t)) le) (λ _. omega arith)) (λ _. omega arith)
 
 raise_leaves : (log : Log) (caller : Caller) (stamp : ℕ) (kept : Kept) (colour : ℕ) (at : At)
-    → RaisesAt log caller kept stamp colour at
+    → RaisesClock log caller kept stamp colour at
     → RaisesLeave caller.own kept (kept_after_place kept caller.own colour at)
 raise_leaves log caller stamp kept colour (Event place) r = record {
   floor = refl;
@@ -320,7 +320,7 @@ causal_elsewhere run =
     let said = (only run.log _ _ _ _ (run.clients 0 _ refl).explained).explained in
     let o = same_object _ _ _ _ said.3 in
     let f : Some (kinds.Causal 0) ≡ Some (kinds.Causal 1) =
-    ap (λ o. kind_of (caller_of a_causal_get_of_another_colour.script 0) o) o ∙ said.4 in
+    ap (λ o. kind_of_object (caller_of a_causal_get_of_another_colour.script 0) o) o ∙ said.4 in
     cc (f)
 
 pub dequeue_elsewhere : IsUnlawful a_dequeue_of_another_colour
@@ -351,7 +351,7 @@ another_text run =
     let caller = caller_of a_value_of_another_text.script 0 in
     let object : 0 ≡ s.1 = same_object _ _ _ _ s.3 in
     let asked : codes "k" ≡ s.2 = asked_key _ _ _ _ s.3 in
-    let colours : 0 ∷ [] ≡ s.5 = colours_are _ _ _ _ (ap (λ o. kind_of caller o) object ∙ s.6) in
+    let colours : 0 ∷ [] ≡ s.5 = colours_are _ _ _ _ (ap (λ o. kind_of_object caller o) object ∙ s.6) in
     let g = s.9 in
     let keys : take 1 (line (take 1 (run.log.histories 0 0))) ≡ the_key ∷ [] =
     ap (λ (es : List Entry). take 1 (line (take 1 es))) (sym h) in

@@ -43,7 +43,7 @@ greater_colour run =
     let some = subst (λ (cs : Colours). 0 < length (members cs)) (sym said.2.0) (lit< tt) in
     let first : slice_index_or (members said.0) 0 0 ≡ 0 = ap (λ (cs : Colours). slice_index_or (members cs) 0 0)
     said.2.0 in
-    let m = gone.least 0 0 some (subst (λ n. n < 1) (sym first) (lit< tt)) in
+    let m = gone.ends.least 0 0 some (subst (λ n. n < 1) (sym first) (lit< tt)) in
     let one = one_row 0 (run.log.rows 0) _ run.begun.all in
     let row = m.3 in
     let r = only_row _ row.0 (subst (λ (rows : List BegunRow). Contains rows row.0) one.rows_are row.1.begun) in

@@ -21,7 +21,7 @@ use Rattle.col_core.specs.Keeping.{Kept, nothing_kept}
 use Rattle.script_text.specs.declared.script.What.TheVariants.{Append}
 use Rattle.lawful_run.specs.Callers.{caller_of, node_of}
 use Rattle.col_core.specs.Ids.{IsStepOf}
-use Rattle.lawful_run.specs.Stops.{IsStepWithin}
+use Rattle.col_core.specs.Appending.{IsStepWithin}
 use Rattle.lawful_run.specs.Refusals.{FindsNoMemory, nothing, gone, gave, hidden}
 use Rattle.lawful_run.specs.Lawful.{LawfulRun}
 use Rattle.wrong_reports.specs.Cases.{IsUnlawful, a, b, e, x, id, by, counts, proposes, trims, on_both}

@@ -14,7 +14,7 @@ use Rattle.report_text.specs.declared.report.RaisePiece.{RaisePiece}
 use Rattle.report_text.specs.declared.report.SyncPiece.{SyncPiece}
 use Rattle.script_text.specs.declared.script.What.TheVariants.{Scan}
 use Rattle.lawful_run.specs.Callers.{Caller}
-use Rattle.lawful_run.specs.Reads.{ReadsAt, AreRead, ShowsKey}
+use Rattle.lawful_run.specs.Reads.{ReadsAt, AreKeysRead, ShowsKey}
 use Rattle.lawful_run.specs.Explains.{Answers}
 use Rattle.log_node.specs.Seen.{PlacedNode}
 use Rattle.wrong_reports.specs.Cases.{IsUnlawful, a, b, e, x, id, key, asks}
@@ -33,7 +33,7 @@ pub record Scans (log : Log) (caller : Caller) (kept : Kept) (colours : Colours)
     (syncs : List SyncPiece) (nodes : List PlacedNode) (after : Kept) : Type 0 where
   pub reads : ReadsAt log caller kept (members colours) stamp raises syncs after
   pub keys : List Key
-  pub are_read : AreRead log caller stamp syncs keys
+  pub are_read : AreKeysRead log caller stamp syncs keys
   pub lines : AllZip (ShowsKey log) keys nodes
 
 same_colours : (one other : Colours) → Scan one ≡ Scan other → one ≡ other

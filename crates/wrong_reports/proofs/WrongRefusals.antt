@@ -21,7 +21,7 @@ use Rattle.script_text.specs.declared.script.Object.{Object}
 use Rattle.script_text.specs.declared.script.What.TheVariants as whats
 use Rattle.lawful_run.specs.Callers.{Caller, caller_of, node_of}
 use Rattle.lawful_run.specs.Appends.{IsSettledIn}
-use Rattle.lawful_run.specs.Reads.{RaisesAt, HidesRead, HidesSync, HidesSyncs, not_played, played}
+use Rattle.lawful_run.specs.Reads.{RaisesClock, HidesRead, HidesSync, HidesSyncs, not_played, played}
 use Rattle.lawful_run.specs.Moves.{GivesHeld, GivesTooLow, OnlyGives, kept_after_giving}
 use Rattle.lawful_run.specs.Refusals.{FindsNoMemory, nothing, gone, gave, hidden}
 use Rattle.lawful_run.specs.Lawful.{LawfulRun}
@@ -66,7 +66,7 @@ syncs_leave log caller kept after (c ∷ cs) (snapshot, stamp, s, rest) =
 record HiddenRaise (log : Log) (kept after : Kept) (colours : Colours) (colour : ℕ) : Type 0 where
   pub reads : HidesRead log (in_e []) kept (members colours) after
   pub there : Contains (members colours) colour
-  pub raises : RaisesAt log (in_e []) kept reads.stamp colour (Event 0)
+  pub raises : RaisesClock log (in_e []) kept reads.stamp colour (Event 0)
 
 raised_first : (log : Log) (kept after : Kept) (colours : Colours) (colour : ℕ) → kept.made 0 colour ≡ []
     → 0 ∷ [] ≡ after.made 0 colour → FindsNoMemory log (in_e []) kept (whats.Scan colours) after
@@ -87,7 +87,7 @@ raised_first log kept after colours colour none made (hidden other hides) = by o
       ap (λ (m : ℕ → ℕ → List ℕ). m 0 colour) (syncs_leave log _ kept _ _ h.syncing).made ∙ none in
       let places : 0 ∷ [] ≡ h.places colour = made ∙ sym is ∙ ap (λ ps. ps ++ h.places colour) synced in
       let P : ℕ → Type 0 = λ place. Contains (members colours) colour
-      × RaisesAt log (in_e []) kept h.stamp colour (Event place) in
+      × RaisesClock log (in_e []) kept h.stamp colour (Event place) in
       let first = subst (All P) (sym places) (h.raises colour) 0 0 (lit< tt) in
       record { reads = h; there = first.0; raises = first.1 }
 

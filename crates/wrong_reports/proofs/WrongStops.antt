@@ -59,7 +59,7 @@ pub open_in_x : (log : Log) (caller : Caller) (node : Node) (of_y : Mark) (last 
     → node.region ≡ 0 → node.id ≡ id 0 0 → (proposed x).journal ≡ log.histories 0 0
     → OneRow (log.rows 0) (row e a 0 (id a 0) (marks.Number 1) of_y last)
     → IsSettledIn log caller node 0 → ⊥
-open_in_x log caller node of_y last own region is h one s = elim s.for_good [
+open_in_x log caller node of_y last own region is h one s = elim s.2.for_good [
   | inl fenced ↦
       let m = fenced.1 in
       let begun = subst (λ n. Contains (log.rows n) m.0) region m.1.begun in
@@ -70,11 +70,11 @@ open_in_x log caller node of_y last own region is h one s = elim s.for_good [
             marks.Fenced fenced.0;
       })) (sym r) m.2)
   | inr entered ↦
-      by s.events (subst (λ (es : List Entry). s.events ≤ length es) (sym same) s.there)
-      (subst (λ i. open_entry i (entries (take s.events (proposed x).journal)) ≡ None) is
-      (subst (λ (es : List Entry). open_entry node.id (entries (take s.events es)) ≡ None) (sym same) s.not_open))
-      (subst (λ i. IsTrue (has_entered i (take s.events (proposed x).journal))) is
-      (subst (λ (es : List Entry). IsTrue (has_entered node.id (take s.events es))) (sym same) entered))
+      by s.0 (subst (λ (es : List Entry). s.0 ≤ length es) (sym same) s.1)
+      (subst (λ i. open_entry i (entries (take s.0 (proposed x).journal)) ≡ None) is
+      (subst (λ (es : List Entry). open_entry node.id (entries (take s.0 es)) ≡ None) (sym same) s.2.not_open))
+      (subst (λ i. IsTrue (has_entered i (take s.0 (proposed x).journal))) is
+      (subst (λ (es : List Entry). IsTrue (has_entered node.id (take s.0 es))) (sym same) entered))
 ] where
   same : (proposed x).journal ≡ log.histories caller.own 0
   same = h ∙ ap (λ n. log.histories n 0) (sym own)
@@ -93,7 +93,8 @@ not_settled run =
     let first : slice_get (members said.1) 0 ≡ Some 0 = ap (λ (c : Colours). slice_get (members c) 0) c in
     let within = subst (λ (cs : Colours). 0 + length (members cs) + 2 < 5) (sym c) (lit< tt) in
     let h = (column_at a_stop_before_its_settling run 0 (proposed x) refl).history in
-    open_in_x run.log _ _ _ _ refl refl refl h (one_row 0 (run.log.rows 0) _ run.begun.all)
+    open_in_x run.log (caller_of a_stop_before_its_settling.script 0) _ _ _ refl refl refl h
+    (one_row 0 (run.log.rows 0) _ run.begun.all)
     (stopped.says.settled 0 0 first within)
 
 -- NO MEMORY: what may have been done, where the node is open in x

@@ -12,12 +12,13 @@ use Rattle.object_fold.specs.Transactions.{values_after, versions_after}
 use Rattle.col_core.specs.declared.Entry.{Entry}
 use Rattle.col_core.specs.Log.{Log}
 use Rattle.col_core.specs.History.{line}
+use Rattle.col_core.specs.Appending.{StandsUnder}
 use Rattle.col_core.specs.Keeping.{Kept, nothing_kept, with_read}
 use Rattle.script_text.specs.declared.script.What.TheVariants as whats
 use Rattle.lawful_run.specs.Callers.{Caller, caller_of}
-use Rattle.lawful_run.specs.Asks.{colours_of, shards}
+use Rattle.lawful_run.specs.Asks.{colours_of_object, shards}
 use Rattle.lawful_run.specs.Objects.{AreObjectNodes}
-use Rattle.lawful_run.specs.Appends.{AppendsUnshown, one_unshown, several_unshown, StandsUnder}
+use Rattle.lawful_run.specs.Appends.{AppendsUnshown, one_unshown, several_unshown}
 use Rattle.wrong_reports.specs.Cases.{IsUnlawful, a, id, counts, enters}
 use Rattle.wrong_reports.specs.Naming.{one_node}
 use Rattle.wrong_reports.specs.Objects.{one_pair, many_values_of_nothing, a_read_of_nothing, unread_where_nothing_is_trimmed}
@@ -44,8 +45,8 @@ many_values run =
       | inl f ↦
           let asked = same_asked _ _ _ _ f.2 in
           let v : Some (codes "v") ∷ [] ≡ None ∷ [] = f.3.values_are
-          ∙ ap (λ ns. values_among (colours_of (caller_of many_values_of_nothing.script 0) f.0) ns f.1) nodes
-          ∙ ap (λ ks. values_among (colours_of (caller_of many_values_of_nothing.script 0) f.0) [] ks) (sym asked) in
+          ∙ ap (λ ns. values_among (colours_of_object (caller_of many_values_of_nothing.script 0) f.0) ns f.1) nodes
+          ∙ ap (λ ks. values_among (colours_of_object (caller_of many_values_of_nothing.script 0) f.0) [] ks) (sym asked) in
           cc (v)
       | inr f ↦ let w = f.2 in cc (w)
     ]
@@ -121,7 +122,7 @@ stands_nowhere log caller kept node stamp after h of_both (one_unshown colour pl
     let l : colour ∷ [] ≡ 0 ∷ 1 ∷ [] = sym is ∙ of_both in
     cc (l)
 stands_nowhere log caller kept node stamp after h of_both (several_unshown places begins outcome stand above) =
-    let P : ℕ → Type 0 = λ colour. (position : ℕ) × StandsUnder log caller node stamp colour position in
+    let P : ℕ → Type 0 = λ colour. (position : ℕ) × StandsUnder (log.histories caller.own colour) node stamp position in
     let s = subst (All P) of_both stand 0 0 (lit< tt) in
     none_there _ (ap (λ (es : List Entry). slice_get (line es) s.0) h ∙ s.1)
 

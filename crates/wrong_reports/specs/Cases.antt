@@ -37,34 +37,43 @@ IsUnlawful case = LawfulRun case.script case.report → ⊥
 abbrev pub a : ℕ
 a = 0
 
+-- the client b
 abbrev pub b : ℕ
 b = 1
 
+-- the region e
 abbrev pub e : ℕ
 e = 0
 
+-- the region w
 abbrev pub w : ℕ
 w = 1
 
+-- the colour x
 abbrev pub x : ℕ
 x = 0
 
+-- the colour y
 abbrev pub y : ℕ
 y = 1
 
--- the set of x, that of y, and that of both
+-- the colour x alone
 abbrev pub on_x : Colours
 on_x = record { 0 = 1 }
 
+-- the colour y alone
 abbrev pub on_y : Colours
 on_y = record { 0 = 2 }
 
+-- both colours
 abbrev pub on_both : Colours
 on_both = record { 0 = 3 }
 
+-- the id of a client's node
 abbrev pub id : ℕ → ℕ → Id
 id client count = record { client = client; count = count }
 
+-- the key of an id under a stamp
 abbrev pub key : ℕ → Id → Key
 key stamp id = record { stamp = stamp; id = id }
 
@@ -103,9 +112,11 @@ asks line client what = record { line = line; client = client; what = what }
 abbrev pub replies : ℕ → Word → Answer → ReplyLine
 replies line word answer = record { line = line; word = word; answer = answer; nodes = [] }
 
+-- replies to the client a, who is alone
 abbrev pub to_a : List ReplyLine → List ClientReport
 to_a lines = record { name = codes "a"; replies = lines } ∷ []
 
+-- replies to the clients a and b
 abbrev pub to_both : List ReplyLine → List ReplyLine → List ClientReport
 to_both of_a of_b = record { name = codes "a"; replies = of_a } ∷ record { name = codes "b"; replies = of_b } ∷ []
 
@@ -125,9 +136,11 @@ by client event stamp = record { by = client; event = event; stamp = stamp }
 abbrev pub enters : ℕ → Id → ℕ → ℕ → Entry
 enters client id floor stamp = by client (made.Single id floor (counts 0 0)) stamp
 
+-- the client proposes a node of several colours over the floor, with no wants
 abbrev pub proposes : ℕ → Id → ℕ → ℕ → Entry
 proposes client id floor stamp = by client (made.Propose id floor (counts 0 0)) stamp
 
+-- the client trims below these counts
 abbrev pub trims : ℕ → Counts → Entry
 trims client below = by client (made.Trim below) 0
 
@@ -150,5 +163,6 @@ column region colour journal clock line queue cut base = record {
 abbrev pub empty : ℕ → ℕ → ColumnReport
 empty region colour = column region colour [] 0 [] [] (counts 0 0) (counts 0 0)
 
+-- a report of clients, rows and columns
 abbrev pub shows : List ClientReport → List RowReport → List ColumnReport → Report
 shows clients rows columns = record { clients = clients; rows = rows; columns = columns }

@@ -18,6 +18,7 @@ one_append = alone (asks 6 a (Append on_x (codes "s")) ∷ [])
 abbrev pub stood : ReplyLine
 stood = replies 6 words.Append (answers.Stood 1 None (point x 0 0 ∷ []))
 
+-- an append that stood, and these columns
 abbrev pub shows_columns : List ColumnReport → Case
 shows_columns columns = record { script = one_append; report = shows (to_a (stood ∷ [])) [] columns }
 

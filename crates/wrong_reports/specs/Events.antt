@@ -102,9 +102,11 @@ carries reply given carried cut = record {
       (record one_node { journal = single ∷ given } ∷ column w x carried 0 [] [] cut (counts 0 0) ∷ []);
 }
 
+-- a pull that carried one node
 abbrev pub pulled_one : ReplyLine
 pulled_one = replies 9 words.Pull (answers.Pulled 1 (Event 1) (Event 0))
 
+-- a carry of one node by the client b
 abbrev pub carry : ℕ → ℕ → Id → Counts → Entry
 carry region start id needs = by b (Carry region start (record { key = key 1 id; needs = needs } ∷ [])) 0
 

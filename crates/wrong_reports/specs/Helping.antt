@@ -23,6 +23,7 @@ abbrev pub phantom_in : ℕ → ℕ → ColumnReport
 phantom_in client colour = column w colour (proposes b (id client 0) 0 1 ∷ settles b (id client 0) 1 ∷ []) 1
     (key 1 (id client 0) ∷ []) [] (counts 0 1) (counts 0 0)
 
+-- a row of a client that asked for no append
 abbrev pub phantom : ℕ → Case
 phantom client = record {
   script = script 2 2 (e ∷ w ∷ []) [] (asks 7 b (Append on_x (codes "s")) ∷ []);

@@ -34,6 +34,7 @@ one_of client colour = column e colour (enters client (id client 0) 0 1 ∷ []) 
 abbrev pub raised : ℕ → ColumnReport
 raised colour = column e colour (by a (Raise 1) 0 ∷ []) 1 [] [] (counts 0 0) (counts 0 0)
 
+-- the colours y and z
 abbrev pub on_yz : Colours
 on_yz = record { 0 = 6 }
 

@@ -53,12 +53,15 @@ pulls lines more given carried cut = record {
       (record one_node { journal = single ∷ given } ∷ record (empty w x) { journal = carried; cut = cut } ∷ []);
 }
 
+-- a pull of so many nodes, by a give and a carry
 abbrev pub pulled : ℕ → ℕ → ℕ → At → ReplyLine
 pulled line nodes place carry = replies line words.Pull (answers.Pulled nodes (Event place) carry)
 
+-- the client b gives from a number on
 abbrev pub given_from : ℕ → Entry
 given_from from = by b (Give w from) 0
 
+-- the client b carries the first node of a
 abbrev pub carried_one : Entry
 carried_one = by b (Carry e 0 (record { key = key 1 (id a 0); needs = counts 0 0 } ∷ [])) 0
 

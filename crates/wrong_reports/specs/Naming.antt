@@ -20,12 +20,15 @@ trim = trims a (counts 0 0)
 abbrev pub trimmed : List Entry → ColumnReport
 trimmed journal = column e x journal 0 [] [] (counts 0 0) (counts 0 0)
 
+-- a trim at a place
 abbrev pub trimmed_at : ℕ → ℕ → ReplyLine
 trimmed_at line place = replies line words.Trim (answers.Based (Event place) (counts 0 0))
 
+-- a sync that saw so many events and plays nothing
 abbrev pub synced_at : ℕ → ℕ → ReplyLine
 synced_at line events = replies line words.Sync (answers.Synced (look x events (counts 0 0)) 0)
 
+-- the client a alone, with its commands, its replies and one column
 abbrev pub case : List Command → List ReplyLine → ColumnReport → Case
 case commands lines column = record { script = alone commands; report = shows (to_a lines) [] (column ∷ []) }
 
@@ -84,6 +87,7 @@ an_event_that_is_not_there = case (asks 6 a (Trim x) ∷ []) (trimmed_at 6 0 ∷
 abbrev pub append : ℕ → Command
 append line = asks line a (Append on_x (codes "s"))
 
+-- an append to x that stands
 abbrev pub stood_at : ℕ → ℕ → ℕ → ℕ → ReplyLine
 stood_at line stamp place position =
     replies line words.Append (answers.Stood stamp None (point x place position ∷ []))

@@ -19,18 +19,22 @@ use Rattle.wrong_reports.specs.Naming.{one_node}
 use Rattle.wrong_reports.specs.Rows.{row, proposed}
 use Rattle.wrong_reports.specs.Reads.{raise}
 
+-- the client a alone, over one object
 abbrev pub over : Kind → List Command → List ReplyLine → ColumnReport → Case
 over kind commands lines column = record {
   script = script 1 1 (e ∷ []) (record { name = codes "o"; kind = kind } ∷ []) commands;
   report = shows (to_a lines) [] (column ∷ []);
 }
 
+-- a map on x
 abbrev pub map : Kind
 map = kinds.Map e (x ∷ [])
 
+-- a transactional map on x
 abbrev pub tx : Kind
 tx = kinds.Tx e (x ∷ [])
 
+-- a queue on x
 abbrev pub queue : Kind
 queue = kinds.Queue e x
 
@@ -97,9 +101,11 @@ a_dequeue_of_nothing =
     over queue (asks 7 a (whats.Deq 0) ∷ [])
     (replies 7 words.Deq (answers.Took (Some (codes "v")) (point x 0 0) (look x 1 (counts 1 0))) ∷ []) one_node
 
+-- the pair of k and v
 abbrev pub one_pair : List Pair
 one_pair = record { key = codes "k"; value = codes "v" } ∷ []
 
+-- a read of k that finds nothing
 abbrev pub read_at : ℕ → ReplyLine
 read_at line = replies line words.Read (answers.GotKeys 0 (record { key = codes "k"; value = None }
     ∷ []) (raise x (Look 0) ∷ [])
@@ -129,6 +135,7 @@ a_commit_that_keeps_its_read =
     (read_at 7 ∷ replies 8 words.Commit answers.NoMemory ∷ replies 9 words.Commit (answers.UnreadNoMemory 1)
     ∷ []) (empty e x)
 
+-- a commit that is told of a conflict on k
 abbrev pub conflicts : ReplyLine
 conflicts = replies 8 words.Commit (answers.Ruled (Some (codes "k")) 0 None (point x 0 0 ∷ []) 1
     (raise x (Look 1) ∷ []) (look x 1 (counts 1 0) ∷ []))

@@ -20,6 +20,7 @@ use Rattle.wrong_reports.specs.Naming.{case, append, stood_at, one_node, trimmed
 use Rattle.wrong_reports.specs.Shown.{shown, two_entries, two_plays}
 use Rattle.wrong_reports.specs.Rows.{row, stood, complete}
 
+-- a raise as it is shown
 abbrev pub raise : ℕ → At → RaisePiece
 raise colour at = record { colour = colour; at = at }
 
@@ -28,6 +29,7 @@ abbrev pub scanned : ℕ → ℕ → List RaisePiece → List SyncPiece → ℕ 
 scanned line stamp raises syncs count nodes =
     record { line = line; word = words.Scan; answer = answers.Scanned stamp count raises syncs; nodes = nodes }
 
+-- a scan of x by the client a
 abbrev pub scan : ℕ → Command
 scan line = asks line a (Scan on_x)
 
@@ -88,6 +90,7 @@ a_raise_before_its_clients_nodes = record {
       (row e a 0 (id a 0) (marks.Number 1) (marks.Number 1) (Final 1) ∷ []) (complete x ∷ complete y ∷ []);
 }
 
+-- a column in which a node of b is open
 abbrev pub opened : ColumnReport
 opened = column e x (proposes b (id b 0) 0 1 ∷ []) 1 [] (record { key = key 1 (id b 0); settled = false }
     ∷ []) (counts 0 0) (counts 0 0)

@@ -16,6 +16,7 @@ one_sync = alone (asks 6 a (Sync x) ∷ [])
 abbrev pub of_one_sync : List ClientReport → Case
 of_one_sync clients = record { script = one_sync; report = shows clients [] (empty e x ∷ []) }
 
+-- a sync that is answered so
 abbrev pub answered : Answer → Case
 answered answer = of_one_sync (to_a (replies 6 words.Sync answer ∷ []))
 

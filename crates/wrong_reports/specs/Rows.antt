@@ -28,6 +28,7 @@ row region client number node of_x of_y last = record {
   last = last;
 }
 
+-- the client settles a node as final under a stamp
 abbrev pub settles : ℕ → Id → ℕ → Entry
 settles client node stamp = by client (Settle node (Final stamp)) 0
 

@@ -14,6 +14,7 @@ use Rattle.wrong_reports.specs.Cases.{Case, a, e, x, y, id, key, counts, on_x, o
 use Rattle.wrong_reports.specs.Cases.{to_both, look, column, empty, enters, proposes, point, shows}
 use Rattle.wrong_reports.specs.Rows.{row, settles, complete, proposed, one_append, stood, has_rows}
 
+-- an append to both colours that is answered so, with the outcome of its row and these columns
 abbrev pub answered : Answer → Outcome → List ColumnReport → Case
 answered answer last columns = record {
   script = one_append;

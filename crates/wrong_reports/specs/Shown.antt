@@ -12,6 +12,7 @@ use Rattle.wrong_reports.specs.Cases.{Case, a, b, e, w, x, id, key, counts, on_x
 use Rattle.wrong_reports.specs.Cases.{look, column, by, enters, shows}
 use Rattle.wrong_reports.specs.Naming.{case, append, stood_at, one_node}
 
+-- the first node of a, with this text, under a stamp
 abbrev pub shown : ℕ → List ℕ → PlacedNode
 shown stamp text = record {
   head = record { key = key stamp (id a 0); needs = counts 0 0 };
@@ -26,9 +27,11 @@ shown stamp text = record {
   };
 }
 
+-- the two nodes of a
 abbrev pub two_entries : List Entry
 two_entries = enters a (id a 0) 0 1 ∷ enters a (id a 1) 1 2 ∷ []
 
+-- an append, and a sync that tells of so many plays and shows these nodes
 abbrev pub plays_nodes : List PlacedNode → ℕ → Case
 plays_nodes nodes count = case (append 6 ∷ asks 7 a (Sync x) ∷ [])
     (stood_at 6 1 0 0
@@ -67,6 +70,7 @@ a_node_that_is_not_shown = plays_nodes [] 0
 abbrev pub a_node_under_another_stamp : Case
 a_node_under_another_stamp = plays_nodes (shown 2 (codes "s") ∷ []) 1
 
+-- a sync that plays both nodes
 abbrev pub two_plays : ReplyLine
 two_plays = record {
   line = 8;
@@ -100,6 +104,7 @@ nodes_in_another_order = case (append 6 ∷ append 7 ∷ asks 8 a (Sync x) ∷ [
 abbrev pub a_node_shown_twice : Case
 a_node_shown_twice = plays_nodes (shown 1 (codes "s") ∷ shown 1 (codes "s") ∷ []) 2
 
+-- a sync that plays one node
 abbrev pub one_play : ReplyLine
 one_play = record {
   line = 7;
@@ -135,6 +140,7 @@ abbrev pub pulled_and_entered : List Entry
 pulled_and_entered = by b (Carry e 0 (record { key = key 1 (id a 0); needs = counts 0 0 } ∷ [])) 0
     ∷ enters b (id b 0) 0 1 ∷ []
 
+-- the node of b before that of a
 abbrev pub later_first : List PlacedNode
 later_first = record (shown 1 (codes "t")) { head = record { key = key 1 (id b 0); needs = counts 0 0 } }
     ∷ shown 1 (codes "s") ∷ []

@@ -4,7 +4,7 @@ ghost use Rattle.script_text.specs.declared.script.Object.{Object};
 ghost use Rattle.script_text.specs.Fitting.{IsWithin};
 ghost use Rattle.log_client.specs.Clients.{Finished, IsClient};
 ghost use Rattle.run_script.specs.Opened.{kind_opened, object_asked, AreKept, AreOf, IsOfOne};
-ghost use Rattle.run_script.specs.Serving.{Gives, GivesAll, IsAnswered};
+ghost use Rattle.run_script.specs.Serving.{ServesLog, GivesAll, IsAnswered};
 ghost use Rattle.run_script.specs.Served.{IsServable};
 
 use crate::serving::appends::{append, stop};
@@ -33,7 +33,7 @@ fn log_answer<R: Wait, G: Gate>(
     requires client { IsClient store.now client.old }
     requires of_none { object_asked what ≡ None }
     requires within { IsWithin (length store.now.regions) store.now.size.colours what }
-    ensures { Gives store.now client.old client.new what result.0 result.1 }
+    ensures { ServesLog store.now client.old client.new what result.0 result.1 }
 {
     match what {
         What::Append { colours, text } => {
@@ -58,15 +58,7 @@ fn log_answer<R: Wait, G: Gate>(
             let answer = trim(rt, store, client, colour);
             (answer, ListOf::new(alloc))
         }
-        What::Put { .. }
-        | What::Get { .. }
-        | What::Del { .. }
-        | What::PutAll { .. }
-        | What::GetAll { .. }
-        | What::Read { .. }
-        | What::Commit { .. }
-        | What::Enq { .. }
-        | What::Deq { .. } => unreachable!(),
+        _ => unreachable!(),
     }
 }
 

@@ -3,7 +3,7 @@ ghost use Rattle.std.specs.Prelude.{◌≡◌, ◌≤◌, [], length, map, vec_c
 ghost use Rattle.log_node.specs.Sets.{members};
 ghost use Rattle.log_client.specs.Clients.{IsClient};
 ghost use Rattle.log_client.specs.Appends.{AreColoursOf, IsStopWithin, piece_of};
-ghost use Rattle.run_script.specs.Serving.{Gives};
+ghost use Rattle.run_script.specs.Serving.{ServesLog};
 
 use append_core::{MultiFault, Point};
 use fuzzy_io::Gate;
@@ -54,7 +54,7 @@ fn append_with<R: Wait, G: Gate>(
     requires colours { AreColoursOf store.now colours }
     requires empty { pieces.items ≡ [] }
     requires room { length (members colours) ≤ vec_capacity pieces }
-    ensures { Gives store.now client.old client.new (What.Append colours text) result [] }
+    ensures { ServesLog store.now client.old client.new (What.Append colours text) result [] }
 {
     match client.append(rt, alloc, store, gate, colours, text, None) {
         Ok(appended) => Answer::Stood {
@@ -81,7 +81,7 @@ pub fn append<R: Wait, G: Gate>(
 ) -> Answer
     requires client { IsClient store.now client.old }
     requires colours { AreColoursOf store.now colours }
-    ensures { Gives store.now client.old client.new (What.Append colours text) result [] }
+    ensures { ServesLog store.now client.old client.new (What.Append colours text) result [] }
 {
     let _bits = colours.0;
     match Vec::with_capacity(alloc, colours.count()) {
@@ -104,7 +104,7 @@ pub fn stop<R: Wait, G: Gate>(
     requires client { IsClient store.now client.old }
     requires colours { AreColoursOf store.now colours }
     requires steps { IsStopWithin colours steps }
-    ensures { Gives store.now client.old client.new (What.Stop steps colours text) result [] }
+    ensures { ServesLog store.now client.old client.new (What.Stop steps colours text) result [] }
 {
     match client.append(rt, alloc, store, gate, colours, text, Some(steps)) {
         Ok(_) => unreachable!(),

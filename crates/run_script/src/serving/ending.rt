@@ -1,7 +1,7 @@
 // The report of a store in the end, and of the replies to its clients.
 ghost use Rattle.std.specs.Prelude.{◌≡◌, ◌≤◌, ◌++◌, length, map, IfOk, OnOk};
 ghost use Rattle.std.specs.List.{flat_map, enumerate_from};
-ghost use Rattle.run_script.specs.EndReports.{nodes_in, nodes_of, HaveNodes, row_shown, rows_shown, columns_shown, client_shown, CanShow, end_report};
+ghost use Rattle.run_script.specs.EndReports.{nodes_in, closing_nodes, HaveNodes, row_shown, rows_shown, region_shown, replies_shown, CanShow, end_report};
 
 use chain_store::ClosedRegion;
 use closing_report::columns_beside;
@@ -22,7 +22,7 @@ fn client_reports(
     mut replies: Vec<ListOf<ReplyLine>>,
 ) -> Result<ListOf<ClientReport>, AllocError>
     requires { length names.now ≤ length replies.items }
-    ensures { IfOk result (λ reports. reports ≡ map (client_shown replies.items) (enumerate_from 0 names.now)) }
+    ensures { IfOk result (λ reports. reports ≡ map (replies_shown replies.items) (enumerate_from 0 names.now)) }
 {
     let mut reports = ListOf::new(alloc);
     for (number, name) in names.as_slice().iter().enumerate() {
@@ -71,7 +71,7 @@ fn region_reports<R: Threads + Sync>(
 ) -> Result<(ListOf<RowReport>, ListOf<ColumnReport>), AllocError>
     requires { CanShow regions.now colours.now (record { regions = ends.items; nodes = nodes.now }) }
     ensures rows { IfOk result (λ r. r.0 ≡ flat_map (rows_shown (nodes_in nodes.now)) (enumerate_from 0 ends.items)) }
-    ensures columns { IfOk result (λ r. r.1 ≡ flat_map (columns_shown regions.now colours.now) ends.items) }
+    ensures columns { IfOk result (λ r. r.1 ≡ flat_map (region_shown regions.now colours.now) ends.items) }
 {
     let mut rows = ListOf::new(alloc);
     let mut columns = Vec::new(alloc);

@@ -3,7 +3,7 @@ ghost use Rattle.std.specs.Prelude.{IsTrue};
 ghost use Rattle.script_text.specs.Fitting.{is_any_map, is_queue};
 ghost use Rattle.log_client.specs.Clients.{IsClient};
 ghost use Rattle.log_client.specs.Reading.{RestsOn};
-ghost use Rattle.run_script.specs.Opened.{kind_opened, IsKept, StaysOpen};
+ghost use Rattle.run_script.specs.Opened.{kind_opened, IsOpenedOf, StaysOpen};
 ghost use Rattle.run_script.specs.Serving.{GivesFor};
 
 use crate::serving::opened::Opened;
@@ -27,7 +27,7 @@ pub fn get<R: Wait, G: Gate>(
     key: Text,
 ) -> Answer
     requires client { IsClient store.now client.old }
-    requires kept { IsKept client.old opened.old }
+    requires kept { IsOpenedOf client.old opened.old }
     requires kind { IsTrue (is_any_map (kind_opened opened.old)) }
     ensures rests { RestsOn store.now client.old client.new }
     ensures stays { StaysOpen client.new opened.old opened.new }
@@ -44,7 +44,7 @@ pub fn get<R: Wait, G: Gate>(
             let get = map.get(rt, alloc, client, store, gate, &key);
             got_many(get)
         }
-        Opened::Tx { .. } | Opened::Queue(_) => unreachable!(),
+        _ => unreachable!(),
     }
 }
 
@@ -58,7 +58,7 @@ pub fn deq<R: Wait, G: Gate>(
     opened: &mut Opened,
 ) -> Answer
     requires client { IsClient store.now client.old }
-    requires kept { IsKept client.old opened.old }
+    requires kept { IsOpenedOf client.old opened.old }
     requires kind { IsTrue (is_queue (kind_opened opened.old)) }
     ensures rests { RestsOn store.now client.old client.new }
     ensures stays { StaysOpen client.new opened.old opened.new }
@@ -69,6 +69,6 @@ pub fn deq<R: Wait, G: Gate>(
             let deq = queue.deq(rt, alloc, client, store, gate);
             took(deq)
         }
-        Opened::Map { .. } | Opened::Causal(_) | Opened::Tx { .. } => unreachable!(),
+        _ => unreachable!(),
     }
 }

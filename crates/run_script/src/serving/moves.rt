@@ -1,7 +1,7 @@
 // Pulls and trims.
 ghost use Rattle.std.specs.Prelude.{◌<◌, [], length};
 ghost use Rattle.log_client.specs.Clients.{IsClient};
-ghost use Rattle.run_script.specs.Serving.{Gives};
+ghost use Rattle.run_script.specs.Serving.{ServesLog};
 
 use log_client::{Client, Store, TrimFault};
 use playback::Snapshot;
@@ -23,7 +23,7 @@ pub fn pull<R: Wait>(
     requires client { IsClient store.now client.old }
     requires region { region < length store.now.regions }
     requires colour { colour < store.now.size.colours }
-    ensures { Gives store.now client.old client.new (What.Pull region colour) result [] }
+    ensures { ServesLog store.now client.old client.new (What.Pull region colour) result [] }
 {
     match client.pull(rt, alloc, store, region, colour) {
         Ok(pulled) => Answer::Pulled {
@@ -40,7 +40,7 @@ pub fn pull<R: Wait>(
 pub fn trim<R: Wait>(rt: &R, store: &Store, client: &mut Client, colour: u8) -> Answer
     requires client { IsClient store.now client.old }
     requires colour { colour < store.now.size.colours }
-    ensures { Gives store.now client.old client.new (What.Trim colour) result [] }
+    ensures { ServesLog store.now client.old client.new (What.Trim colour) result [] }
 {
     let snapshot = Snapshot {
         region: client.region(),

@@ -4,8 +4,8 @@ ghost use Rattle.script_text.specs.declared.script.Object.{Object};
 ghost use Rattle.script_meaning.specs.States.{kind_in};
 ghost use Rattle.log_client.specs.Clients.{IsClient};
 ghost use Rattle.log_client.specs.Reading.{RestsOn};
-ghost use Rattle.run_script.specs.Opened.{kind_opened, object_asked, HasCommand, IsKept, StaysOpen};
-ghost use Rattle.run_script.specs.Serving.{GivesAt};
+ghost use Rattle.run_script.specs.Opened.{kind_opened, object_asked, HasCommand, IsOpenedOf, StaysOpen};
+ghost use Rattle.run_script.specs.Serving.{ServesObject};
 
 use crate::serving::gets::{deq, get};
 use crate::serving::opened::Opened;
@@ -39,13 +39,13 @@ pub fn object_answer<R: Wait, G: Gate>(
     what: What,
 ) -> Answer
     requires client { IsClient store.now client.old }
-    requires kept { IsKept client.old opened.old }
+    requires kept { IsOpenedOf client.old opened.old }
     requires has { HasCommand (kind_opened opened.old) what }
     ensures rests { RestsOn store.now client.old client.new }
     ensures stays { StaysOpen client.new opened.old opened.new }
     ensures gives { (objects : List Object) (object : ℕ) → object_asked what ≡ Some object
         → kind_in objects object ≡ Some (kind_opened opened.old)
-        → GivesAt store.now objects client.old client.new object opened.old opened.new what result }
+        → ServesObject store.now objects client.old client.new object opened.old opened.new what result }
 {
     match what {
         What::Put {
@@ -82,11 +82,6 @@ pub fn object_answer<R: Wait, G: Gate>(
             pairs,
         } => commit(rt, alloc, store, gate, client, opened, pairs),
         What::Deq { object: _object } => deq(rt, alloc, store, gate, client, opened),
-        What::Append { .. }
-        | What::Stop { .. }
-        | What::Sync { .. }
-        | What::Scan { .. }
-        | What::Pull { .. }
-        | What::Trim { .. } => unreachable!(),
+        _ => unreachable!(),
     }
 }

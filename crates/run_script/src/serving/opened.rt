@@ -48,11 +48,11 @@ fn open(alloc: Global, kind: &Kind) -> Result<Opened, AllocError>
             Ok(Opened::Tx { map, found: None })
         }
         Kind::Causal { colour } => {
-            let map = CausalMap::open(alloc, *colour)?;
+            let map = CausalMap::open(alloc, *colour);
             Ok(Opened::Causal(map))
         }
         Kind::Queue { home, colour } => {
-            let queue = LogQueue::open(alloc, *home, *colour)?;
+            let queue = LogQueue::open(alloc, *home, *colour);
             Ok(Opened::Queue(queue))
         }
     }

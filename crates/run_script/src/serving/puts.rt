@@ -4,7 +4,7 @@ ghost use Rattle.object_form.specs.Forms.{is_word, ArePairs};
 ghost use Rattle.script_text.specs.Fitting.{is_any_map, is_map, is_queue};
 ghost use Rattle.log_client.specs.Clients.{IsClient};
 ghost use Rattle.log_client.specs.Reading.{RestsOn};
-ghost use Rattle.run_script.specs.Opened.{kind_opened, IsKept, StaysOpen};
+ghost use Rattle.run_script.specs.Opened.{kind_opened, IsOpenedOf, StaysOpen};
 ghost use Rattle.run_script.specs.Serving.{GivesFor};
 
 use crate::serving::opened::Opened;
@@ -30,7 +30,7 @@ pub fn put<R: Wait, G: Gate>(
     value: Text,
 ) -> Answer
     requires client { IsClient store.now client.old }
-    requires kept { IsKept client.old opened.old }
+    requires kept { IsOpenedOf client.old opened.old }
     requires kind { IsTrue (is_any_map (kind_opened opened.old)) }
     requires key { IsTrue (is_word key) }
     requires value { IsTrue (is_word value) }
@@ -52,7 +52,7 @@ pub fn put<R: Wait, G: Gate>(
             let put = map.put(rt, alloc, client, store, gate, &key, &value);
             appended(put, pieces)
         }
-        Opened::Tx { .. } | Opened::Queue(_) => unreachable!(),
+        _ => unreachable!(),
     }
 }
 
@@ -67,7 +67,7 @@ pub fn put_all<R: Wait, G: Gate>(
     pairs: Pairs,
 ) -> Answer
     requires client { IsClient store.now client.old }
-    requires kept { IsKept client.old opened.old }
+    requires kept { IsOpenedOf client.old opened.old }
     requires kind { IsTrue (is_map (kind_opened opened.old)) }
     requires pairs { ArePairs 4 pairs }
     ensures rests { RestsOn store.now client.old client.new }
@@ -83,7 +83,7 @@ pub fn put_all<R: Wait, G: Gate>(
             let put = several.put_all(rt, alloc, client, store, gate, &pairs);
             appended(put, pieces)
         }
-        Opened::Causal(_) | Opened::Tx { .. } | Opened::Queue(_) => unreachable!(),
+        _ => unreachable!(),
     }
 }
 
@@ -98,7 +98,7 @@ pub fn del<R: Wait, G: Gate>(
     key: Text,
 ) -> Answer
     requires client { IsClient store.now client.old }
-    requires kept { IsKept client.old opened.old }
+    requires kept { IsOpenedOf client.old opened.old }
     requires kind { IsTrue (is_map (kind_opened opened.old)) }
     requires key { IsTrue (is_word key) }
     ensures rests { RestsOn store.now client.old client.new }
@@ -115,7 +115,7 @@ pub fn del<R: Wait, G: Gate>(
             let del = single.del(rt, alloc, client, store, gate, &key);
             appended(del, pieces)
         }
-        Opened::Causal(_) | Opened::Tx { .. } | Opened::Queue(_) => unreachable!(),
+        _ => unreachable!(),
     }
 }
 
@@ -130,7 +130,7 @@ pub fn enq<R: Wait, G: Gate>(
     value: Text,
 ) -> Answer
     requires client { IsClient store.now client.old }
-    requires kept { IsKept client.old opened.old }
+    requires kept { IsOpenedOf client.old opened.old }
     requires kind { IsTrue (is_queue (kind_opened opened.old)) }
     requires value { IsTrue (is_word value) }
     ensures rests { RestsOn store.now client.old client.new }
@@ -146,6 +146,6 @@ pub fn enq<R: Wait, G: Gate>(
             let enq = queue.enq(rt, alloc, client, store, gate, &value);
             appended(enq, pieces)
         }
-        Opened::Map { .. } | Opened::Causal(_) | Opened::Tx { .. } => unreachable!(),
+        _ => unreachable!(),
     }
 }

@@ -1,15 +1,13 @@
 // Commands that answer by an object after a stamped read.
-ghost use Rattle.std.specs.Prelude.{◌≡◌, ◌+◌, ◌≤◌, [], Some, IsTrue, IfOk, IfSome, length, map, vec_capacity};
+ghost use Rattle.std.specs.Prelude.{◌≡◌, ◌+◌, ◌≤◌, [], Some, IsTrue, IfOk, IfSome, length, vec_capacity};
 ghost use Rattle.lawful_run.specs.Objects.{AreAnswers};
 ghost use Rattle.object_form.specs.Forms.{ArePairs, AreVersions};
 ghost use Rattle.script_text.specs.Fitting.{is_map, is_tx};
 ghost use Rattle.script_text.specs.Grammar.{are_keys};
-ghost use Rattle.log_client.specs.Appends.{piece_of};
 ghost use Rattle.log_client.specs.Clients.{IsClient};
 ghost use Rattle.log_client.specs.Reading.{RestsOn};
-ghost use Rattle.log_client.specs.StampedReads.{raise_piece, sync_piece};
-ghost use Rattle.run_script.specs.Opened.{kind_opened, IsKept, StaysOpen};
-ghost use Rattle.run_script.specs.Replying.{HasPlaces, HasRoomFor, ShowsKeys, ShowsNone, keys_found, tx_found, commit_answer};
+ghost use Rattle.run_script.specs.Opened.{kind_opened, IsOpenedOf, StaysOpen};
+ghost use Rattle.run_script.specs.Replying.{HasPlaces, HasRoomFor, ShowsKeys, ShowsNone, keys_found, tx_found, told_answer};
 ghost use Rattle.run_script.specs.Serving.{GivesFor, GivesTo};
 
 use crate::serving::appends::pieces_of;
@@ -18,10 +16,11 @@ use crate::serving::replies::refused;
 use crate::serving::scans::{raises_shown, syncs_shown};
 use fuzzy_io::Gate;
 use log_client::{Appended, Client, ObjectFault, StampedRead, Store};
-use log_node::{Keys, ListOf, Pairs, Text};
-use object_fold::{Values, Verdict};
+use log_node::{Keys, ListOf, Pairs};
+use object_fold::{TxState, Values};
 use region_fold::Tx;
 use report_text::{Answer, KeyAnswer, PointPiece, RaisePiece, SyncPiece};
+use script_in_order::Shown;
 use script_text::What;
 use std::alloc::{AllocError, Global};
 use std::mem;
@@ -98,7 +97,7 @@ pub fn get_all<R: Wait, G: Gate>(
     keys: Keys,
 ) -> Answer
     requires client { IsClient store.now client.old }
-    requires kept { IsKept client.old opened.old }
+    requires kept { IsOpenedOf client.old opened.old }
     requires kind { IsTrue (is_map (kind_opened opened.old)) }
     requires keys { IsTrue (are_keys 4 keys) }
     ensures rests { RestsOn store.now client.old client.new }
@@ -117,7 +116,7 @@ pub fn get_all<R: Wait, G: Gate>(
             let get = several.get_all(rt, alloc, client, store, gate, &keys);
             got_keys(keys, get, answers, room)
         }
-        Opened::Causal(_) | Opened::Tx { .. } | Opened::Queue(_) => unreachable!(),
+        _ => unreachable!(),
     }
 }
 
@@ -146,7 +145,7 @@ pub fn read<R: Wait, G: Gate>(
     keys: Keys,
 ) -> Answer
     requires client { IsClient store.now client.old }
-    requires kept { IsKept client.old opened.old }
+    requires kept { IsOpenedOf client.old opened.old }
     requires kind { IsTrue (is_tx (kind_opened opened.old)) }
     requires keys { IsTrue (are_keys 2 keys) }
     ensures rests { RestsOn store.now client.old client.new }
@@ -167,40 +166,13 @@ pub fn read<R: Wait, G: Gate>(
             *found = tx;
             got_keys(keys, read, answers, room)
         }
-        Opened::Map { .. } | Opened::Causal(_) | Opened::Queue(_) => unreachable!(),
+        _ => unreachable!(),
     }
 }
 
-// A transaction that was ruled on, in the room that was taken for its reply.
-fn verdict_shown(
-    conflict: Option<Text>,
-    stamp: u64,
-    own: Appended,
-    read: StampedRead,
-    pieces: Vec<PointPiece>,
-    room: ReadRoom,
-) -> Answer
-    requires empty { pieces.items ≡ [] }
-    requires points { length own.stood.points ≤ vec_capacity pieces }
-    requires room { ShowsNone room }
-    requires few { HasRoomFor room read }
-    ensures { result ≡ Answer.Ruled conflict stamp own.row (map piece_of own.stood.points) read.stamp
-        (map raise_piece read.raises) (map sync_piece read.syncs) }
-{
-    Answer::Ruled {
-        conflict,
-        stamp,
-        row: own.row,
-        points: ListOf::from(pieces_of(own.stood.points.as_slice(), pieces)),
-        read_stamp: read.stamp,
-        raises: raises_shown(read.raises.as_slice(), room.raises),
-        syncs: syncs_shown(read.syncs.as_slice(), room.syncs),
-    }
-}
-
-// The answer to a commit, in the room that was taken for it.
-fn ruled(
-    call: Result<(Verdict, Appended, StampedRead), ObjectFault>,
+// The answer to a command that is told what becomes of its node, in the room that was taken for it.
+fn told_shown<F: Shown>(
+    call: Result<(F::Told, Appended, StampedRead), ObjectFault>,
     pieces: Vec<PointPiece>,
     room: ReadRoom,
 ) -> Answer
@@ -208,15 +180,17 @@ fn ruled(
     requires points { IfOk call (λ r. length r.1.stood.points ≤ vec_capacity pieces) }
     requires room { ShowsNone room }
     requires few { IfOk call (λ r. HasRoomFor room r.2) }
-    ensures { result ≡ commit_answer call }
+    ensures { result ≡ told_answer F.shown call }
 {
     match call {
-        Ok((verdict, own, read)) => match verdict {
-            Verdict::Committed { stamp } => verdict_shown(None, stamp, own, read, pieces, room),
-            Verdict::Conflict { key, stamp } => {
-                verdict_shown(Some(key), stamp, own, read, pieces, room)
-            }
-        },
+        Ok((told, own, read)) => F::show(
+            told,
+            own.row,
+            ListOf::from(pieces_of(own.stood.points.as_slice(), pieces)),
+            read.stamp,
+            raises_shown(read.raises.as_slice(), room.raises),
+            syncs_shown(read.syncs.as_slice(), room.syncs),
+        ),
         Err(fault) => refused(fault),
     }
 }
@@ -244,7 +218,7 @@ pub fn commit<R: Wait, G: Gate>(
     pairs: Pairs,
 ) -> Answer
     requires client { IsClient store.now client.old }
-    requires kept { IsKept client.old opened.old }
+    requires kept { IsOpenedOf client.old opened.old }
     requires kind { IsTrue (is_tx (kind_opened opened.old)) }
     requires pairs { ArePairs 2 pairs }
     ensures rests { RestsOn store.now client.old client.new }
@@ -262,8 +236,8 @@ pub fn commit<R: Wait, G: Gate>(
                 return Answer::NoMemory;
             };
             let commit = map.commit(rt, alloc, client, store, gate, tx, &pairs);
-            ruled(commit, pieces, room)
+            told_shown::<TxState>(commit, pieces, room)
         }
-        Opened::Map { .. } | Opened::Causal(_) | Opened::Queue(_) => unreachable!(),
+        _ => unreachable!(),
     }
 }

@@ -4,7 +4,7 @@ ghost use Rattle.log_node.specs.Sets.{members};
 ghost use Rattle.log_client.specs.Clients.{IsClient};
 ghost use Rattle.log_client.specs.Appends.{AreColoursOf};
 ghost use Rattle.log_client.specs.StampedReads.{raise_piece, sync_piece};
-ghost use Rattle.run_script.specs.Serving.{Gives};
+ghost use Rattle.run_script.specs.Serving.{ServesLog};
 
 use log_client::{Client, Raised, StampedRead, Store, SyncFault, Synced};
 use log_node::{Colours, Items, ListOf};
@@ -90,7 +90,7 @@ fn scan_with<R: Wait>(
     requires no_syncs { sync_pieces.items ≡ [] }
     requires raises_room { length (members colours) ≤ vec_capacity raise_pieces }
     requires syncs_room { length (members colours) ≤ vec_capacity sync_pieces }
-    ensures { Gives store.now client.old client.new (What.Scan colours) result.0 result.1 }
+    ensures { ServesLog store.now client.old client.new (What.Scan colours) result.0 result.1 }
 {
     match client.stamped_read(rt, alloc, store, colours) {
         Ok(read) => read_shown(read, raise_pieces, sync_pieces),
@@ -112,7 +112,7 @@ pub fn scan<R: Wait>(
 ) -> (Answer, Items)
     requires client { IsClient store.now client.old }
     requires colours { AreColoursOf store.now colours }
-    ensures { Gives store.now client.old client.new (What.Scan colours) result.0 result.1 }
+    ensures { ServesLog store.now client.old client.new (What.Scan colours) result.0 result.1 }
 {
     let _bits = colours.0;
     let Ok(raises) = Vec::with_capacity(alloc, colours.count()) else {

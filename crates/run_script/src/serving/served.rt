@@ -1,7 +1,7 @@
 // A client who is served its commands.
 ghost use Rattle.std.specs.Prelude.{◌≡◌, ◌≤◌, length, vec_capacity};
-ghost use Rattle.script_beside.specs.Dealt.{commands_in};
-ghost use Rattle.run_script.specs.Dealing.{AreFew};
+ghost use Rattle.script_beside.specs.Dealt.{share_commands};
+ghost use Rattle.run_script.specs.Dealing.{AreFewCommands};
 ghost use Rattle.run_script.specs.Served.{CanServe, IsServed, IsServedIfDone};
 
 use crate::serving::answers::serve;
@@ -31,8 +31,8 @@ pub struct Served {
 
 // How many commands there are in the pieces.
 fn count(pieces: &[Vec<Command>]) -> usize
-    requires { AreFew pieces.now }
-    ensures { result ≡ length (commands_in pieces.now) }
+    requires { AreFewCommands pieces.now }
+    ensures { result ≡ length (share_commands pieces.now) }
 {
     let mut count = 0;
     for piece in pieces {
@@ -50,7 +50,7 @@ fn serve_in_room<R: Wait, G: Gate>(
     served: &mut Served,
 )
     requires can { CanServe store.now served.old }
-    requires room { length (commands_in served.old.commands.items) ≤ vec_capacity served.old.replies }
+    requires room { length (share_commands served.old.commands.items) ≤ vec_capacity served.old.replies }
     ensures { IsServed store.now served.old served.new }
 {
     let commands = mem::replace(&mut served.commands, Vec::new(alloc));

@@ -1,7 +1,7 @@
 // Syncs.
 ghost use Rattle.std.specs.Prelude.{◌<◌};
 ghost use Rattle.log_client.specs.Clients.{IsClient};
-ghost use Rattle.run_script.specs.Serving.{Gives};
+ghost use Rattle.run_script.specs.Serving.{ServesLog};
 
 use log_client::{Client, Store, SyncFault};
 use log_node::{Items, ListOf};
@@ -20,7 +20,7 @@ pub fn sync<R: Wait>(
 ) -> (Answer, Items)
     requires client { IsClient store.now client.old }
     requires colour { colour < store.now.size.colours }
-    ensures { Gives store.now client.old client.new (What.Sync colour) result.0 result.1 }
+    ensures { ServesLog store.now client.old client.new (What.Sync colour) result.0 result.1 }
 {
     match client.sync_shown(rt, alloc, store, colour) {
         Ok((synced, nodes)) => {

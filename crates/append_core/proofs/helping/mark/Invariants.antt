@@ -3,7 +3,7 @@ use Rattle.stamp_board.specs.Seats.{IsLater}
 use Rattle.chain_store.specs.Holds.{IsHold}
 use Rattle.chain_store.specs.Going.{GoesOn}
 use Rattle.append_core.specs.Helping.{IsStepIn}
-use Rattle.append_core.specs.Settled.{IsMarkedThere}
+use Rattle.append_core.specs.Settled.{HoldKnowsMarked}
 use Rattle.append_core.proofs.ByMember.{AreDone}
 use Rattle.append_core.proofs.helping.mark.Given as goal
 
@@ -14,5 +14,5 @@ invariant-loop-colour g l = record {
   seat : IsLater l.fn.hold.seat l.hold.seat;
   next : l.hold.next ≡ l.fn.hold.next;
   goes : GoesOn (IsStepIn l.begun) l.fn.hold l.hold;
-  marked : AreDone (IsMarkedThere l.hold l.begun) l.colour-iterator l.begun.colours;
+  marked : AreDone (HoldKnowsMarked l.hold l.begun) l.colour-iterator l.begun.colours;
 }

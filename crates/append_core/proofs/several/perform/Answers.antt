@@ -1,5 +1,5 @@
 use Rattle.std.proofs.Common.{◌≡◌, ℕ, length, Option, None, sym, subst, inr}
-use Rattle.append_core.specs.Several.{Leaves}
+use Rattle.append_core.specs.Several.{HoldLeaves}
 use Rattle.append_core.proofs.Finishing.{err_as, first_ahead, no_stop, ok_as, on_ok}
 use Rattle.append_core.proofs.Pointing.{point_within}
 use Rattle.append_core.proofs.Staging.{count_of}
@@ -50,7 +50,7 @@ returns-in-Ok-clause-err g c =
     (count_of points c.args.begun.now o.0 o.1 c.requires.points o.3) t.ahead in
     err_as c.finish.result _ _
     (λ fault f old x fresh is steps.
-    subst (λ (s : Option ℕ). Leaves c.args.region.now old c.finish.new.hold x s fault) (sym none)
+    subst (λ (s : Option ℕ). HoldLeaves c.args.region.now old c.finish.new.hold x s fault) (sym none)
     (f old x fresh is (c.in-Ok.ensures.ok old x fresh is steps).done).0) c.finish.ensures.err
 
 pub returns-in-Err-clause-err : goal.returns-in-Err-clause-err

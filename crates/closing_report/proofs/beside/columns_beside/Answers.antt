@@ -2,7 +2,7 @@ use Rattle.std.proofs.Common.{◌≡◌, ◌∙◌, List, ◌++◌, length, map,
 use Rattle.std.proofs.lemmas.List.{take_at}
 use Rattle.std.proofs.lemmas.Result.{IfOk-weaker}
 use Rattle.closing_report.specs.Columns.{column_shown}
-use Rattle.closing_report.specs.Places.{AreShown}
+use Rattle.closing_report.specs.Places.{ArePlacesShown}
 use Rattle.closing_report.specs.declared.beside.Place.{Place}
 use Rattle.closing_report.proofs.Shown.{places_named, all_shown}
 use Rattle.closing_report.proofs.beside.columns_beside.Goals as goal
@@ -21,7 +21,7 @@ returns g c =
     let same : c.as_mut_slice.result.now ≡ places.items = c.as_mut_slice.ensures.value in
     let whole : take places.len (after ++ drop (length after) places.items) ≡ after =
     take_at after (drop (length after) places.items) places.len (c.show_all.ensures.many ∙ (ap length same ∙ sym places.ok.0)) in
-    let are = subst (λ (l : List Place). AreShown regions colours l after) (same ∙ c.in_ok-places.ensures) c.show_all.ensures in
+    let are = subst (λ (l : List Place). ArePlacesShown regions colours l after) (same ∙ c.in_ok-places.ensures) c.show_all.ensures in
     IfOk-weaker c.reports_of.result _ (λ reports. reports ≡ map (column_shown regions colours) c.args.columns.items)
     (λ reports given. all_shown regions colours c.args.columns.items reports after are
     (given ∙ ap (map (λ (place : Place). place.shown)) whole)) c.reports_of.ensures

@@ -1,4 +1,4 @@
-use Rattle.log_client.proofs.StandsLater.{stands_by}
+use Rattle.log_client.proofs.Going.StandsLater.{stands_by}
 use Rattle.log_client.proofs.appends.stand.Goals as goal
 
 pub returns-in-Ok-clause-ok : goal.returns-in-Ok-clause-ok

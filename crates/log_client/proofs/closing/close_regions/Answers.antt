@@ -5,7 +5,7 @@ use Rattle.lawful_run.proofs.CallerLemmas.{get-append}
 use Rattle.log_client.specs.Closing.{HasEnded}
 use Rattle.log_client.specs.Leaving.{left_of}
 use Rattle.log_client.proofs.Lists.{got_last}
-use Rattle.log_client.proofs.Handing.{one_more, shrinks, of_last, are_holds, are_at, more_behind}
+use Rattle.log_client.proofs.End.Handing.{one_more, shrinks, of_last, are_holds, are_at, more_behind}
 use Rattle.log_client.proofs.closing.close_regions.Goals as goal
 
 pub gather-requires : goal.gather-requires

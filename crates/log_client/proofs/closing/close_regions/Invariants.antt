@@ -3,7 +3,7 @@ use Rattle.chain_store.specs.declared.region.Region.{Region}
 use Rattle.chain_store.specs.declared.closed.ClosedRegion.{ClosedRegion}
 use Rattle.log_client.specs.Closing.{HasEnded}
 use Rattle.log_client.specs.Leaving.{left_of}
-use Rattle.log_client.proofs.Handing.{Shrunk}
+use Rattle.log_client.proofs.End.Handing.{Shrunk}
 use Rattle.log_client.proofs.closing.close_regions.Given as goal
 
 -- the regions that are left are the first ones, as are each client's holds; the others have ended

@@ -1,6 +1,6 @@
 use Rattle.std.proofs.Common.{rules, refl, ◌<◌, length}
 use Rattle.std.proofs.lemmas.Option.{slice_get_read}
-use Rattle.log_client.proofs.Handing.{gathered_one}
+use Rattle.log_client.proofs.End.Handing.{gathered_one}
 use Rattle.log_client.proofs.closing.gather.Goals as goal
 
 pub loop-i-preserved : goal.loop-i-preserved

@@ -1,4 +1,4 @@
-use Rattle.log_client.proofs.ReadLater as later
+use Rattle.log_client.proofs.Read.ReadLater as later
 use Rattle.log_client.proofs.laws.reads_go_on.Goals as goal
 
 pub returns : goal.returns

@@ -6,7 +6,7 @@ use Rattle.log_node.specs.declared.ids.Key.{Key}
 use Rattle.log_node.specs.Order.{key_below}
 use Rattle.log_node.specs.Seen.{PlacedNode}
 use Rattle.object_fold.specs.Folds.{is_behind}
-use Rattle.log_client.proofs.LineParts.{all_items, back_is, parted_behind}
+use Rattle.log_client.proofs.Read.LineParts.{all_items, back_is, parted_behind}
 use Rattle.log_client.proofs.merging.count_to.Goals as goal
 
 pub returns-in-Some-clause-dropped : goal.returns-in-Some-clause-dropped

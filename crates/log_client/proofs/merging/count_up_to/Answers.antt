@@ -2,7 +2,7 @@ use Rattle.std.proofs.Common.{rules, of_calls, arith}
 use Rattle.std.specs.Prelude.{nat_le}
 use Rattle.std.proofs.lemmas.Fn.{always_returns_same}
 use Rattle.log_node.specs.Seen.{PlacedNode}
-use Rattle.log_client.proofs.LineParts.{front_is, parted}
+use Rattle.log_client.proofs.Read.LineParts.{front_is, parted}
 use Rattle.log_client.proofs.merging.count_up_to.Goals as goal
 
 pub returns-clause-taken : goal.returns-clause-taken

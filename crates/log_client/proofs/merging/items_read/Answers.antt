@@ -10,16 +10,16 @@ use Rattle.col_core.proofs.CallerLemmas.{In, contains_in, in_right, slice_in}
 use Rattle.playback.specs.Merging.{AreRising}
 use Rattle.log_client.specs.declared.track.Track.{Track}
 use Rattle.log_client.specs.Clients.{line_in}
-use Rattle.log_client.specs.Items.{are_parts, part_of, AreItems, AreMerged}
+use Rattle.log_client.specs.Items.{are_parts, part_of, AreMergedParts, AreMerged}
 use Rattle.log_client.specs.Reading.{keys_of}
-use Rattle.log_client.proofs.MergedItems.{items_next, none_items}
+use Rattle.log_client.proofs.Read.MergedItems.{items_next, none_items}
 use Rattle.log_client.proofs.merging.items_read.Goals as goal
 
 pub loop-colour-init : goal.loop-colour-init
 loop-colour-init c = (
   [],
   c.into_iter-colour-iterator.ensures.into_iter_gives ∙ c.members-colour-items.ensures,
-  subst (AreItems []) (sym c.new-items.ensures.items) none_items,
+  subst (AreMergedParts []) (sym c.new-items.ensures.items) none_items,
 )
 
 -- the next of the colours is one of theirs
@@ -57,7 +57,7 @@ loop-colour-preserved c =
       i.0 ++ c.in-Some.colour ∷ [],
       append_assoc i.0 (c.in-Some.colour ∷ []) c.next.new.self
           ∙ (ap (λ (m : List ℕ). i.0 ++ m) (sym c.in-Some.ensures.steps) ∙ i.1),
-      subst (λ (ps : List (List PlacedNode)). AreItems ps c.in_ok-items.items.items)
+      subst (λ (ps : List (List PlacedNode)). AreMergedParts ps c.in_ok-items.items.items)
           (sym (map-append (λ k. part_of c.args.last c.args.stamp (line_in (slice_get c.args.tracks.now k))) i.0
           (c.in-Some.colour ∷ [])))
           (items_next (are_parts c.args.tracks.now c.args.last c.args.stamp i.0) part l.items.items c.in_ok-items.items.items i.2
@@ -69,7 +69,7 @@ loop-colour-preserved c =
 pub returns : goal.returns
 returns c =
     let l = c.loop-colour in
-    subst (AreItems (are_parts c.args.tracks.now c.args.last c.args.stamp (members c.args.colours))) (sym c.into.ensures)
-    (subst (λ (m : List ℕ). AreItems (are_parts c.args.tracks.now c.args.last c.args.stamp m) l.items.items)
+    subst (AreMergedParts (are_parts c.args.tracks.now c.args.last c.args.stamp (members c.args.colours))) (sym c.into.ensures)
+    (subst (λ (m : List ℕ). AreMergedParts (are_parts c.args.tracks.now c.args.last c.args.stamp m) l.items.items)
     (sym (append-nil l.invariant.0)
     ∙ (ap (λ (m : List ℕ). l.invariant.0 ++ m) (sym c.in-None.ensures.steps.0) ∙ l.invariant.1)) l.invariant.2)

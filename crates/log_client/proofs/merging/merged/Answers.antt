@@ -4,7 +4,7 @@ use Rattle.std.proofs.lemmas.Iterator.Adapters.{YieldsList-from_vec}
 use Rattle.std.proofs.lemmas.Iterator.Consumers.{YieldsList-end}
 use Rattle.log_node.specs.Seen.{PlacedNode}
 use Rattle.log_client.specs.Items.{AreMerged}
-use Rattle.log_client.proofs.MergedItems.{MergedFirst, all_merged, merged_next, none_merged}
+use Rattle.log_client.proofs.Read.MergedItems.{MergedFirst, all_merged, merged_next, none_merged}
 use Rattle.log_client.proofs.merging.merged.Goals as goal
 
 pub loop-item-init : goal.loop-item-init

@@ -1,4 +1,4 @@
-use Rattle.log_client.proofs.MergedItems.{MergedFirst}
+use Rattle.log_client.proofs.Read.MergedItems.{MergedFirst}
 use Rattle.log_client.proofs.merging.merged.Given as goal
 
 -- the first items are merged

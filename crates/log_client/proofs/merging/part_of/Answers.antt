@@ -5,7 +5,7 @@ use Rattle.std.proofs.lemmas.List.{take_rest}
 use Rattle.log_node.specs.Seen.{PlacedNode}
 use Rattle.playback.specs.Merging.{AreRising}
 use Rattle.log_client.specs.Reading.{keys_of}
-use Rattle.log_client.proofs.LineParts.{rising_dropped}
+use Rattle.log_client.proofs.Read.LineParts.{rising_dropped}
 use Rattle.log_client.proofs.merging.part_of.Goals as goal
 
 pub count_up_to-requires : goal.count_up_to-requires

@@ -4,7 +4,7 @@ use Rattle.std.proofs.lemmas.List.{take_rest}
 use Rattle.log_node.specs.declared.ids.Key.{Key}
 use Rattle.log_node.specs.Order.{key_below}
 use Rattle.log_node.specs.Seen.{PlacedNode}
-use Rattle.log_client.proofs.MergedItems.{count_before, taken_else, taken_then}
+use Rattle.log_client.proofs.Read.MergedItems.{count_before, taken_else, taken_then}
 use Rattle.log_client.proofs.merging.take_to.Goals as goal
 
 -- how many come before the key of those from a position on

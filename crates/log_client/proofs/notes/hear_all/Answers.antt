@@ -1,9 +1,9 @@
 use Rattle.std.proofs.Common.{◌≡◌, ◌<◌, ◌+◌, ◌∷◌, ◌++◌, [], rules, refl, length, slice_get, ap, ◌∙◌, arith, length-append}
 use Rattle.std.proofs.lemmas.Option.{slice_get_read}
-use Rattle.log_client.proofs.AtHome.{set_elsewhere}
+use Rattle.log_client.proofs.Going.AtHome.{set_elsewhere}
 use Rattle.lawful_run.proofs.CallerLemmas.{get-append}
 use Rattle.log_client.proofs.Lists.{got_last}
-use Rattle.log_client.proofs.TellingAll.{holds_set, heard_set}
+use Rattle.log_client.proofs.Telling.TellingAll.{holds_set, heard_set}
 use Rattle.log_client.proofs.notes.hear_all.Goals as goal
 
 pub hear-requires-clause-note : goal.hear-requires-clause-note

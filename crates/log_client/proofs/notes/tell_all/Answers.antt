@@ -1,6 +1,6 @@
 use Rattle.std.proofs.Common.{◌≡◌, ◌<◌, rules, refl, length, slice_get, Some, ap, subst, ◌∙◌, arith}
 use Rattle.std.proofs.lemmas.Option.{slice_get_read}
-use Rattle.log_client.proofs.TellingAll.{holds_set, same_set, later_set, notes_more, tells_more, count_more}
+use Rattle.log_client.proofs.Telling.TellingAll.{holds_set, same_set, later_set, notes_more, tells_more, count_more}
 use Rattle.log_client.proofs.notes.tell_all.Goals as goal
 
 pub returns-in_err-note-clause-holds : goal.returns-in_err-note-clause-holds

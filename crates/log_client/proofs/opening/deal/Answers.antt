@@ -3,7 +3,7 @@ use Rattle.std.proofs.lemmas.Option.{slice_get_read}
 use Rattle.lawful_run.proofs.CallerLemmas.{get-append}
 use Rattle.log_client.specs.declared.client.Client.{Client}
 use Rattle.log_client.proofs.Lists.{got_last}
-use Rattle.log_client.proofs.AtHome.{set_long}
+use Rattle.log_client.proofs.Going.AtHome.{set_long}
 use Rattle.log_client.proofs.Dealing.{dealt_one}
 use Rattle.log_client.proofs.opening.deal.Goals as goal
 

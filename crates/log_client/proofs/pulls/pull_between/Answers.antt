@@ -1,7 +1,7 @@
 use Rattle.std.proofs.Common.{◌<◌, ◌++◌, get_or, slice_get, slice_set, take, drop, length, ap, sym, subst, ◌∙◌, arith}
 use Rattle.chain_store.specs.Holds.{IsHold}
-use Rattle.log_client.proofs.TwoHolds.{low_at, high_at, parts_left, set_apart}
-use Rattle.log_client.proofs.BetweenHolds.{changes_two, between_ok, between_err}
+use Rattle.log_client.proofs.Pull.TwoHolds.{low_at, high_at, parts_left, set_apart}
+use Rattle.log_client.proofs.Pull.BetweenHolds.{changes_two, between_ok, between_err}
 use Rattle.log_client.proofs.pulls.pull_between.Goals as goal
 
 pub pull-requires-clause-to_hold : goal.pull-requires-clause-to_hold

@@ -10,7 +10,7 @@ use Rattle.chain_store.specs.Holds.{entries_seen, history_seen}
 use Rattle.chain_store.proofs.CallerLemmas.{goes_same, later_same, later_then}
 use Rattle.append_core.specs.Helping.{HelpsOpen, IsUnderClock}
 use Rattle.append_core.proofs.CallerLemmas.{helps_then, under_least}
-use Rattle.log_client.proofs.ClearedHolds.{ClearedFirst, all_cleared, cleared_next, next_of, none_cleared}
+use Rattle.log_client.proofs.Read.ClearedHolds.{ClearedFirst, all_cleared, cleared_next, next_of, none_cleared}
 use Rattle.log_client.proofs.reads.clear_all.Goals as goal
 
 pub loop-colour-init : goal.loop-colour-init

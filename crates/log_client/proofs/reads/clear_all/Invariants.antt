@@ -4,7 +4,7 @@ use Rattle.stamp_board.specs.Seats.{IsLater}
 use Rattle.chain_store.specs.Going.{GoesOn}
 use Rattle.chain_store.specs.Holds.{IsHold}
 use Rattle.append_core.specs.Helping.{HelpsOpen}
-use Rattle.log_client.proofs.ClearedHolds.{ClearedFirst}
+use Rattle.log_client.proofs.Read.ClearedHolds.{ClearedFirst}
 use Rattle.log_client.proofs.reads.clear_all.Given as goal
 
 -- the first colours are cleared

@@ -1,6 +1,6 @@
 use Rattle.std.proofs.Common.{ℕ, List, ◌∙◌, arith, refl, ap}
 use Rattle.object_fold.specs.Nodes.{shard_of}
-use Rattle.log_client.proofs.ObjectShards.{more_shards, all_keys}
+use Rattle.log_client.proofs.Object.ObjectShards.{more_shards, all_keys}
 use Rattle.log_client.proofs.shard_sets.key_shards.Goals as goal
 
 pub loop-key-init : goal.loop-key-init

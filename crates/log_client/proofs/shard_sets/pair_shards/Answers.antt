@@ -1,7 +1,7 @@
 use Rattle.std.proofs.Common.{◌∙◌, arith, refl, ap}
 use Rattle.log_node.specs.declared.forms.Pair.{Pair}
 use Rattle.object_fold.specs.Nodes.{shard_of}
-use Rattle.log_client.proofs.ObjectShards.{more_shards, all_shards}
+use Rattle.log_client.proofs.Object.ObjectShards.{more_shards, all_shards}
 use Rattle.log_client.proofs.shard_sets.pair_shards.Goals as goal
 
 pub loop-pair-init : goal.loop-pair-init

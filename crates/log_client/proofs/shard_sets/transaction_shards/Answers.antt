@@ -3,9 +3,9 @@ use Rattle.log_node.specs.declared.forms.Pair.{Pair}
 use Rattle.log_node.specs.declared.forms.Version.{Version}
 use Rattle.log_node.specs.Sets.{set_of}
 use Rattle.object_fold.specs.Nodes.{shard_of}
-use Rattle.lawful_run.specs.Asks.{keys_of}
+use Rattle.lawful_run.specs.Asks.{keys_of_pairs}
 use Rattle.log_client.specs.Objects.{version_keys}
-use Rattle.log_client.proofs.ObjectShards.{both_keys, more_behind, more_shards, shards_all}
+use Rattle.log_client.proofs.Object.ObjectShards.{both_keys, more_behind, more_shards, shards_all}
 use Rattle.log_client.proofs.shard_sets.transaction_shards.Goals as goal
 
 pub loop-version-init : goal.loop-version-init
@@ -37,7 +37,7 @@ loop-pair-preserved c =
 
 pub returns : goal.returns
 returns c =
-    both_keys c.args.colours.now (version_keys c.args.versions.now) (keys_of c.args.pairs.now)
+    both_keys c.args.colours.now (version_keys c.args.versions.now) (keys_of_pairs c.args.pairs.now)
     (map (λ (k : List ℕ). shard_of c.args.colours.now k) (version_keys c.args.versions.now))
     (map (λ (x : Pair). shard_of c.args.colours.now x.key) (take c.loop-pair.pair-index c.args.pairs.now)) c.loop-pair.set refl
     (shards_all (λ (p : Pair). p.key) c.args.colours.now c.args.pairs.now c.loop-pair.pair-index

@@ -3,7 +3,7 @@ use Rattle.std.specs.Prelude.{max}
 use Rattle.std.proofs.lemmas.List.{take_all}
 use Rattle.log_node.specs.Seen.{PlacedNode}
 use Rattle.lawful_run.specs.Reads.{greatest_stamp}
-use Rattle.log_client.proofs.Greatest.{greatest_more}
+use Rattle.log_client.proofs.Sync.Greatest.{greatest_more}
 use Rattle.log_client.proofs.syncs.greatest_stamp.Goals as goal
 
 pub loop-node-preserved : goal.loop-node-preserved

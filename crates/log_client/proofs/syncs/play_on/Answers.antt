@@ -3,7 +3,7 @@ use Rattle.log_node.specs.Seen.{PlacedNode}
 use Rattle.chain_store.specs.Regions.{tag_at}
 use Rattle.chain_store.specs.Holds.{seen_in}
 use Rattle.log_client.specs.declared.track.Track.{Track}
-use Rattle.log_client.proofs.Plays.{view_on, within_view, plays_on}
+use Rattle.log_client.proofs.Sync.Plays.{view_on, within_view, plays_on}
 use Rattle.log_client.proofs.syncs.play_on.Goals as goal
 
 pub play-requires-clause-cut : goal.play-requires-clause-cut

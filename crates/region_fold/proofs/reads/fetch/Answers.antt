@@ -1,10 +1,9 @@
-use Rattle.std.proofs.Common.{◌≡◌, List, ℕ, IfErr, IfOk, ap, sym, subst, ◌∙◌}
+use Rattle.std.proofs.Common.{List, ℕ, IfErr, IfOk, ap, sym, subst, ◌∙◌}
 use Rattle.log_node.specs.Sets.{members}
 use Rattle.log_node.proofs.CallerLemmas.{members-set_of}
 use Rattle.log_client.specs.Appends.{AreColoursOf}
-use Rattle.log_client.specs.Reading.{raised_colours, synced_colours}
 use Rattle.log_client.specs.StampedReads.{ReadHidden, ReadRefused}
-use Rattle.region_fold.proofs.ReadAnswers.{all_of_store, fetched}
+use Rattle.region_fold.proofs.ReadAnswers.{all_of_store, fetched, shows_each}
 use Rattle.region_fold.proofs.reads.fetch.Goals as goal
 
 pub read_on-requires-clause-colours : goal.read_on-requires-clause-colours
@@ -20,15 +19,11 @@ returns-clause-ok g c =
     (all_of_store c.args.store.now c.args.client.now c.args.colours.now c.requires.client c.requires.colours))
     (ap members c.of.ensures ∙ members-set_of c.args.colours.now) c.args.last c.read_on.result e.above e.ok e.named
 
-pub returns-clause-raises : goal.returns-clause-raises
-returns-clause-raises g c =
-    subst (λ (l : List ℕ). IfOk c.read_on.result (λ read. raised_colours read.raises ≡ l))
-    (ap members c.of.ensures ∙ members-set_of c.args.colours.now) c.read_on.ensures.raises
-
-pub returns-clause-syncs : goal.returns-clause-syncs
-returns-clause-syncs g c =
-    subst (λ (l : List ℕ). IfOk c.read_on.result (λ read. synced_colours read.syncs ≡ l))
-    (ap members c.of.ensures ∙ members-set_of c.args.colours.now) c.read_on.ensures.syncs
+pub returns-clause-shows : goal.returns-clause-shows
+returns-clause-shows g c =
+    let e = c.read_on.ensures in
+    shows_each c.args.client.now c.read_on.new.self c.args.colours.now (members c.of.result)
+    (ap members c.of.ensures ∙ members-set_of c.args.colours.now) c.read_on.result e.raises e.syncs e.played
 
 pub returns-clause-hidden : goal.returns-clause-hidden
 returns-clause-hidden g c =

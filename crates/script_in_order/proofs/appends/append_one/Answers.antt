@@ -7,7 +7,7 @@ use Rattle.world_laws.specs.Laws.{Always, LogGrows, IsFinal}
 use Rattle.world_laws.specs.Worlds.{World, home_history, next_id, after, reply}
 use Rattle.world_laws.specs.declared.steps.Reply.TheVariants.{Event}
 use Rattle.col_core.specs.History.{entry_key}
-use Rattle.script_in_order.specs.Helps.{Helps}
+use Rattle.script_in_order.specs.Helps.{HelpsLead}
 use Rattle.world_laws.proofs.CallerLemmas.{of_reached, after_reached}
 use Rattle.world_code.specs.Replies.{placed_reply}
 use Rattle.world_code.specs.WorldView.{world_of}
@@ -48,7 +48,7 @@ returns-in-None-clause-ok c =
 later : (w w1 new : World) (client colour place stamp : ℕ) (id : Id) (text : List ℕ) → IsReached w → Always LogGrows
     → Event place stamp ≡ reply w (Single client colour text) → w1 ≡ after w (Single client colour text)
     → id ≡ next_id w client
-    → Helps (λ grants h. cleared grants client (entry_key stamp id) h colour) w1 new
+    → HelpsLead (λ grants h. cleared grants client (entry_key stamp id) h colour) w1 new
     → IsFinal (home_history new client colour) id stamp
 later w w1 new client colour place stamp id text reached law answer is mine helps =
     let e = entered w client colour text place stamp answer in

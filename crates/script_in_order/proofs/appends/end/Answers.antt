@@ -17,10 +17,10 @@ use Rattle.report_text.specs.declared.report.Answer.TheVariants as answers
 use Rattle.world_laws.specs.Worlds.{World, home_history, run_steps, after}
 use Rattle.script_meaning.specs.Helping.{cleared}
 use Rattle.script_meaning.specs.Appends.{ended_colour}
-use Rattle.script_in_order.specs.Helps.{Helps}
+use Rattle.script_in_order.specs.Helps.{HelpsLead}
 use Rattle.world_laws.proofs.CallerLemmas.{of_reached}
 use Rattle.world_code.specs.WorldView.{world_of}
-use Rattle.script_in_order.specs.Points.{AreFinal, EndsAs, standing_in}
+use Rattle.script_in_order.specs.Points.{AreFinal, EndsByOutcome, standing_in}
 use Rattle.script_in_order.proofs.Finals.{final_later, run_shape}
 use Rattle.script_in_order.proofs.ListsChanged.{all_placed, all_there}
 use Rattle.script_in_order.proofs.AppendsAndStops.{ends_memory, ends_stamps, ends_final}
@@ -78,9 +78,9 @@ with_positions-requires c =
 as_gone : (w : World) (row : Row) (id : Id) (colours : List ℕ) (places : List PointPiece) (outcome : Outcome)
     (why : Why)
     (colour : ℕ) → outcome ≡ Gone why → why ≡ StampEnd → colour ≡ ended_colour w row colours
-    → EndsAs w row id colours outcome places w (answers.StampEnd colour)
+    → EndsByOutcome w row id colours outcome places w (answers.StampEnd colour)
 as_gone w row id colours places outcome why colour is reason e =
-    subst (λ (o : Outcome). EndsAs w row id colours o places w (answers.StampEnd colour)) (sym (is ∙ ap Gone reason))
+    subst (λ (o : Outcome). EndsByOutcome w row id colours o places w (answers.StampEnd colour)) (sym (is ∙ ap Gone reason))
     (ends_stamps w row id colours places colour e)
 
 pub returns-in-Gone-StampEnd : goal.returns-in-Gone-StampEnd
@@ -92,11 +92,11 @@ returns-in-Gone-StampEnd c =
 as_final : (w w2 new : World) (row : Row) (id : Id) (colours : List ℕ) (stamp : ℕ) (places points : List PointPiece)
     (outcome : Outcome) → outcome ≡ Final stamp
     → w2 ≡ after w (Seen row.client stamp)
-    → Helps (λ grants h. fold (cleared grants row.client (entry_key stamp id)) h colours) w2 new
+    → HelpsLead (λ grants h. fold (cleared grants row.client (entry_key stamp id)) h colours) w2 new
     → points ≡ map (standing_in new row.client id) places
-    → EndsAs w row id colours outcome places new (answers.Stood stamp (Some row.number) points)
+    → EndsByOutcome w row id colours outcome places new (answers.Stood stamp (Some row.number) points)
 as_final w w2 new row id colours stamp places points outcome is seen helps e =
-    subst (λ (o : Outcome). EndsAs w row id colours o places new (answers.Stood stamp (Some row.number) points))
+    subst (λ (o : Outcome). EndsByOutcome w row id colours o places new (answers.Stood stamp (Some row.number) points))
     (sym is)
     (ends_final w w2 new row id colours stamp places points seen helps e)
 
@@ -108,9 +108,9 @@ returns c =
     c.see.ensures c.clear_all.ensures.helps c.with_positions.ensures
 
 as_memory : (w : World) (row : Row) (id : Id) (colours : List ℕ) (places : List PointPiece) (outcome : Outcome) (why : Why)
-    → outcome ≡ Gone why → why ≡ Memory → EndsAs w row id colours outcome places w answers.NoMemory
+    → outcome ≡ Gone why → why ≡ Memory → EndsByOutcome w row id colours outcome places w answers.NoMemory
 as_memory w row id colours places outcome why is reason =
-    subst (λ (o : Outcome). EndsAs w row id colours o places w answers.NoMemory) (sym (is ∙ ap Gone reason))
+    subst (λ (o : Outcome). EndsByOutcome w row id colours o places w answers.NoMemory) (sym (is ∙ ap Gone reason))
     (ends_memory w row id colours places)
 
 pub returns-in-Gone-Memory : goal.returns-in-Gone-Memory

@@ -2,7 +2,7 @@ use Rattle.std.proofs.Common.{ℕ, [], ◌∷◌, ◌∙◌, ap, sym}
 use Rattle.world_laws.specs.declared.steps.Step.TheVariants.{Play}
 use Rattle.world_code.specs.WorldView.{world_of}
 use Rattle.script_meaning.specs.CausalGets.{causal_values}
-use Rattle.script_in_order.specs.CausalFolds.{cut_of, held_nodes}
+use Rattle.script_in_order.specs.CausalFolds.{cut_to_play, held_nodes}
 use Rattle.script_in_order.proofs.CausalSteps.{got_all, got_refused}
 use Rattle.script_in_order.proofs.FoldsKept.{folds_stay}
 use Rattle.script_in_order.proofs.causal.get_values.Goals as goal
@@ -21,7 +21,7 @@ returns-clause-ok c =
     got_all c.args.command.now w (world_of c.play-played.new.self) c.args.colour c.args.key.now c.in_ok-values.values
     c.sync_now-sync.result (c.trimmed_base.ensures.none c.in_default.is)
     (c.in_ok-values.ensures.values
-    ∙ ap (λ (own : ℕ). causal_values (held_nodes w own c.args.colour (cut_of w own c.args.colour)) c.args.key.now)
+    ∙ ap (λ (own : ℕ). causal_values (held_nodes w own c.args.colour (cut_to_play w own c.args.colour)) c.args.key.now)
     c.home-own.ensures.home)
     c.sync_now-sync.ensures c.play-played.ensures.world
 

@@ -4,7 +4,7 @@ use Rattle.log_node.specs.declared.node.Node.{Node}
 use Rattle.log_node.specs.Vectors.{at, vector, is_within}
 use Rattle.col_core.specs.Rows.{node_wants}
 use Rattle.world_code.specs.WorldView.{world_of}
-use Rattle.script_in_order.specs.CausalFolds.{place_at, held_node, cut_of}
+use Rattle.script_in_order.specs.CausalFolds.{place_at, held_node, cut_to_play}
 use Rattle.script_in_order.proofs.CausalSteps.{is_held, is_next_by}
 use Rattle.script_in_order.proofs.causal.is_next.Goals as goal
 
@@ -25,8 +25,8 @@ returns c =
     let region = c.args.region in
     let counts = c.args.counts in
     let node = c.node_at-node.result.now.value in
-    let less : at counts region < at (cut_of w own colour) region =
-    subst (λ (n : ℕ). n < at (cut_of w own colour) region) c.of_region-position.ensures
+    let less : at counts region < at (cut_to_play w own colour) region =
+    subst (λ (n : ℕ). n < at (cut_to_play w own colour) region) c.of_region-position.ensures
     (subst (λ (v : Counts). c.of_region-position.result < at v region) c.requires.cut
     (subst (λ (n : ℕ). c.of_region-position.result < n) c.of_region.ensures c.if-position-of_region.false)) in
     let there : held_node w own colour (place_at region (at counts region))

@@ -1,7 +1,7 @@
 use Rattle.std.proofs.Common.{◌≡◌, ℕ, Some, length}
 use Rattle.std.specs.Prelude.{slice_get}
 use Rattle.world_laws.specs.Worlds.{World}
-use Rattle.script_in_order.specs.declared.causal.CausalFold.{CausalFold}
+use Rattle.object_fold.specs.declared.causal_map.CausalMap.{CausalMap}
 use Rattle.script_in_order.specs.CausalFolds.{IsCausalFold}
 use Rattle.script_in_order.proofs.folds.open_causal.Given as goal
 
@@ -9,6 +9,6 @@ use Rattle.script_in_order.proofs.folds.open_causal.Given as goal
 abbrev pub invariant-loop : goal.invariant-loop
 invariant-loop l = record {
   many : length l.folds.items ≡ l.counter;
-  each : (n : ℕ) (fold : CausalFold) → slice_get l.folds.items n ≡ Some fold
+  each : (n : ℕ) (fold : CausalMap) → slice_get l.folds.items n ≡ Some fold
       → (w : World) (own colour : ℕ) → IsCausalFold w own colour fold;
 }

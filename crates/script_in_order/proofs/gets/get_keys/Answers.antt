@@ -14,7 +14,7 @@ use Rattle.script_meaning.specs.Gets.{key_answers, value_up_to}
 use Rattle.script_meaning.specs.Stamped.{Whole, Refused, Unraised, keys_read}
 use Rattle.script_in_order.specs.declared.stamped.Stamped.{Stamped}
 use Rattle.script_in_order.specs.declared.stamped.Stamped.TheVariants as stamped
-use Rattle.script_in_order.specs.Stamped.{Reads, end_in}
+use Rattle.script_in_order.specs.Stamped.{ReadsStamped, end_in}
 use Rattle.script_in_order.specs.Folds.{ShardsWithin}
 use Rattle.script_in_order.proofs.FoldsKept.{folds_stay}
 use Rattle.script_in_order.proofs.ObjectHomes.{map_at}
@@ -40,7 +40,7 @@ values_up_to-requires-clause-at_home c =
     let client = c.args.command.now.client in
     let cs = members c.key_shards-colours.result in
     let at = map_at (home_of w client) c.args.objects.now c.args.object c.requires.near c.requires.uses.0 in
-    let reads = subst (λ (s : Stamped). Reads w v client cs (end_in v client cs s)) c.in-Whole.is
+    let reads = subst (λ (s : Stamped). ReadsStamped w v client cs (end_in v client cs s)) c.in-Whole.is
     c.in_ok-stamped_read.ensures.ok in
     let to = read_to w v client cs
     (Whole c.in-Whole.stamp c.in-Whole.raises c.in-Whole.syncs (keys_read v client c.in-Whole.stamp cs)) reads in (
@@ -54,7 +54,7 @@ values_up_to-requires-clause-folded c =
     let v = world_of c.stamped_read.new.world in
     let client = c.args.command.now.client in
     let cs = members c.key_shards-colours.result in
-    let reads = subst (λ (s : Stamped). Reads w v client cs (end_in v client cs s)) c.in-Whole.is
+    let reads = subst (λ (s : Stamped). ReadsStamped w v client cs (end_in v client cs s)) c.in-Whole.is
     c.in_ok-stamped_read.ensures.ok in
     folds_stay w v c.is_whole.ensures.reached
     (read_to w v client cs
@@ -73,7 +73,7 @@ values_up_to-requires-clause-behind c =
     let reads = reads_same w v client cs wanted s
     (set_is c.args.objects.now c.args.object c.index-objects-object.result c.key_shards-colours.result
     c.as_slice.result.now c.args.keys.now c.requires.uses.0 c.key_shards-colours.ensures c.as_slice.ensures)
-    (subst (λ (x : Stamped). Reads w v client cs (end_in v client cs x)) c.in-Whole.is
+    (subst (λ (x : Stamped). ReadsStamped w v client cs (end_in v client cs x)) c.in-Whole.is
     c.in_ok-stamped_read.ensures.ok) in
     subst (λ (l : List (List ℕ)). ShardsWithin c.args.folds.now c.args.object
     (shards (object_colours (kind_in c.args.objects.now c.args.object)) l)
@@ -94,7 +94,7 @@ returns-in-Unraised-clause-ok c =
     (reads_same w v command.client cs wanted stamped.Unraised
     (set_is c.args.objects.now c.args.object c.index-objects-object.result c.key_shards-colours.result
     c.as_slice.result.now c.args.keys.now c.requires.uses.0 c.key_shards-colours.ensures c.as_slice.ensures)
-    (subst (λ (x : Stamped). Reads w v command.client cs (end_in v command.client cs x)) c.in-Unraised.is
+    (subst (λ (x : Stamped). ReadsStamped w v command.client cs (end_in v command.client cs x)) c.in-Unraised.is
     c.in_ok-stamped_read.ensures.ok)) refl
 
 pub returns-in-Unraised-clause-folded : goal.returns-in-Unraised-clause-folded
@@ -105,7 +105,7 @@ returns-in-Unraised-clause-folded c =
     let cs = members c.key_shards-colours.result in
     folds_stay w v c.is_whole.ensures.reached
     (read_to w v client cs Unraised
-    (subst (λ (x : Stamped). Reads w v client cs (end_in v client cs x)) c.in-Unraised.is
+    (subst (λ (x : Stamped). ReadsStamped w v client cs (end_in v client cs x)) c.in-Unraised.is
     c.in_ok-stamped_read.ensures.ok))
     c.args.objects.now c.args.folds.now c.requires.folded
 
@@ -121,7 +121,7 @@ returns-in-Refused-clause-ok c =
     (reads_same w v command.client cs wanted (stamped.Refused c.in-Refused.colour c.in-Refused.base)
     (set_is c.args.objects.now c.args.object c.index-objects-object.result c.key_shards-colours.result
     c.as_slice.result.now c.args.keys.now c.requires.uses.0 c.key_shards-colours.ensures c.as_slice.ensures)
-    (subst (λ (x : Stamped). Reads w v command.client cs (end_in v command.client cs x)) c.in-Refused.is
+    (subst (λ (x : Stamped). ReadsStamped w v command.client cs (end_in v command.client cs x)) c.in-Refused.is
     c.in_ok-stamped_read.ensures.ok)) refl
 
 pub returns-in-Refused-clause-folded : goal.returns-in-Refused-clause-folded
@@ -132,7 +132,7 @@ returns-in-Refused-clause-folded c =
     let cs = members c.key_shards-colours.result in
     folds_stay w v c.is_whole.ensures.reached
     (read_to w v client cs (Refused c.in-Refused.colour c.in-Refused.base)
-    (subst (λ (x : Stamped). Reads w v client cs (end_in v client cs x)) c.in-Refused.is
+    (subst (λ (x : Stamped). ReadsStamped w v client cs (end_in v client cs x)) c.in-Refused.is
     c.in_ok-stamped_read.ensures.ok))
     c.args.objects.now c.args.folds.now c.requires.folded
 
@@ -149,7 +149,7 @@ returns-in-Ok-clause-ok c =
     (stamped.Whole c.in-Whole.stamp c.in-Whole.raises c.in-Whole.syncs)
     (set_is c.args.objects.now c.args.object c.index-objects-object.result c.key_shards-colours.result
     c.as_slice.result.now c.args.keys.now c.requires.uses.0 c.key_shards-colours.ensures c.as_slice.ensures)
-    (subst (λ (x : Stamped). Reads w v command.client cs (end_in v command.client cs x)) c.in-Whole.is
+    (subst (λ (x : Stamped). ReadsStamped w v command.client cs (end_in v command.client cs x)) c.in-Whole.is
     c.in_ok-stamped_read.ensures.ok))
     (answers.GotKeys c.in-Whole.stamp c.in-Ok.keys c.in-Whole.raises c.in-Whole.syncs) []
     (ap (λ (l : List KeyAnswer). answers.GotKeys c.in-Whole.stamp l c.in-Whole.raises c.in-Whole.syncs)
@@ -170,5 +170,5 @@ returns-in-Err-clause-ok c =
     (stamped.Whole c.in-Whole.stamp c.in-Whole.raises c.in-Whole.syncs)
     (set_is c.args.objects.now c.args.object c.index-objects-object.result c.key_shards-colours.result
     c.as_slice.result.now c.args.keys.now c.requires.uses.0 c.key_shards-colours.ensures c.as_slice.ensures)
-    (subst (λ (x : Stamped). Reads w v command.client cs (end_in v command.client cs x)) c.in-Whole.is
+    (subst (λ (x : Stamped). ReadsStamped w v command.client cs (end_in v command.client cs x)) c.in-Whole.is
     c.in_ok-stamped_read.ensures.ok)) [] refl

@@ -3,7 +3,7 @@ use Rattle.std.proofs.lemmas.List.{take_all}
 use Rattle.log_node.specs.declared.ids.Key.{Key}
 use Rattle.object_fold.specs.Nodes.{ObjectNode}
 use Rattle.world_code.specs.WorldView.{world_of}
-use Rattle.script_meaning.specs.Dequeues.{object_at}
+use Rattle.script_meaning.specs.Dequeues.{object_node_at}
 use Rattle.script_in_order.proofs.ReadTold.{key_at, is_there, no_others, stands_at}
 use Rattle.script_in_order.proofs.LinesFeeds.{its_text, none_behind, more_behind, found_next, found_all}
 use Rattle.script_in_order.proofs.lines_fold.feed_for.Goals as goal
@@ -11,7 +11,7 @@ use Rattle.script_in_order.proofs.lines_fold.feed_for.Goals as goal
 pub loop-key-init : goal.loop-key-init
 loop-key-init g c = record {
   folded = λ before is.
-      subst (λ (l : List Key). g.F.NodeFold.Holds c.args.kept.now.state (map (object_at (world_of c.args.world.now)) l))
+      subst (λ (l : List Key). g.F.NodeFold.Holds c.args.kept.now.state (map (object_node_at (world_of c.args.world.now)) l))
       (sym (none_behind before)) is;
   is_found = λ before is others. no_others c.args.own;
 }
@@ -32,13 +32,13 @@ loop-key-preserved g c =
       folded = λ before is.
           subst (λ (ns : List ObjectNode). g.F.NodeFold.Holds c.feed.new.self.state ns)
           (more_behind w before keys i key c.loop-key-test.true there)
-          (c.in_ok-told.ensures.ok (map (object_at w) (before ++ take i keys))
-          (object_at w key) refl (its_text w key c.node_of.result.now c.node_of.ensures)
+          (c.in_ok-told.ensures.ok (map (object_node_at w) (before ++ take i keys))
+          (object_node_at w key) refl (its_text w key c.node_of.result.now c.node_of.ensures)
           (c.loop-key.invariant.folded before is));
       is_found = λ before is others.
           found_next g.F.NodeFold.told w c.args.own before keys others i key c.in_ok-told.told c.loop-key.found
           c.found_with-found.result c.loop-key-test.true there
-          (c.in_ok-told.ensures.told (map (object_at w) (before ++ take i keys)) (object_at w key) refl
+          (c.in_ok-told.ensures.told (map (object_node_at w) (before ++ take i keys)) (object_node_at w key) refl
           (its_text w key c.node_of.result.now c.node_of.ensures) (c.loop-key.invariant.folded before is))
           c.found_with-found.ensures (c.loop-key.invariant.is_found before is others);
     }
@@ -54,5 +54,5 @@ returns-clause-told g c = λ before is others.
 pub returns-clause-folded : goal.returns-clause-folded
 returns-clause-folded g c = λ before is.
     subst
-    (λ (ks : List Key). g.F.NodeFold.Holds c.loop-key.kept.state (map (object_at (world_of c.args.world.now)) (before ++ ks)))
+    (λ (ks : List Key). g.F.NodeFold.Holds c.loop-key.kept.state (map (object_node_at (world_of c.args.world.now)) (before ++ ks)))
     (take_all c.loop-key.key-index c.args.keys.now c.loop-key-test.false) (c.loop-key.invariant.folded before is)

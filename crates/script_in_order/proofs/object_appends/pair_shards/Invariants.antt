@@ -1,10 +1,10 @@
 use Rattle.std.proofs.Common.{◌≡◌, map, take, Some}
 use Rattle.log_node.specs.Sets.{set_of}
 use Rattle.object_fold.specs.Nodes.{shard_of}
-use Rattle.lawful_run.specs.Asks.{object_colours, keys_of}
+use Rattle.lawful_run.specs.Asks.{object_colours, keys_of_pairs}
 use Rattle.script_in_order.proofs.object_appends.pair_shards.Given as goal
 
 -- the shards of the keys so far
 abbrev pub invariant-loop-pair : goal.invariant-loop-pair
 invariant-loop-pair l =
-    l.set ≡ set_of (map (shard_of (object_colours (Some l.kind))) (keys_of (take l.pair-index l.pairs)))
+    l.set ≡ set_of (map (shard_of (object_colours (Some l.kind))) (keys_of_pairs (take l.pair-index l.pairs)))

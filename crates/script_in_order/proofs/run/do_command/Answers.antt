@@ -1,6 +1,6 @@
 use Rattle.std.proofs.Common.{◌∙◌, ◌<◌, sym, subst, ap, set, length}
 use Rattle.world_code.specs.WorldView.{world_of}
-use Rattle.script_in_order.specs.Runs.{RepliesView, IsDone, with_reply, no_replies, read_at}
+use Rattle.script_in_order.specs.Runs.{RepliesView, IsDone, with_reply, no_replies, found_at}
 use Rattle.script_in_order.specs.Transacting.{AreFit, Transacts}
 use Rattle.script_in_order.proofs.RunReplies.{command_done, transaction_done, any_default}
 use Rattle.script_in_order.proofs.TransactionSteps.{object_there}
@@ -35,7 +35,7 @@ do_transaction-requires c =
       kind = sym c.transaction_of.ensures ∙ c.in-Some.is;
       fits = c.requires.fits;
       reads = ap (λ (r : RepliesView). length r.reads) is ∙ c.requires.reads;
-      rests = subst (λ (r : RepliesView). AreFit (read_at r.reads)) (sym is) c.requires.rests;
+      rests = subst (λ (r : RepliesView). AreFit (found_at r.reads)) (sym is) c.requires.rests;
       room = subst (λ (r : RepliesView). 0 < r.room) (sym is) c.requires.room;
       folded = c.requires.folded;
     }

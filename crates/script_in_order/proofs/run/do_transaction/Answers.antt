@@ -1,6 +1,6 @@
 use Rattle.std.proofs.Common.{◌∙◌, ℕ, ◌<◌, ap, sym, subst}
 use Rattle.world_code.specs.WorldView.{world_of}
-use Rattle.script_in_order.specs.Runs.{RepliesView, with_reply, with_read, reply_of}
+use Rattle.script_in_order.specs.Runs.{RepliesView, with_reply, with_read_found, reply_of}
 use Rattle.script_in_order.proofs.TransactionSteps.{object_there, taken_fits, still_there, did_transact, transacts_none}
 use Rattle.script_in_order.proofs.run.do_transaction.Goals as goal
 
@@ -24,7 +24,7 @@ pub add-requires : goal.add-requires
 add-requires c =
     subst (λ (r : RepliesView). 0 < r.room)
     (sym (c.keep_read.ensures
-    ∙ ap (λ (r : RepliesView). with_read r c.args.object c.in-Ok.kept) c.take_read-taken.ensures.reads))
+    ∙ ap (λ (r : RepliesView). with_read_found r c.args.object c.in-Ok.kept) c.take_read-taken.ensures.reads))
     c.requires.room
 
 pub add-requires-in-Err : goal.add-requires-in-Err
@@ -39,7 +39,7 @@ returns-in-Ok-clause-done c =
     (c.reply_of.ensures ∙ ap (reply_of c.args.command.now c.in-Ok.answer) c.new.ensures)
     (c.add.ensures ∙ ap (λ (r : RepliesView). with_reply r c.reply_of.result)
     (c.keep_read.ensures
-    ∙ ap (λ (r : RepliesView). with_read r c.args.object c.in-Ok.kept) c.take_read-taken.ensures.reads))
+    ∙ ap (λ (r : RepliesView). with_read_found r c.args.object c.in-Ok.kept) c.take_read-taken.ensures.reads))
 
 pub returns-in-Err-clause-done : goal.returns-in-Err-clause-done
 returns-in-Err-clause-done c =

@@ -5,7 +5,7 @@ use Rattle.log_node.specs.declared.ids.Key.{Key}
 use Rattle.log_node.specs.Seen.{PlacedNode}
 use Rattle.log_node.specs.Sets.{members}
 use Rattle.world_code.specs.WorldView.{world_of}
-use Rattle.script_meaning.specs.Helping.{node_with}
+use Rattle.script_meaning.specs.Helping.{node_by_id}
 use Rattle.script_meaning.specs.Stamped.{shown_key, keys_read}
 use Rattle.script_meaning.proofs.CallerLemmas.{keys_listed}
 use Rattle.script_in_order.proofs.StampedWholes.{all_listed}
@@ -15,7 +15,7 @@ pub shown_keys-requires : goal.shown_keys-requires
 shown_keys-requires c =
     let w = world_of c.args.world.now in
     let cs = members c.args.colours in record {
-      listed = subst (All (λ (key : Key). node_with w key.id ≢ None))
+      listed = subst (All (λ (key : Key). node_by_id w key.id ≢ None))
           (sym (c.as_slice.ensures.value ∙ c.in_ok-keys.ensures))
           (all_listed w (keys_read w c.args.client c.args.stamp cs)
           (keys_listed w c.agrees.ensures c.args.client c.args.stamp cs));

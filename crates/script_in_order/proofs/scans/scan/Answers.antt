@@ -3,7 +3,7 @@ use Rattle.log_node.specs.Sets.{members}
 use Rattle.world_code.specs.WorldView.{world_of}
 use Rattle.script_meaning.specs.Stamped.{keys_read}
 use Rattle.script_in_order.specs.declared.stamped.Stamped.{Stamped}
-use Rattle.script_in_order.specs.Stamped.{Reads, end_in}
+use Rattle.script_in_order.specs.Stamped.{ReadsStamped, end_in}
 use Rattle.script_in_order.proofs.StampedWholes.{scan_answers, scan_shows, scans_whole, told_without, told_refused, told_unraised}
 use Rattle.script_in_order.proofs.scans.scan.Goals as goal
 
@@ -14,7 +14,7 @@ returns-in-Unraised-clause-ok c =
     let command = c.args.command.now in
     let cs = members c.args.colours in
     told_unraised old new command cs scan_answers scan_shows c.new.result
-    (subst (λ (s : Stamped). Reads old new command.client cs (end_in new command.client cs s)) c.in-Unraised.is
+    (subst (λ (s : Stamped). ReadsStamped old new command.client cs (end_in new command.client cs s)) c.in-Unraised.is
     c.in_ok-stamped_read.ensures.ok) c.new.ensures
 
 pub returns-in-Refused-clause-ok : goal.returns-in-Refused-clause-ok
@@ -24,7 +24,7 @@ returns-in-Refused-clause-ok c =
     let command = c.args.command.now in
     let cs = members c.args.colours in
     told_refused old new command cs scan_answers scan_shows c.in-Refused.colour c.in-Refused.base c.new-in-Refused.result
-    (subst (λ (s : Stamped). Reads old new command.client cs (end_in new command.client cs s)) c.in-Refused.is
+    (subst (λ (s : Stamped). ReadsStamped old new command.client cs (end_in new command.client cs s)) c.in-Refused.is
     c.in_ok-stamped_read.ensures.ok) c.new-in-Refused.ensures
 
 pub returns-in-Ok-clause-ok : goal.returns-in-Ok-clause-ok
@@ -35,7 +35,7 @@ returns-in-Ok-clause-ok c =
     let cs = members c.args.colours in
     scans_whole old new command cs c.in-Whole.stamp c.len-nodes.result c.in-Whole.raises c.in-Whole.syncs
     (keys_read new command.client c.in-Whole.stamp cs) c.in-Ok.items
-    (subst (λ (s : Stamped). Reads old new command.client cs (end_in new command.client cs s)) c.in-Whole.is
+    (subst (λ (s : Stamped). ReadsStamped old new command.client cs (end_in new command.client cs s)) c.in-Whole.is
     c.in_ok-stamped_read.ensures.ok) c.in-Ok.ensures c.len-nodes.ensures
 
 pub returns-in-Err-clause-ok : goal.returns-in-Err-clause-ok
@@ -46,5 +46,5 @@ returns-in-Err-clause-ok c =
     let cs = members c.args.colours in
     told_without old new command cs scan_answers scan_shows c.in-Whole.stamp c.in-Whole.raises c.in-Whole.syncs
     (keys_read new command.client c.in-Whole.stamp cs)
-    (subst (λ (s : Stamped). Reads old new command.client cs (end_in new command.client cs s)) c.in-Whole.is
+    (subst (λ (s : Stamped). ReadsStamped old new command.client cs (end_in new command.client cs s)) c.in-Whole.is
     c.in_ok-stamped_read.ensures.ok) c.new-in-Err.result c.new-in-Err.ensures

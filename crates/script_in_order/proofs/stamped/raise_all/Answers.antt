@@ -3,7 +3,7 @@ use Rattle.log_node.specs.declared.node.Shape.{Shape}
 use Rattle.log_node.specs.Sets.{members}
 use Rattle.world_code.specs.WorldView.{WorldView, world_of}
 use Rattle.world_laws.specs.Worlds.{World}
-use Rattle.script_in_order.specs.Stamped.{Raises}
+use Rattle.script_in_order.specs.Stamped.{RaisesColumns}
 use Rattle.script_in_order.proofs.StampedSteps.{raised_none, raised_next, raised_all, raised_to}
 use Rattle.script_in_order.proofs.stamped.raise_all.Goals as goal
 
@@ -21,7 +21,7 @@ raise-requires c = record {
 
 pub returns-then-not-raise-clause-raises : goal.returns-then-not-raise-clause-raises
 returns-then-not-raise-clause-raises c =
-    subst (λ (x : World). Raises (world_of c.args.world.now) c.args.client c.args.stamp (members c.args.colours) x
+    subst (λ (x : World). RaisesColumns (world_of c.args.world.now) c.args.client c.args.stamp (members c.args.colours) x
     (Some c.in-Some.colour)) (ap (λ (x : WorldView). world_of x) (sym (c.if-not-raise.ensures.err refl)))
     (raised_to (world_of c.args.world.now) (world_of c.loop-colour.world) c.args.client c.args.stamp c.in-Some.colour
     c.loop-colour.colour-iterator c.next.new.self c.args.colours c.in-Some.ensures.steps c.loop-colour.invariant.raises)

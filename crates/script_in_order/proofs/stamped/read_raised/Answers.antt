@@ -8,7 +8,7 @@ use Rattle.world_code.specs.WorldView.{world_of}
 use Rattle.world_laws.specs.Worlds.{base_after}
 use Rattle.script_meaning.specs.Helping.{cleared}
 use Rattle.script_meaning.specs.Stamped.{played}
-use Rattle.script_in_order.specs.Helps.{Helps}
+use Rattle.script_in_order.specs.Helps.{HelpsLead}
 use Rattle.script_in_order.specs.Stamped.{looked_in}
 use Rattle.script_in_order.proofs.StampedWholes.{all_looked, looks_are, see_shape, reads_refused, reads_whole}
 use Rattle.script_in_order.proofs.stamped.read_raised.Goals as goal
@@ -27,7 +27,7 @@ returns-in-Some-clause-reads c =
     let new = world_of c.play_all.new.world in
     let cs = members c.args.colours in
     reads_refused old mid new c.args.client c.args.stamp cs c.args.raises c.in-Some.colour c.base-base.result
-    (subst (λ (key : Key). Helps (λ grants h. fold (cleared grants c.args.client key) h cs) old mid)
+    (subst (λ (key : Key). HelpsLead (λ grants h. fold (cleared grants c.args.client key) h cs) old mid)
     c.key_above.ensures c.clear_all.ensures.helps)
     c.in-Some.ensures.plays
     (c.base-base.ensures ∙ ap (λ (r : ℕ). base_after new.shape.regions r (new.histories r c.in-Some.colour))
@@ -41,7 +41,7 @@ returns-clause-reads c =
     let cs = members c.args.colours in
     reads_whole old mid last (world_of c.see.new.self) c.args.client c.args.stamp cs c.args.raises
     c.with_looks-syncs.result
-    (subst (λ (key : Key). Helps (λ grants h. fold (cleared grants c.args.client key) h cs) old mid)
+    (subst (λ (key : Key). HelpsLead (λ grants h. fold (cleared grants c.args.client key) h cs) old mid)
     c.key_above.ensures c.clear_all.ensures.helps)
     (subst (λ (o : Option ℕ). played c.args.client mid cs ≡ record { world = last; stopped = o }) c.in_default.is
     c.play_all.ensures.plays)

@@ -1,15 +1,18 @@
-use Rattle.std.proofs.Common.{◌∙◌, get_or, ap, sym, subst}
+use Rattle.std.proofs.Common.{◌≡◌, ◌∙◌, List, get_or, set, refl, ap, sym, subst}
 use Rattle.log_node.specs.declared.forms.Form.TheVariants as forms
-use Rattle.log_node.specs.Sets.{members}
-use Rattle.object_form.specs.Forms.{IsForm}
+use Rattle.object_form.specs.Forms.{IsForm, form_text}
+use Rattle.script_text.specs.declared.script.Kind.TheVariants as kinds
 use Rattle.script_text.specs.Fitting.{is_tx}
 use Rattle.world_code.specs.WorldView.{world_of}
+use Rattle.script_meaning.specs.Transactions.{verdict_tells}
 use Rattle.script_meaning.proofs.CallerLemmas.{pairs_are}
-use Rattle.world_laws.specs.Worlds.{World}
+use Rattle.script_in_order.specs.declared.folds.Fold.{Fold}
+use Rattle.script_in_order.specs.declared.folds.Fold.TheVariants as folds
 use Rattle.script_in_order.specs.Folds.{AreFolded}
-use Rattle.script_in_order.proofs.FoldsKept.{folds_stay}
+use Rattle.script_in_order.proofs.FoldsKept.{fold_there, fold_put, tx_of, only_tx}
 use Rattle.script_in_order.proofs.ObjectSteps.{kind_is, small}
-use Rattle.script_in_order.proofs.TransactionSteps.{tx_is, tx_members, tx_low, tx_some, set_made, its_some, its_low, tx_at, appended_to, client_after, below_after, stood_ruled, not_stood}
+use Rattle.script_in_order.proofs.TellSteps.{folds_after}
+use Rattle.script_in_order.proofs.TransactionSteps.{tx_is, tx_members, tx_low, tx_some, set_made, its_set, its_some, its_low, tx_at, commit_told}
 use Rattle.script_in_order.proofs.transactions.commit_on.Goals as goal
 
 pub all_colours-colours-requires-clause-tx : goal.all_colours-colours-requires-clause-tx
@@ -30,115 +33,75 @@ shards_of-set-requires c =
     (get_or c.args.objects.now c.args.object c.index-objects-object.result).kind
     (kind_is c.args.objects.now c.args.object c.index-objects-object.result c.requires.uses.0)
 
-pub append_form-requires-clause-form : goal.append_form-requires-clause-form
-append_form-requires-clause-form c =
+pub write_form-requires : goal.write_form-requires
+write_form-requires c =
     subst IsForm (sym (ap (forms.Transaction c.args.reads) (c.in_ok-writes.ensures ∙ c.as_slice-3.ensures)))
     (c.requires.rests, pairs_are 2 c.args.pairs.now c.requires.uses.1)
 
-pub append_form-requires-clause-many : goal.append_form-requires-clause-many
-append_form-requires-clause-many c =
-    its_some c.args.objects.now c.args.command.now c.args.object c.args.pairs.now c.args.reads
-    c.args.world.now.shape.regions c.args.world.now.shape.colours c.is_whole.ensures.few_colours c.requires.kinds
-    c.index-objects-object.result c.requires.uses.0 c.shards_of-set.result
-    (set_made c.args.objects.now c.args.command.now c.args.object c.args.pairs.now c.args.reads
-    c.index-objects-object.result c.requires.uses.0 c.shards_of-set.result c.as_slice.result.now c.as_slice-2.result.now
-    c.shards_of-set.ensures c.as_slice.ensures c.as_slice-2.ensures) c.requires.uses.1
-
-pub append_form-requires-clause-within : goal.append_form-requires-clause-within
-append_form-requires-clause-within c =
-    its_low c.args.objects.now c.args.command.now c.args.object c.args.pairs.now c.args.reads
-    c.args.world.now.shape.regions c.args.world.now.shape.colours c.is_whole.ensures.few_colours c.requires.kinds
-    c.index-objects-object.result c.requires.uses.0 c.shards_of-set.result
-    (set_made c.args.objects.now c.args.command.now c.args.object c.args.pairs.now c.args.reads
-    c.index-objects-object.result c.requires.uses.0 c.shards_of-set.result c.as_slice.result.now c.as_slice-2.result.now
-    c.shards_of-set.ensures c.as_slice.ensures c.as_slice-2.ensures)
-
-pub rule-requires : goal.rule-requires
-rule-requires c =
-    let set_is = set_made c.args.objects.now c.args.command.now c.args.object c.args.pairs.now c.args.reads
-    c.index-objects-object.result c.requires.uses.0 c.shards_of-set.result c.as_slice.result.now c.as_slice-2.result.now
-    c.shards_of-set.ensures c.as_slice.ensures c.as_slice-2.ensures in
-    let form_is = ap (forms.Transaction c.args.reads) (c.in_ok-writes.ensures ∙ c.as_slice-3.ensures) in record {
-      caller = client_after c.args.objects.now c.args.command.now c.args.object c.args.pairs.now c.args.reads
-          (world_of c.args.world.now) (world_of c.append_form.new.world) c.in_ok-other.other
-          c.shards_of-set.result (forms.Transaction c.args.reads c.in_ok-writes.writes) set_is form_is
-          c.in_ok-other.ensures.ok c.requires.caller;
-      within = below_after c.args.objects.now c.args.command.now c.args.object c.args.pairs.now c.args.reads
-          (world_of c.args.world.now) (world_of c.append_form.new.world) c.in_ok-other.other
-          c.shards_of-set.result (forms.Transaction c.args.reads c.in_ok-writes.writes) set_is form_is
-          c.in_ok-other.ensures.ok c.all_colours-colours.result
-          (tx_low c.args.world.now.shape.regions c.args.world.now.shape.colours c.is_whole.ensures.few_colours
-          c.args.objects.now c.requires.kinds c.args.object c.requires.uses.0 c.index-objects-object.result
-          c.all_colours-colours.result c.all_colours-colours.ensures);
-      some = tx_some c.args.world.now.shape.regions c.args.world.now.shape.colours c.is_whole.ensures.few_colours
-          c.args.objects.now c.requires.kinds c.args.object c.requires.uses.0 c.index-objects-object.result
-          c.all_colours-colours.result c.all_colours-colours.ensures;
-      may = (
-        c.args.objects.now,
-        tx_at c.args.objects.now c.args.object c.requires.uses.0,
-        folds_stay (world_of c.args.world.now) (world_of c.append_form.new.world) c.is_whole.ensures.reached
-            (appended_to c.args.objects.now c.args.command.now c.args.object c.args.pairs.now c.args.reads
-            (world_of c.args.world.now) (world_of c.append_form.new.world) c.in_ok-other.other
-            c.shards_of-set.result (forms.Transaction c.args.reads c.in_ok-writes.writes) set_is form_is
-            c.in_ok-other.ensures.ok) c.args.objects.now c.args.folds.now c.requires.folded,
-      );
+pub append_and_tell-requires : goal.append_and_tell-requires
+append_and_tell-requires c =
+    let w = world_of c.args.world.now in
+    let regions = c.args.world.now.shape.regions in
+    let count = c.args.world.now.shape.colours in
+    let few = c.is_whole.ensures.few_colours in
+    let objects = c.args.objects.now in
+    let object = c.args.object in
+    let has = c.requires.uses.0 in
+    let other = c.index-objects-object.result in
+    let set_is = set_made objects c.args.command.now object c.args.pairs.now c.args.reads other has c.shards_of-set.result
+    c.as_slice.result.now c.as_slice-2.result.now c.shards_of-set.ensures c.as_slice.ensures c.as_slice-2.ensures in
+    let there = subst (λ (l : List Fold). c.index_mut.result.now ≡ get_or l object c.index_mut.result.now)
+    c.folds.view_is c.index_mut.ensures.value in record {
+      caller = c.requires.caller;
+      within = tx_low regions count few objects c.requires.kinds object has other c.all_colours-colours.result
+          c.all_colours-colours.ensures;
+      some = tx_some regions count few objects c.requires.kinds object has other c.all_colours-colours.result
+          c.all_colours-colours.ensures;
+      set = its_low objects c.args.command.now object c.args.pairs.now c.args.reads regions count few c.requires.kinds other
+          has c.shards_of-set.result set_is;
+      many = its_some objects c.args.command.now object c.args.pairs.now c.args.reads regions count few c.requires.kinds
+          other has c.shards_of-set.result set_is c.requires.uses.1;
+      folded = tx_of w objects c.args.folds.now object c.index_mut.result.now c.in-Tx.fold c.requires.folded
+          (tx_at objects object has) there c.in-Tx.is;
     }
 
--- the append led on
-pub returns-in_default-clause-folded : goal.returns-in_default-clause-folded
-returns-in_default-clause-folded c =
-    folds_stay (world_of c.args.world.now) (world_of c.append_form.new.world) c.is_whole.ensures.reached
-    (appended_to c.args.objects.now c.args.command.now c.args.object c.args.pairs.now c.args.reads
-    (world_of c.args.world.now) (world_of c.append_form.new.world) c.in_ok-other.other
-    c.shards_of-set.result (forms.Transaction c.args.reads c.in_ok-writes.writes)
-    (set_made c.args.objects.now c.args.command.now c.args.object c.args.pairs.now c.args.reads
-    c.index-objects-object.result c.requires.uses.0 c.shards_of-set.result c.as_slice.result.now c.as_slice-2.result.now
-    c.shards_of-set.ensures c.as_slice.ensures c.as_slice-2.ensures)
-    (ap (forms.Transaction c.args.reads) (c.in_ok-writes.ensures ∙ c.as_slice-3.ensures))
-    c.in_ok-other.ensures.ok) c.args.objects.now c.args.folds.now c.requires.folded
+pub unreachable-requires : goal.unreachable-requires
+unreachable-requires c =
+    let w = world_of c.args.world.now in
+    let at = tx_at c.args.objects.now c.args.object c.requires.uses.0 in
+    let there = subst (λ (l : List Fold). c.index_mut.result.now ≡ get_or l c.args.object c.index_mut.result.now)
+    c.folds.view_is c.index_mut.ensures.value in
+    only_tx w at.0 at.1 c.index_mut.result.now
+    (fold_there w c.args.objects.now c.args.folds.now c.args.object (kinds.Tx at.0 at.1) c.requires.folded at.2
+    c.index_mut.result.now there)
+    c.in_default.not-Tx
 
-pub returns-in-Stood-clause-folded : goal.returns-in-Stood-clause-folded
-returns-in-Stood-clause-folded c =
-    c.rule.ensures.folded c.args.objects.now (tx_at c.args.objects.now c.args.object c.requires.uses.0)
-    (folds_stay (world_of c.args.world.now) (world_of c.append_form.new.world) c.is_whole.ensures.reached
-    (appended_to c.args.objects.now c.args.command.now c.args.object c.args.pairs.now c.args.reads
-    (world_of c.args.world.now) (world_of c.append_form.new.world) c.in_ok-other.other
-    c.shards_of-set.result (forms.Transaction c.args.reads c.in_ok-writes.writes)
-    (set_made c.args.objects.now c.args.command.now c.args.object c.args.pairs.now c.args.reads
-    c.index-objects-object.result c.requires.uses.0 c.shards_of-set.result c.as_slice.result.now c.as_slice-2.result.now
-    c.shards_of-set.ensures c.as_slice.ensures c.as_slice-2.ensures)
-    (ap (forms.Transaction c.args.reads) (c.in_ok-writes.ensures ∙ c.as_slice-3.ensures))
-    c.in_ok-other.ensures.ok) c.args.objects.now c.args.folds.now c.requires.folded)
+pub returns-clause-ok : goal.returns-clause-ok
+returns-clause-ok c =
+    let objects = c.args.objects.now in
+    let has = c.requires.uses.0 in
+    let other = c.index-objects-object.result in
+    commit_told objects c.args.command.now c.args.object c.args.pairs.now c.args.reads (world_of c.args.world.now)
+    (world_of c.append_and_tell.new.world) c.append_and_tell.result c.all_colours-colours.result c.shards_of-set.result
+    c.in_ok-text.text
+    (tx_members c.args.world.now.shape.regions c.args.world.now.shape.colours c.is_whole.ensures.few_colours objects
+    c.requires.kinds c.args.object has other c.all_colours-colours.result c.all_colours-colours.ensures)
+    (set_made objects c.args.command.now c.args.object c.args.pairs.now c.args.reads other has c.shards_of-set.result
+    c.as_slice.result.now c.as_slice-2.result.now c.shards_of-set.ensures c.as_slice.ensures c.as_slice-2.ensures)
+    (c.in_ok-text.ensures
+    ∙ ap (λ writes. form_text (forms.Transaction c.args.reads writes)) (c.in_ok-writes.ensures ∙ c.as_slice-3.ensures))
+    c.append_and_tell.ensures.ok
 
--- no memory, and nothing done
-pub returns-in_err-other-clause-folded : goal.returns-in_err-other-clause-folded
-returns-in_err-other-clause-folded c =
-    subst (λ (x : World). AreFolded x c.args.objects.now c.args.folds.now) (sym c.in_err-other.ensures.err)
-    c.requires.folded
-
-pub returns-in-Stood-clause-ok : goal.returns-in-Stood-clause-ok
-returns-in-Stood-clause-ok c =
-    stood_ruled c.args.objects.now c.args.command.now c.args.object c.args.pairs.now c.args.reads
-    (world_of c.args.world.now) (world_of c.append_form.new.world) c.in_ok-other.other
-    c.shards_of-set.result (forms.Transaction c.args.reads c.in_ok-writes.writes)
-    (set_made c.args.objects.now c.args.command.now c.args.object c.args.pairs.now c.args.reads
-    c.index-objects-object.result c.requires.uses.0 c.shards_of-set.result c.as_slice.result.now c.as_slice-2.result.now
-    c.shards_of-set.ensures c.as_slice.ensures c.as_slice-2.ensures)
-    (ap (forms.Transaction c.args.reads) (c.in_ok-writes.ensures ∙ c.as_slice-3.ensures))
-    c.in_ok-other.ensures.ok (world_of c.rule.new.world) c.rule.result c.in-Stood.stamp c.in-Stood.row
-    c.in-Stood.points (members c.all_colours-colours.result) c.next_id-id.result c.in-Stood.is
-    (tx_members c.args.world.now.shape.regions c.args.world.now.shape.colours c.is_whole.ensures.few_colours
-    c.args.objects.now c.requires.kinds c.args.object c.requires.uses.0 c.index-objects-object.result
-    c.all_colours-colours.result c.all_colours-colours.ensures)
-    c.next_id-id.ensures c.rule.ensures.is_ruled
-
-pub returns-in_default-clause-ok : goal.returns-in_default-clause-ok
-returns-in_default-clause-ok c =
-    not_stood c.args.objects.now c.args.command.now c.args.object c.args.pairs.now c.args.reads
-    (world_of c.args.world.now) (world_of c.append_form.new.world) c.in_ok-other.other
-    c.shards_of-set.result (forms.Transaction c.args.reads c.in_ok-writes.writes)
-    (set_made c.args.objects.now c.args.command.now c.args.object c.args.pairs.now c.args.reads
-    c.index-objects-object.result c.requires.uses.0 c.shards_of-set.result c.as_slice.result.now c.as_slice-2.result.now
-    c.shards_of-set.ensures c.as_slice.ensures c.as_slice-2.ensures)
-    (ap (forms.Transaction c.args.reads) (c.in_ok-writes.ensures ∙ c.as_slice-3.ensures))
-    c.in_ok-other.ensures.ok c.in_default.not-Stood
+pub returns-clause-folded : goal.returns-clause-folded
+returns-clause-folded c =
+    let v = world_of c.append_and_tell.new.world in
+    let objects = c.args.objects.now in
+    let at = tx_at objects c.args.object c.requires.uses.0 in
+    let new : Fold = folds.Tx c.append_and_tell.new.fold in
+    subst (λ (l : List Fold). AreFolded v objects (set l c.args.object new)) (sym c.folds.view_is)
+    (fold_put v objects c.args.folds.now c.args.object (kinds.Tx at.0 at.1)
+    (folds_after verdict_tells objects c.args.command.now c.args.object
+    (its_set objects c.args.object c.args.reads c.args.pairs.now) (form_text (forms.Transaction c.args.reads c.args.pairs.now))
+    (world_of c.args.world.now) v c.args.folds.now c.append_and_tell.result c.is_whole.ensures.reached
+    (returns-clause-ok c) c.append_and_tell.ensures.err c.requires.folded) at.2 new
+    (at.0, at.1, refl, c.append_and_tell.ensures.folded))

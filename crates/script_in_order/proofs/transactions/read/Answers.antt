@@ -1,7 +1,7 @@
 use Rattle.std.proofs.Common.{◌≡◌, List, ℕ, ap, sym, subst, get_or, map}
 use Rattle.log_node.specs.Sets.{members}
 use Rattle.object_fold.specs.Transactions.{value_of, writes_after, versions_after}
-use Rattle.script_meaning.specs.Dequeues.{object_at}
+use Rattle.script_meaning.specs.Dequeues.{object_node_at}
 use Rattle.script_meaning.specs.Gets.{key_answers}
 use Rattle.log_node.specs.declared.node.Shape.{Shape}
 use Rattle.script_text.specs.Fitting.{AreBelow, is_tx}
@@ -9,14 +9,14 @@ use Rattle.world_laws.specs.Worlds.{World}
 use Rattle.world_code.specs.WorldView.{world_of}
 use Rattle.script_meaning.specs.Stamped.{keys_read}
 use Rattle.script_in_order.specs.declared.stamped.Stamped.{Stamped}
-use Rattle.script_in_order.specs.Stamped.{Reads, end_in}
+use Rattle.script_in_order.specs.Stamped.{ReadsStamped, end_in}
 use Rattle.world_laws.specs.Laws.{IsReached}
 use Rattle.script_text.specs.declared.script.Object.{Object}
 use Rattle.script_in_order.specs.declared.folds.Fold.{Fold}
 use Rattle.script_in_order.specs.Folds.{AreFolded}
+use Rattle.script_in_order.specs.Telling.{rising_colours}
 use Rattle.script_in_order.proofs.FoldsKept.{folds_stay}
 use Rattle.script_in_order.proofs.GetSteps.{read_to}
-use Rattle.script_in_order.proofs.Committing.{its_colours}
 use Rattle.script_in_order.proofs.ObjectSteps.{kind_is, small}
 use Rattle.script_in_order.proofs.TransactionSteps.{tx_at, tx_is, tx_members, tx_low, left_unraised, left_refused, left_without, left_found}
 use Rattle.script_in_order.proofs.transactions.read.Goals as goal
@@ -47,14 +47,14 @@ found-requires-clause-within c =
 
 -- a stamped read of the map's colours, however their set is written
 its_read : (old new : World) (client : ℕ) (colours cs : List ℕ) (s t : Stamped) → colours ≡ cs → s ≡ t
-    → Reads old new client colours (end_in new client colours s) → Reads old new client cs (end_in new client cs t)
+    → ReadsStamped old new client colours (end_in new client colours s) → ReadsStamped old new client cs (end_in new client cs t)
 its_read old new client colours cs s t is same r =
-    subst (λ (x : Stamped). Reads old new client cs (end_in new client cs x)) same
-    (subst (λ (l : List ℕ). Reads old new client l (end_in new client l s)) is r)
+    subst (λ (x : Stamped). ReadsStamped old new client cs (end_in new client cs x)) same
+    (subst (λ (l : List ℕ). ReadsStamped old new client l (end_in new client l s)) is r)
 
 -- what is folded, after the read
 read_folds : (w v : World) (client : ℕ) (colours : List ℕ) (objects : List Object) (folds : List Fold) (s t : Stamped)
-    → s ≡ t → IsReached w → Reads w v client colours (end_in v client colours s) → AreFolded w objects folds
+    → s ≡ t → IsReached w → ReadsStamped w v client colours (end_in v client colours s) → AreFolded w objects folds
     → AreFolded v objects folds
 read_folds w v client colours objects folds s t same reached reads f =
     folds_stay w v reached (read_to w v client colours (end_in v client colours s) reads) objects folds f
@@ -108,7 +108,7 @@ returns-in-Unraised-clause-ok c = λ taken.
     c.index-objects-object.result c.all_colours-colours.result c.all_colours-colours.ensures in
     left_unraised c.args.objects.now old new c.args.command.now c.args.object c.args.keys.now c.requires.asks taken
     (its_read old new c.args.command.now.client (members c.all_colours-colours.result)
-    (its_colours c.args.objects.now c.args.object) _ _ members_are c.in-Unraised.is c.in_ok-stamped_read.ensures.ok)
+    (rising_colours c.args.objects.now c.args.object) _ _ members_are c.in-Unraised.is c.in_ok-stamped_read.ensures.ok)
 
 pub returns-in-Refused-clause-ok : goal.returns-in-Refused-clause-ok
 returns-in-Refused-clause-ok c = λ taken.
@@ -120,13 +120,13 @@ returns-in-Refused-clause-ok c = λ taken.
     left_refused c.args.objects.now old new c.args.command.now c.args.object c.args.keys.now c.requires.asks taken
     c.in-Refused.colour c.in-Refused.base
     (its_read old new c.args.command.now.client (members c.all_colours-colours.result)
-    (its_colours c.args.objects.now c.args.object) _ _ members_are c.in-Refused.is c.in_ok-stamped_read.ensures.ok)
+    (rising_colours c.args.objects.now c.args.object) _ _ members_are c.in-Refused.is c.in_ok-stamped_read.ensures.ok)
 
 pub returns-in-Err-clause-ok : goal.returns-in-Err-clause-ok
 returns-in-Err-clause-ok c = λ taken.
     let old = world_of c.args.world.now in
     let new = world_of c.stamped_read.new.world in
-    let cs = its_colours c.args.objects.now c.args.object in
+    let cs = rising_colours c.args.objects.now c.args.object in
     let members_are = tx_members c.args.world.now.shape.regions c.args.world.now.shape.colours
     c.is_whole.ensures.few_colours c.args.objects.now c.requires.kinds c.args.object c.requires.uses.0
     c.index-objects-object.result c.all_colours-colours.result c.all_colours-colours.ensures in
@@ -139,14 +139,14 @@ pub returns-in-Ok-clause-ok : goal.returns-in-Ok-clause-ok
 returns-in-Ok-clause-ok c = λ taken.
     let old = world_of c.args.world.now in
     let new = world_of c.stamped_read.new.world in
-    let cs = its_colours c.args.objects.now c.args.object in
+    let cs = rising_colours c.args.objects.now c.args.object in
     let members_are = tx_members c.args.world.now.shape.regions c.args.world.now.shape.colours
     c.is_whole.ensures.few_colours c.args.objects.now c.requires.kinds c.args.object c.requires.uses.0
     c.index-objects-object.result c.all_colours-colours.result c.all_colours-colours.ensures in
     let found = subst (λ (l : List ℕ).
-    (c.in-Ok.keys ≡ key_answers (value_of (writes_after (map (object_at new)
+    (c.in-Ok.keys ≡ key_answers (value_of (writes_after (map (object_node_at new)
     (keys_read new c.args.command.now.client c.in-Whole.stamp l)))) c.args.keys.now)
-    × (c.in-Ok.versions ≡ versions_after (map (object_at new)
+    × (c.in-Ok.versions ≡ versions_after (map (object_node_at new)
     (keys_read new c.args.command.now.client c.in-Whole.stamp l)) c.args.keys.now)) members_are c.in-Ok.ensures.found in
     left_found c.args.objects.now old new c.args.command.now c.args.object c.args.keys.now c.requires.asks taken
     c.in-Whole.stamp c.in-Whole.raises c.in-Whole.syncs (keys_read new c.args.command.now.client c.in-Whole.stamp cs)

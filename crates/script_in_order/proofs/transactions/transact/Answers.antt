@@ -6,7 +6,7 @@ use Rattle.script_text.specs.Fitting.{UsesObject}
 use Rattle.world_code.specs.WorldView.{world_of}
 use Rattle.script_meaning.specs.Transactions.{read_in}
 use Rattle.script_meaning.specs.Meaning.{done}
-use Rattle.script_in_order.specs.Transacting.{Leaves}
+use Rattle.script_in_order.specs.Transacting.{LeavesForCommit}
 use Rattle.script_in_order.proofs.TransactionSteps.{away_left, read_left, commit_left, read_asks, commit_asks}
 use Rattle.script_in_order.proofs.transactions.transact.Goals as goal
 
@@ -43,10 +43,10 @@ returns-in-Read-clause-ok c =
     let new = world_of c.read.new.world in
     IfOk-weaker c.read.result
     (λ (g : Answer × Option (List Version)). (taken : Option (List Version))
-    → Leaves (λ grants state. read_in c.args.objects.now grants state c.args.command.now c.args.object c.in-Read.keys)
+    → LeavesForCommit (λ grants state. read_in c.args.objects.now grants state c.args.command.now c.args.object c.in-Read.keys)
     c.args.command.now c.args.object taken old new g.0 g.1)
     (λ (g : Answer × Option (List Version)).
-    Leaves (λ grants state. done c.args.objects.now grants state c.args.command.now)
+    LeavesForCommit (λ grants state. done c.args.objects.now grants state c.args.command.now)
     c.args.command.now c.args.object c.args.taken old new g.0 g.1)
     (λ g l. read_left c.args.objects.now c.args.command.now c.args.object c.args.taken old new g.0 g.1 c.in-Read.keys
     (read_asks c.args.command.now.what c.args.object c.in-Read._object c.in-Read.keys c.requires.kind c.in-Read.is)

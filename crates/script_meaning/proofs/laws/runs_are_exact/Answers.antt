@@ -1,4 +1,4 @@
-use Rattle.script_meaning.proofs.ExactReports.{runs_are_exact}
+use Rattle.script_meaning.proofs.Run.ExactReports.{runs_are_exact}
 use Rattle.script_meaning.proofs.laws.runs_are_exact.Goals as goal
 
 pub returns : goal.returns

@@ -1,4 +1,4 @@
-use Rattle.script_meaning.proofs.LawfulReports.{runs_are_lawful}
+use Rattle.script_meaning.proofs.Run.LawfulReports.{runs_are_lawful}
 use Rattle.script_meaning.proofs.laws.runs_are_lawful.Goals as goal
 
 pub returns : goal.returns

@@ -1,8 +1,8 @@
-use Rattle.std.proofs.Common.{◌≡◌, ◌++◌, ◌∷◌, [], ℕ, List, ap, ◌∙◌}
+use Rattle.std.proofs.Common.{◌++◌, ◌∷◌, [], subst}
+use Rattle.log_node.specs.declared.forms.Form.{Form}
 use Rattle.object_fold.specs.Nodes.{keyed_node}
-use Rattle.object_fold.specs.Tables.{value_at}
-use Rattle.atomic_map.specs.Writes.{HoldsWrites, write_then}
-use Rattle.atomic_map.proofs.WriteLemmas.{ok_for_all, one_more}
+use Rattle.atomic_map.specs.Writes.{HoldsShardWrites, IsWritten}
+use Rattle.atomic_map.proofs.WriteLemmas.{ok_so, one_more}
 use Rattle.atomic_map.proofs.line_fold.LineWritesLineFold.feed.Goals as goal
 
 pub returns-clause-ok : goal.returns-clause-ok
@@ -10,9 +10,6 @@ returns-clause-ok c = λ nodes stands.
     let old = c.args.self.now in
     let new = c.apply.new.self in
     let node = keyed_node c.args.key c.args.node.now in
-    let P : List ℕ → Type 0 = λ key.
-    value_at new.writes.entries key ≡ write_then old.colours node key (value_at old.writes.entries key) c.in_ok-form.form in
-    ok_for_all c.apply.result P (HoldsWrites new (nodes ++ node ∷ [])) c.apply.ensures.ok
-    (λ each. one_more old new nodes node c.apply.ensures.colours
-    (λ key. each key ∙ ap (write_then old.colours node key (value_at old.writes.entries key)) c.in_ok-form.ensures.form)
-    stands)
+    ok_so c.apply.result (IsWritten old node c.in_ok-form.form new) (HoldsShardWrites new (nodes ++ node ∷ [])) c.apply.ensures.ok
+    (λ writes. one_more old new nodes node c.apply.ensures.colours
+    (subst (λ (form : Form). IsWritten old node form new) c.in_ok-form.ensures.form writes) stands)

@@ -3,7 +3,7 @@ use Rattle.std.proofs.lemmas.Result.{err_from_is_err_and}
 use Rattle.log_node.specs.declared.ids.Colours.{Colours}
 use Rattle.log_node.specs.Sets.{members}
 use Rattle.log_client.specs.Appends.{AreColoursOf}
-use Rattle.region_fold.specs.Reads.{AreOwn}
+use Rattle.region_fold.specs.Reads.{AreOfObject}
 use Rattle.example_lock.specs.Desks.{lock_colours}
 use Rattle.example_lock.proofs.Answers.{writes, write_refused}
 use Rattle.example_lock.proofs.Colours.{own_is, set_is}
@@ -15,7 +15,7 @@ append_and_read-requires-clause-set g c κs within =
 
 pub append_and_read-requires-clause-own : goal.append_and_read-requires-clause-own
 append_and_read-requires-clause-own g c κs within =
-    subst (λ (set : Colours). AreOwn lock_colours (members set)) (sym c.of-set.ensures) own_is
+    subst (λ (set : Colours). AreOfObject lock_colours (members set)) (sym c.of-set.ensures) own_is
 
 pub returns-in_err-told-clause-err : goal.returns-in_err-told-clause-err
 returns-in_err-told-clause-err g c =

@@ -3,8 +3,8 @@ use Rattle.chain_store.proofs.CallerLemmas.{member_has}
 use Rattle.log_client.specs.Appends.{AppendsAs, AppendRefused}
 use Rattle.log_client.specs.Calls.{IsExplained}
 use Rattle.log_client.specs.Inside.{CallsAppend}
-use Rattle.log_client.proofs.AppendCases.{said_ok, said_on, said_err, is_asked, no_stop, only_one, not_none}
-use Rattle.log_client.proofs.AppendsNothing.{stopped_stays}
+use Rattle.log_client.proofs.Append.AppendCases.{said_ok, said_on, said_err, is_asked, no_stop, only_one, not_none}
+use Rattle.log_client.proofs.Append.AppendsNothing.{stopped_stays}
 use Rattle.log_client.proofs.client.Client.append.Goals as goal
 
 pub returns-then-eq-clause-err : goal.returns-then-eq-clause-err

@@ -1,10 +1,10 @@
 use Rattle.std.proofs.Common.{None, ap, arith, length, subst, sym}
 use Rattle.chain_store.specs.Holds.{entries_seen}
 use Rattle.chain_store.specs.Steps.{HasSingleCause}
-use Rattle.lawful_run.specs.Callers.{row_of}
-use Rattle.log_client.specs.Clients.{rows_of}
-use Rattle.log_client.proofs.AppendsNothing.{no_memory_stays, one_takes_none}
-use Rattle.log_client.proofs.AppendReplies.{single_counts_on, single_next, single_fits, single_stands, single_ended, single_refused}
+use Rattle.lawful_run.specs.Callers.{row_taken}
+use Rattle.log_client.specs.Clients.{nodes_of_rows}
+use Rattle.log_client.proofs.Append.AppendsNothing.{no_memory_stays, one_takes_none}
+use Rattle.log_client.proofs.Append.AppendReplies.{single_counts_on, single_next, single_fits, single_stands, single_ended, single_refused}
 use Rattle.log_client.proofs.client.Client.append_alone.Goals as goal
 
 pub stand-requires-clause-id : goal.stand-requires-clause-id
@@ -37,7 +37,7 @@ next_node-requires-clause-colours g c k of =
 
 pub next_node-requires-clause-row : goal.next_node-requires-clause-row
 next_node-requires-clause-row g c =
-    sym (ap (row_of c.args.self.now.number (length (rows_of c.args.self.now))) c.requires.one)
+    sym (ap (row_taken c.args.self.now.number (length (nodes_of_rows c.args.self.now))) c.requires.one)
 
 pub returns-in_default : goal.returns-in_default
 returns-in_default g c =

@@ -1,5 +1,5 @@
 use Rattle.object_form.specs.Forms.{form_text}
-use Rattle.log_client.proofs.ObjectAppends.{append_stood, append_left, stands_in}
+use Rattle.log_client.proofs.Object.ObjectAppends.{append_stood, append_left, stands_in}
 use Rattle.log_client.proofs.client.Client.append_form.Goals as goal
 
 pub returns-in-Ok-append-clause-client : goal.returns-in-Ok-append-clause-client

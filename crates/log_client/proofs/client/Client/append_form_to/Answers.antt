@@ -3,8 +3,8 @@ use Rattle.log_node.specs.Sets.{members}
 use Rattle.log_node.proofs.CallerLemmas.{members-one}
 use Rattle.object_form.specs.Forms.{form_text}
 use Rattle.log_client.specs.Appends.{AreColoursOf}
-use Rattle.log_client.proofs.ColourSets.{one_of_store}
-use Rattle.log_client.proofs.ObjectAppends.{stands_in_one, stands_not_one}
+use Rattle.log_client.proofs.Object.ColourSets.{one_of_store}
+use Rattle.log_client.proofs.Object.ObjectAppends.{stands_in_one, stands_not_one}
 use Rattle.log_client.proofs.client.Client.append_form_to.Goals as goal
 
 pub append_form-requires-clause-colours : goal.append_form-requires-clause-colours

@@ -1,8 +1,8 @@
 use Rattle.std.proofs.Common.{ap, map, arith, sym, ◌∙◌}
 use Rattle.std.proofs.lemmas.Bool.{ltb-true, lt-ltb, true≢false}
-use Rattle.log_client.proofs.NextNodes.{hold_read, appends_next, counts_on, floor_in_range, id_counted, of_region, on_board, rests_there}
-use Rattle.log_client.proofs.RowCalls.{nodes_then, row_full, row_named, row_no_node, row_no_place, row_own, row_room, stop_of, tracks_within}
-use Rattle.log_client.proofs.RowReplies.{row_kept, row_left, row_stood}
+use Rattle.log_client.proofs.Going.NextNodes.{hold_read, appends_next, counts_on, floor_in_range, id_counted, of_region, on_board, rests_there}
+use Rattle.log_client.proofs.Append.RowCalls.{nodes_then, row_full, row_named, row_no_node, row_no_place, row_own, row_room, stop_of, tracks_within}
+use Rattle.log_client.proofs.Append.RowReplies.{row_kept, row_left, row_stood}
 use Rattle.log_client.proofs.client.Client.append_several.Goals as goal
 
 pub returns-in-Err : goal.returns-in-Err

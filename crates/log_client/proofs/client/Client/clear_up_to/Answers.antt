@@ -2,8 +2,8 @@ use Rattle.std.proofs.Common.{◌<◌, sym, subst}
 use Rattle.std.specs.List.{All}
 use Rattle.log_node.specs.Sets.{members}
 use Rattle.stamp_board.specs.declared.view.Size.{Size}
-use Rattle.log_client.proofs.Colours.{all_within}
-use Rattle.log_client.proofs.ClearedReads.{clear_rests, clear_keeps, clear_clears, clear_reached, clear_there}
+use Rattle.log_client.proofs.Read.Colours.{all_within}
+use Rattle.log_client.proofs.Read.ClearedReads.{clear_rests, clear_keeps, clear_clears, clear_reached, clear_there}
 use Rattle.log_client.proofs.client.Client.clear_up_to.Goals as goal
 
 pub returns-clause-rests : goal.returns-clause-rests

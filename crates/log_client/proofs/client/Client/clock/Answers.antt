@@ -1,6 +1,6 @@
 use Rattle.std.proofs.Common.{ap, sym, ◌∙◌}
 use Rattle.col_core.specs.History.{clock}
-use Rattle.log_client.proofs.Raising.{look_rests, look_keeps, look_seen}
+use Rattle.log_client.proofs.Read.Raising.{look_rests, look_keeps, look_seen}
 use Rattle.log_client.proofs.client.Client.clock.Goals as goal
 
 pub returns-clause-rests : goal.returns-clause-rests

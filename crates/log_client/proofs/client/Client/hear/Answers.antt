@@ -1,9 +1,9 @@
 use Rattle.std.proofs.Common.{List, refl, subst}
 use Rattle.chain_store.specs.declared.region.Region.{Region}
 use Rattle.log_client.specs.Ending.{AreHoldsIn}
-use Rattle.log_client.proofs.Growing.{grown_same}
-use Rattle.log_client.proofs.TellingAll.{heard_all}
-use Rattle.log_client.proofs.Everywhere.{client_along, all_gone_on, finished_along, idle_along, nothing_along}
+use Rattle.log_client.proofs.Going.Growing.{grown_same}
+use Rattle.log_client.proofs.Telling.TellingAll.{heard_all}
+use Rattle.log_client.proofs.Going.Everywhere.{client_along, all_gone_on, finished_along, idle_along, nothing_along}
 use Rattle.log_client.proofs.client.Client.hear.Goals as goal
 
 pub returns-clause-client : goal.returns-clause-client

@@ -1,6 +1,6 @@
 use Rattle.std.proofs.Common.{refl, arith, ap}
 use Rattle.stamp_board.specs.declared.view.Size.{Size}
-use Rattle.log_client.proofs.SyncCalls.{colour_there, few_there, plays_from, sync_goes, sync_grows, sync_finished, sync_idle, sync_client, sync_answer, sync_nodes, sync_plays, sync_refused_client, sync_refused, sync_refused_grows}
+use Rattle.log_client.proofs.Sync.SyncCalls.{colour_there, few_there, plays_from, sync_goes, sync_grows, sync_finished, sync_idle, sync_client, sync_answer, sync_nodes, sync_plays, sync_refused_client, sync_refused, sync_refused_grows}
 use Rattle.log_client.proofs.client.Client.play_colour.Goals as goal
 
 pub play_on-requires-clause-few : goal.play_on-requires-clause-few

@@ -1,5 +1,5 @@
 use Rattle.std.proofs.Common.{◌∙◌}
-use Rattle.log_client.proofs.Wanting.{wants_begin, wants_within, wants_next, wants_all}
+use Rattle.log_client.proofs.Append.Wanting.{wants_begin, wants_within, wants_next, wants_all}
 use Rattle.log_client.proofs.client.Client.played_counts.Goals as goal
 
 pub loop-colour-init : goal.loop-colour-init

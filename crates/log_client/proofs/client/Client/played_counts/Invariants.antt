@@ -1,4 +1,4 @@
-use Rattle.log_client.proofs.Wanting.{AreWanted}
+use Rattle.log_client.proofs.Append.Wanting.{AreWanted}
 use Rattle.log_client.proofs.client.Client.played_counts.Given as goal
 
 -- what was played of the first colours is there

@@ -1,6 +1,6 @@
 use Rattle.std.proofs.Common.{refl}
-use Rattle.log_client.proofs.Growing.{grown_same}
-use Rattle.log_client.proofs.PullCalls.{call_client, call_goes, call_finished, call_idle, call_ok, call_err, hold_there}
+use Rattle.log_client.proofs.Going.Growing.{grown_same}
+use Rattle.log_client.proofs.Pull.PullCalls.{call_client, call_goes, call_finished, call_idle, call_ok, call_err, hold_there}
 use Rattle.log_client.proofs.client.Client.pull.Goals as goal
 
 pub pull_between-requires-clause-from_hold : goal.pull_between-requires-clause-from_hold

@@ -1,4 +1,4 @@
-use Rattle.log_client.proofs.Raising.{explained_by_raise, nothing_by_keeping}
+use Rattle.log_client.proofs.Read.Raising.{explained_by_raise, nothing_by_keeping}
 use Rattle.log_client.proofs.client.Client.raise.Goals as goal
 
 pub returns-in-Ok-clause-ok : goal.returns-in-Ok-clause-ok

@@ -3,10 +3,10 @@ use Rattle.std.proofs.lemmas.List.{map-append}
 use Rattle.log_node.specs.Sets.{members}
 use Rattle.log_client.specs.declared.answers.Raised.{Raised}
 use Rattle.log_client.specs.Reading.{RaisesAll, RaisesFirst, raised_colours}
-use Rattle.log_client.proofs.Colours.{next_within}
-use Rattle.log_client.proofs.Explaining.{rests_same, rests_then}
+use Rattle.log_client.proofs.Read.Colours.{next_within}
+use Rattle.log_client.proofs.Going.Explaining.{rests_same, rests_then}
 use Rattle.log_client.proofs.Results.{on_err}
-use Rattle.log_client.proofs.ReadReplies.{none_raised, raised_next, raises_stay}
+use Rattle.log_client.proofs.Read.ReadReplies.{none_raised, raised_next, raises_stay}
 use Rattle.log_client.proofs.client.Client.raise_all.Goals as goal
 
 pub loop-colour-init : goal.loop-colour-init

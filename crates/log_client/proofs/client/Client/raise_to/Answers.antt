@@ -1,4 +1,4 @@
-use Rattle.log_client.proofs.Raising.{look_helps, look_rests, look_keeps, raise_one_helps, raise_one_rests, raise_one}
+use Rattle.log_client.proofs.Read.Raising.{look_helps, look_rests, look_keeps, raise_one_helps, raise_one_rests, raise_one}
 use Rattle.log_client.proofs.client.Client.raise_to.Goals as goal
 
 pub returns-in-Ok-clause-rests : goal.returns-in-Ok-clause-rests

@@ -5,14 +5,14 @@ use Rattle.log_node.specs.Sets.{members}
 use Rattle.object_fold.specs.Folds.{is_behind}
 use Rattle.playback.specs.Merging.{AreRising}
 use Rattle.log_client.specs.declared.track.Track.{Track}
-use Rattle.log_client.specs.Items.{are_parts, AreItems}
+use Rattle.log_client.specs.Items.{are_parts, AreMergedParts}
 use Rattle.log_client.specs.Calls.{AnswersEach}
 use Rattle.log_client.specs.Reading.{keys_of, raised_colours, synced_colours}
-use Rattle.log_client.proofs.Colours.{all_within}
-use Rattle.log_client.proofs.Explaining.{rests_then}
-use Rattle.log_client.proofs.NamedKeys.{items_named}
-use Rattle.log_client.proofs.ReadCalls.{lines_held, reached_all, read_answered, read_rests, tracks_rising, unanswered, unraised, unsynced}
-use Rattle.log_client.proofs.SyncAnswers.{answers_between}
+use Rattle.log_client.proofs.Read.Colours.{all_within}
+use Rattle.log_client.proofs.Going.Explaining.{rests_then}
+use Rattle.log_client.proofs.Read.NamedKeys.{items_named}
+use Rattle.log_client.proofs.Read.ReadCalls.{lines_held, reached_all, read_answered, read_rests, tracks_rising, unanswered, unraised, unsynced}
+use Rattle.log_client.proofs.Sync.SyncAnswers.{answers_between}
 use Rattle.log_client.proofs.client.Client.read_on.Goals as goal
 
 pub clear_up_to-requires-clause-reached : goal.clear_up_to-requires-clause-reached
@@ -147,7 +147,7 @@ returns g c =
     c.sync_all.new.self c.sync_all.ensures.rests c.in_ok-syncs.syncs.items c.in_ok-syncs.ensures.ok c.max-self.result
     c.max-self.ensures e.in_range
     c.args.last c.in-Ok-items_read.items
-    (subst (λ (ts : List Track). AreItems (are_parts ts c.args.last stamp (members c.args.colours))
+    (subst (λ (ts : List Track). AreMergedParts (are_parts ts c.args.last stamp (members c.args.colours))
     c.in-Ok-items_read.items) c.as_slice.ensures.value c.in-Ok-items_read.ensures)
     c.read_items_last.ensures c.into.result c.into-2.result c.into.ensures c.into-2.ensures in
     record {

@@ -1,8 +1,8 @@
 use Rattle.std.proofs.Common.{◌∙◌, ℕ, List, refl, sym, subst, arith}
 use Rattle.log_node.specs.Sets.{members}
-use Rattle.log_client.proofs.Colours.{next_within}
-use Rattle.log_client.proofs.Explaining.{keeps_all_then, keeps_same, rests_same, rests_then}
-use Rattle.log_client.proofs.ReadStamps.{LookedFirst, all_above, all_chosen, looked_next, none_looked, stamp_within}
+use Rattle.log_client.proofs.Read.Colours.{next_within}
+use Rattle.log_client.proofs.Going.Explaining.{keeps_all_then, keeps_same, rests_same, rests_then}
+use Rattle.log_client.proofs.Read.ReadStamps.{LookedFirst, all_above, all_chosen, looked_next, none_looked, stamp_within}
 use Rattle.log_client.proofs.client.Client.read_stamp.Goals as goal
 
 pub loop-colour-init : goal.loop-colour-init

@@ -3,7 +3,7 @@ use Rattle.log_node.specs.declared.limits.TheConstants.{MAX_STAMP}
 use Rattle.log_node.specs.Sets.{members}
 use Rattle.log_client.specs.Clients.{tracks_of}
 use Rattle.log_client.specs.Reading.{RestsOn, KeepsAll}
-use Rattle.log_client.proofs.ReadStamps.{LookedFirst}
+use Rattle.log_client.proofs.Read.ReadStamps.{LookedFirst}
 use Rattle.log_client.proofs.client.Client.read_stamp.Given as goal
 
 -- the stamp over the first colours

@@ -1,4 +1,4 @@
-use Rattle.log_client.proofs.SyncCalls.{snapshot_there}
+use Rattle.log_client.proofs.Sync.SyncCalls.{snapshot_there}
 use Rattle.log_client.proofs.client.Client.snapshot.Goals as goal
 
 pub returns-clause-column : goal.returns-clause-column

@@ -1,7 +1,7 @@
 use Rattle.std.proofs.Common.{None}
 use Rattle.log_node.specs.Sets.{members}
 use Rattle.log_client.specs.StampedReads.{ReadsOn, ReadsAll}
-use Rattle.log_client.proofs.ReadCalls.{all_answered}
+use Rattle.log_client.proofs.Read.ReadCalls.{all_answered}
 use Rattle.log_client.proofs.Results.{ok_then}
 use Rattle.log_client.proofs.client.Client.stamped_read.Goals as goal
 

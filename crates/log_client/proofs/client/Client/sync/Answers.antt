@@ -1,5 +1,5 @@
 use Rattle.std.proofs.lemmas.Result.{err_from_is_err_and}
-use Rattle.log_client.proofs.SyncCalls.{explained_by_plays, refused_by_plays}
+use Rattle.log_client.proofs.Sync.SyncCalls.{explained_by_plays, refused_by_plays}
 use Rattle.log_client.proofs.client.Client.sync.Goals as goal
 
 pub returns-in_err-answer-clause-err : goal.returns-in_err-answer-clause-err

@@ -1,10 +1,10 @@
 use Rattle.std.proofs.Common.{◌∙◌, ◌++◌, ◌∷◌, [], ℕ, List, ap, sym, subst}
 use Rattle.log_node.specs.Sets.{members}
-use Rattle.log_client.proofs.Colours.{next_within}
+use Rattle.log_client.proofs.Read.Colours.{next_within}
 use Rattle.log_client.specs.Reading.{synced_colours}
-use Rattle.log_client.proofs.Explaining.{rests_same, rests_then}
-use Rattle.log_client.proofs.SyncAnswers.{AnsweredFirst, answered_next, none_answered}
-use Rattle.log_client.proofs.SyncingAll.{SyncedFirst, each_synced, first_answered, first_synced, none_synced, synced_next}
+use Rattle.log_client.proofs.Going.Explaining.{rests_same, rests_then}
+use Rattle.log_client.proofs.Sync.SyncAnswers.{AnsweredFirst, answered_next, none_answered}
+use Rattle.log_client.proofs.Sync.SyncingAll.{SyncedFirst, each_synced, first_answered, first_synced, none_synced, synced_next}
 use Rattle.log_client.proofs.client.Client.sync_all.Goals as goal
 
 pub loop-colour-init : goal.loop-colour-init

@@ -1,7 +1,7 @@
 use Rattle.log_node.specs.Sets.{members}
 use Rattle.log_client.specs.Reading.{RestsOn}
-use Rattle.log_client.proofs.SyncAnswers.{AnsweredFirst}
-use Rattle.log_client.proofs.SyncingAll.{SyncedFirst}
+use Rattle.log_client.proofs.Sync.SyncAnswers.{AnsweredFirst}
+use Rattle.log_client.proofs.Sync.SyncingAll.{SyncedFirst}
 use Rattle.log_client.proofs.client.Client.sync_all.Given as goal
 
 -- the first colours are synced

@@ -1,5 +1,5 @@
 use Rattle.std.proofs.Common.{refl}
-use Rattle.log_client.proofs.SyncCalls.{explained_by_plays, refused_by_plays}
+use Rattle.log_client.proofs.Sync.SyncCalls.{explained_by_plays, refused_by_plays}
 use Rattle.log_client.proofs.client.Client.sync_shown.Goals as goal
 
 pub returns-in-Ok-clause-ok : goal.returns-in-Ok-clause-ok

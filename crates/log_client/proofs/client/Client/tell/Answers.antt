@@ -1,9 +1,9 @@
 use Rattle.std.proofs.Common.{List, refl, subst}
 use Rattle.chain_store.specs.declared.region.Region.{Region}
 use Rattle.log_client.specs.Ending.{AreHoldsIn}
-use Rattle.log_client.proofs.Growing.{grown_same}
-use Rattle.log_client.proofs.TellingAll.{told_all}
-use Rattle.log_client.proofs.Everywhere.{client_along, finished_along, idle_along, nothing_along}
+use Rattle.log_client.proofs.Going.Growing.{grown_same}
+use Rattle.log_client.proofs.Telling.TellingAll.{told_all}
+use Rattle.log_client.proofs.Going.Everywhere.{client_along, finished_along, idle_along, nothing_along}
 use Rattle.log_client.proofs.client.Client.tell.Goals as goal
 
 pub returns-in_err-holds-clause-client : goal.returns-in_err-holds-clause-client

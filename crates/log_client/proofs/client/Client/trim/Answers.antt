@@ -1,7 +1,7 @@
 use Rattle.std.proofs.Common.{arith, refl}
 use Rattle.std.specs.Vec.{with_item}
-use Rattle.log_client.proofs.Growing.{grown_same}
-use Rattle.log_client.proofs.TrimReplies.{look_client, look_goes, look_finished, look_idle, look_nothing, trim_client, trim_goes, trim_finished, trim_idle, trim_explained}
+use Rattle.log_client.proofs.Going.Growing.{grown_same}
+use Rattle.log_client.proofs.Trim.TrimReplies.{look_client, look_goes, look_finished, look_idle, look_nothing, trim_client, trim_goes, trim_finished, trim_idle, trim_explained}
 use Rattle.log_client.proofs.client.Client.trim.Goals as goal
 
 pub returns-in-Ok-clause-client : goal.returns-in-Ok-clause-client

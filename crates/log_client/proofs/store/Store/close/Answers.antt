@@ -5,7 +5,7 @@ use Rattle.log_client.specs.declared.client.Client.{Client}
 use Rattle.log_client.specs.Closing.{HaveEnded}
 use Rattle.log_client.specs.Clients.{holds_of}
 use Rattle.log_client.specs.Leaving.{left_of, AreLeaving}
-use Rattle.log_client.proofs.ClosesStore.{all_leave, store_closes}
+use Rattle.log_client.proofs.End.ClosesStore.{all_leave, store_closes}
 use Rattle.log_client.proofs.store.Store.close.Goals as goal
 
 pub close_regions-requires : goal.close_regions-requires

@@ -8,7 +8,7 @@ use Rattle.log_client.specs.declared.client.Client.{Client}
 use Rattle.log_client.specs.declared.store.Store.{Store}
 use Rattle.log_client.specs.Clients.{holds_of}
 use Rattle.log_client.specs.Regions.{IsRegionOf}
-use Rattle.log_client.specs.Opening.{Dealt, HasNewHolds}
+use Rattle.log_client.specs.Opening.{DealtHolds, HasNewHolds}
 use Rattle.log_client.proofs.Lists.{got_end}
 use Rattle.log_client.proofs.Dealing.{fresh_dealt, holds_dealt, is_new_client}
 use Rattle.log_client.proofs.store.Store.open.Goals as goal
@@ -20,7 +20,7 @@ loop-number-preserved c =
     let e = c.in_ok-region.ensures in
     let r = c.in_ok-region.region in
     let more = c.in_ok-push.ensures.items in
-    let dealt = subst (λ (hs : List Hold). Dealt l.clients.items c.deal.new.clients.items hs 0) c.into_vec.ensures
+    let dealt = subst (λ (hs : List Hold). DealtHolds l.clients.items c.deal.new.clients.items hs 0) c.into_vec.ensures
     c.in_ok-deal.ensures in
     record {
       fresh = fresh_dealt c.args.shape.now l.clients.items c.deal.new.clients.items c.in_ok-region.holds dealt i.fresh;

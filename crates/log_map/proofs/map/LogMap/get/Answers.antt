@@ -1,7 +1,7 @@
 use Rattle.std.proofs.Common.{ap, subst, sym, ◌∙◌, ◌<◌, List, ℕ, length}
 use Rattle.object_fold.specs.Nodes.{object_nodes, shard_of}
 use Rattle.object_fold.specs.Maps.{shard_value}
-use Rattle.log_client.specs.Clients.{line_of, tracks_of}
+use Rattle.log_client.specs.Clients.{own_line, tracks_of}
 use Rattle.log_client.specs.Calls.{AnswersSync, SyncRefused}
 use Rattle.log_client.specs.Objects.{SyncsUntold}
 use Rattle.log_client.proofs.CallerLemmas.{rests_synced, shard_in}
@@ -32,7 +32,7 @@ returns-in-Ok-value-clause-ok g c =
     (within c.sync.new.self colours later.colours (shard_of colours c.args.key.now)
     (shard_in colours c.args.key.now later.colours.some))) e.answer e.ok
     (c.in-Ok-value.ensures.value
-    ∙ ap (shard_value colours c.shard_of-colour.result (object_nodes (line_of c.sync.new.self c.shard_of-colour.result)))
+    ∙ ap (shard_value colours c.shard_of-colour.result (object_nodes (own_line c.sync.new.self c.shard_of-colour.result)))
     c.as_bytes-in-Ok.ensures))
 
 pub returns-in-Ok-value-clause-played : goal.returns-in-Ok-value-clause-played

@@ -1,9 +1,9 @@
-use Rattle.std.proofs.Common.{List, ℕ, rules, ap, sym, subst, ◌∙◌}
+use Rattle.std.proofs.Common.{List, ℕ, rules, sym, subst, ◌∙◌}
 use Rattle.log_node.specs.Sets.{members}
 use Rattle.lawful_run.specs.Asks.{rising}
 use Rattle.log_client.specs.Calls.{IsExplained}
 use Rattle.log_client.proofs.CallerLemmas.{shards_of_store}
-use Rattle.region_fold.specs.Reads.{AreOwn, KeepsFold, TellRefused, TellsOwn}
+use Rattle.region_fold.specs.Reads.{AreOfObject, KeepsFold, ShowsEach, TellRefused, TellsOwn}
 use Rattle.region_fold.proofs.CallerLemmas.{colours_later, shards_own}
 use Rattle.tree_fold.specs.declared.told.Told.{Told}
 use Rattle.tree_fold.specs.declared.told.Told.TheVariants.{Done}
@@ -27,8 +27,8 @@ append_and_read-requires-clause-set g c κs within =
 
 pub append_and_read-requires-clause-own : goal.append_and_read-requires-clause-own
 append_and_read-requires-clause-own g c κs within =
-    subst (λ (l : List ℕ). AreOwn l (members c.key_shards-set.result)) (sym c.as_slice-colours.ensures)
-    (subst (AreOwn c.args.self.now.colours)
+    subst (λ (l : List ℕ). AreOfObject l (members c.key_shards-set.result)) (sym c.as_slice-colours.ensures)
+    (subst (AreOfObject c.args.self.now.colours)
     (sym (change_set c.key_shards-set.result c.as_slice-colours.result.now c.args.self.now.colours c.in-Ok.keys
     c.as_slice.result.now c.args.change.now c.key_shards-set.ensures c.as_slice-colours.ensures c.as_slice.ensures
     c.in-Ok.ensures))
@@ -54,11 +54,11 @@ returns-clause-tree g c =
 
 pub returns-in-Ok-append_and_read-clause-ok : goal.returns-in-Ok-append_and_read-clause-ok
 returns-in-Ok-append_and_read-clause-ok g c =
-    subst (λ (t : Told). Changes c.args.store.now c.args.client.now c.append_and_read.new.client c.args.self.now.colours
-    c.args.self.now.fold.kept.last c.args.change.now t c.in-Ok-append_and_read.own c.in-Ok-append_and_read.read)
+    subst (λ (t : Told). Changes c.args.store.now c.args.client.now c.append_and_read.new.client c.args.self.now c.args.change.now t
+    c.in-Ok-append_and_read.own c.in-Ok-append_and_read.read)
     (sym c.unwrap_or.ensures)
     (changes c.reads_back.ensures c.args.change.now c.requires.change
-    c.args.store.now c.args.client.now c.append_and_read.new.client c.args.self.now.colours c.args.self.now.fold.kept.last c.key_shards-set.result
+    c.args.store.now c.args.client.now c.append_and_read.new.client c.args.self.now c.key_shards-set.result
     c.in-Ok-append_and_read.told (Done c.in-Ok-append_and_read.own.stood.key.stamp) c.in-Ok-append_and_read.own
     c.in-Ok-append_and_read.read
     (change_set c.key_shards-set.result c.as_slice-colours.result.now c.args.self.now.colours c.in-Ok.keys
@@ -76,16 +76,14 @@ returns-in-Ok-append_and_read-clause-points g c = c.in-Ok-append_and_read.ensure
     c.as_slice.result.now c.args.change.now c.key_shards-set.ensures c.as_slice-colours.ensures c.as_slice.ensures
     c.in-Ok.ensures)
 
-pub returns-in-Ok-append_and_read-clause-raises : goal.returns-in-Ok-append_and_read-clause-raises
-returns-in-Ok-append_and_read-clause-raises g c = c.in-Ok-append_and_read.ensures.raises ∙ ap rising c.as_slice-colours.ensures
-
-pub returns-in-Ok-append_and_read-clause-syncs : goal.returns-in-Ok-append_and_read-clause-syncs
-returns-in-Ok-append_and_read-clause-syncs g c = c.in-Ok-append_and_read.ensures.syncs ∙ ap rising c.as_slice-colours.ensures
+pub returns-in-Ok-append_and_read-clause-shows : goal.returns-in-Ok-append_and_read-clause-shows
+returns-in-Ok-append_and_read-clause-shows g c =
+    subst (λ (l : List ℕ). ShowsEach c.args.client.now c.append_and_read.new.client l c.in-Ok-append_and_read.read)
+    c.as_slice-colours.ensures c.in-Ok-append_and_read.ensures.shows
 
 pub returns-clause-err : goal.returns-clause-err
 returns-clause-err g c =
-    change_refused c.args.self.now.home c.args.store.now c.args.client.now c.append_and_read.new.client c.args.self.now.colours
-    c.args.change.now (members c.key_shards-set.result) c.in-Err.fault
+    change_refused c.args.store.now c.args.client.now c.append_and_read.new.client c.args.self.now c.args.change.now (members c.key_shards-set.result) c.in-Err.fault
     (change_set c.key_shards-set.result c.as_slice-colours.result.now c.args.self.now.colours c.in-Ok.keys
     c.as_slice.result.now c.args.change.now c.key_shards-set.ensures c.as_slice-colours.ensures c.as_slice.ensures
     c.in-Ok.ensures)

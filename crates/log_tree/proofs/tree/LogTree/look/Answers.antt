@@ -1,7 +1,7 @@
-use Rattle.std.proofs.Common.{List, ℕ, ap, sym, subst, ◌∙◌}
+use Rattle.std.proofs.Common.{List, ℕ, sym, subst}
 use Rattle.lawful_run.specs.Asks.{rising}
 use Rattle.log_client.specs.StampedReads.{ReadHidden, ReadRefused}
-use Rattle.region_fold.specs.Reads.{AreWriters, KeepsFold, ReadsNodes}
+use Rattle.region_fold.specs.Reads.{AreWriters, KeepsFold, ReadsNodes, ShowsEach}
 use Rattle.region_fold.proofs.CallerLemmas.{colours_later}
 use Rattle.log_tree.specs.Folded.{HasTree}
 use Rattle.log_tree.proofs.TreeAnswers.{reads_so}
@@ -35,11 +35,9 @@ returns-in-Ok-clause-ok g c =
     (subst (λ (l : List ℕ). ReadsNodes c.args.store.now c.args.client.now c.read.new.client l c.args.self.now.fold.kept.last c.in-Ok.read
     (λ nodes. HasTree c.read.new.self.kept.state nodes × AreWriters nodes)) c.as_slice.ensures c.in-Ok.ensures.ok)
 
-pub returns-in-Ok-clause-raises : goal.returns-in-Ok-clause-raises
-returns-in-Ok-clause-raises g c = c.in-Ok.ensures.raises ∙ ap rising c.as_slice.ensures
-
-pub returns-in-Ok-clause-syncs : goal.returns-in-Ok-clause-syncs
-returns-in-Ok-clause-syncs g c = c.in-Ok.ensures.syncs ∙ ap rising c.as_slice.ensures
+pub returns-in-Ok-clause-shows : goal.returns-in-Ok-clause-shows
+returns-in-Ok-clause-shows g c =
+    subst (λ (l : List ℕ). ShowsEach c.args.client.now c.read.new.client l c.in-Ok.read) c.as_slice.ensures c.in-Ok.ensures.shows
 
 pub returns-in-Ok-clause-hidden : goal.returns-in-Ok-clause-hidden
 returns-in-Ok-clause-hidden g c =

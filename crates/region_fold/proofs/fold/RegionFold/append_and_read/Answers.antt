@@ -62,8 +62,12 @@ returns-in-Err-clause-kept g c =
     c.in-Err.fault e.finished e.err)
     (rising c.args.colours.now) c.args.self.now.kept c.requires.kept
 
-pub returns-in-Ok-read_behind-clause-played : goal.returns-in-Ok-read_behind-clause-played
-returns-in-Ok-read_behind-clause-played g c =
+pub returns-in-Ok-read_behind-clause-shows : goal.returns-in-Ok-read_behind-clause-shows
+returns-in-Ok-read_behind-clause-shows g c =
     let e = c.in-Ok.ensures in
-    answers_from c.args.client.now c.append.new.self c.read_behind.new.client c.in-Ok-read_behind.read.syncs e.same.1 e.plays
-    c.in-Ok-read_behind.ensures.played
+    let shows = c.in-Ok-read_behind.ensures.shows in record {
+      raises = shows.raises;
+      syncs = shows.syncs;
+      played = answers_from c.args.client.now c.append.new.self c.read_behind.new.client c.in-Ok-read_behind.read.syncs
+          e.same.1 e.plays shows.played;
+    }

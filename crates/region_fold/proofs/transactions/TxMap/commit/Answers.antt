@@ -7,11 +7,11 @@ use Rattle.object_fold.specs.declared.verdict.Verdict.{Verdict}
 use Rattle.object_fold.specs.declared.verdict.Verdict.TheVariants.{Committed}
 use Rattle.object_fold.specs.States.{IsTxState}
 use Rattle.object_fold.specs.Transactions.{ruling}
-use Rattle.lawful_run.specs.Asks.{keys_of, rising}
+use Rattle.lawful_run.specs.Asks.{keys_of_pairs, rising}
 use Rattle.log_client.specs.Calls.{IsExplained}
 use Rattle.log_client.specs.Objects.{version_keys}
 use Rattle.log_client.proofs.CallerLemmas.{shards_of_store}
-use Rattle.region_fold.specs.Reads.{AreOwn, KeepsFold, TellRefused, TellsOwn}
+use Rattle.region_fold.specs.Reads.{AreOfObject, KeepsFold, TellRefused, TellsOwn}
 use Rattle.region_fold.proofs.ReadAnswers.{colours_later, shards_own}
 use Rattle.region_fold.specs.declared.transactions.Tx.{Tx}
 use Rattle.region_fold.specs.Transactions.{CommitRefused, Commits}
@@ -45,7 +45,7 @@ pub append_and_read-requires-clause-set : goal.append_and_read-requires-clause-s
 append_and_read-requires-clause-set g c κs within =
     let may = (subst (λ (t : Option Tx). IfSome t (λ (x : Tx). AreVersions x.versions)) c.in-Some.is c.requires.versions) in
     shards_of_store c.args.store.now c.args.client.now c.args.self.now.colours c.requires.client c.requires.map.colours
-    (version_keys c.in-Some.tx.versions ++ keys_of c.args.writes.now)
+    (version_keys c.in-Some.tx.versions ++ keys_of_pairs c.args.writes.now)
     (some_keys c.in-Some.tx.versions c.args.writes.now may) c.transaction_shards-set.result (search rules)
     (tx_set c.transaction_shards-set.result c.as_slice-colours.result.now c.args.self.now.colours c.as_slice.result.now
     c.in-Some.tx.versions c.as_slice-2.result.now c.args.writes.now c.transaction_shards-set.ensures c.as_slice-colours.ensures
@@ -53,12 +53,12 @@ append_and_read-requires-clause-set g c κs within =
 
 pub append_and_read-requires-clause-own : goal.append_and_read-requires-clause-own
 append_and_read-requires-clause-own g c κs within =
-    subst (λ (l : List ℕ). AreOwn l (members c.transaction_shards-set.result)) (sym c.as_slice-colours.ensures)
-    (subst (AreOwn c.args.self.now.colours) (sym (tx_set c.transaction_shards-set.result c.as_slice-colours.result.now c.args.self.now.colours c.as_slice.result.now
+    subst (λ (l : List ℕ). AreOfObject l (members c.transaction_shards-set.result)) (sym c.as_slice-colours.ensures)
+    (subst (AreOfObject c.args.self.now.colours) (sym (tx_set c.transaction_shards-set.result c.as_slice-colours.result.now c.args.self.now.colours c.as_slice.result.now
     c.in-Some.tx.versions c.as_slice-2.result.now c.args.writes.now c.transaction_shards-set.ensures c.as_slice-colours.ensures
     c.as_slice.ensures c.as_slice-2.ensures))
     (shards_own c.args.self.now.colours c.requires.map.colours.some
-    (version_keys c.in-Some.tx.versions ++ keys_of c.args.writes.now)))
+    (version_keys c.in-Some.tx.versions ++ keys_of_pairs c.args.writes.now)))
 
 pub returns-in-Ok-append_and_read-clause-ok : goal.returns-in-Ok-append_and_read-clause-ok
 returns-in-Ok-append_and_read-clause-ok g c =
@@ -93,10 +93,10 @@ returns-in-Ok-append_and_read-clause-points g c = (
 )
 
 pub returns-in-Ok-append_and_read-clause-raises : goal.returns-in-Ok-append_and_read-clause-raises
-returns-in-Ok-append_and_read-clause-raises g c = c.in-Ok-append_and_read.ensures.raises ∙ ap rising c.as_slice-colours.ensures
+returns-in-Ok-append_and_read-clause-raises g c = c.in-Ok-append_and_read.ensures.shows.raises ∙ ap rising c.as_slice-colours.ensures
 
 pub returns-in-Ok-append_and_read-clause-syncs : goal.returns-in-Ok-append_and_read-clause-syncs
-returns-in-Ok-append_and_read-clause-syncs g c = c.in-Ok-append_and_read.ensures.syncs ∙ ap rising c.as_slice-colours.ensures
+returns-in-Ok-append_and_read-clause-syncs g c = c.in-Ok-append_and_read.ensures.shows.syncs ∙ ap rising c.as_slice-colours.ensures
 
 pub returns-in-Err-clause-err : goal.returns-in-Err-clause-err
 returns-in-Err-clause-err g c =

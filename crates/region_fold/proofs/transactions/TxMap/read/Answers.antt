@@ -56,10 +56,10 @@ returns-in-Ok-found-clause-versions g c can =
     k.3 can
 
 pub returns-in-Ok-found-clause-raises : goal.returns-in-Ok-found-clause-raises
-returns-in-Ok-found-clause-raises g c = c.in-Ok.ensures.raises ∙ ap rising c.as_slice.ensures
+returns-in-Ok-found-clause-raises g c = c.in-Ok.ensures.shows.raises ∙ ap rising c.as_slice.ensures
 
 pub returns-in-Ok-found-clause-syncs : goal.returns-in-Ok-found-clause-syncs
-returns-in-Ok-found-clause-syncs g c = c.in-Ok.ensures.syncs ∙ ap rising c.as_slice.ensures
+returns-in-Ok-found-clause-syncs g c = c.in-Ok.ensures.shows.syncs ∙ ap rising c.as_slice.ensures
 
 pub returns-in-Err-found-clause-err : goal.returns-in-Err-found-clause-err
 returns-in-Err-found-clause-err g c =

@@ -1,7 +1,8 @@
+use Rattle.std.proofs.Common.{refl}
 use Rattle.script_text.specs.declared.script.What.TheVariants as whats
 use Rattle.run_script.proofs.GivingCommands.{gives_unasked}
 use Rattle.run_script.proofs.serving.appends.append.Goals as goal
 
 pub returns-in-Err : goal.returns-in-Err
 returns-in-Err g c =
-    gives_unasked c.args.store.now c.args.client.now (whats.Append c.args.colours c.args.text) c.requires.client
+    gives_unasked c.args.store.now c.args.client.now (whats.Append c.args.colours c.args.text) refl c.requires.client

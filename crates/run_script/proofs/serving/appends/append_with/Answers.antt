@@ -5,7 +5,7 @@ use Rattle.script_text.specs.declared.script.What.TheVariants as whats
 use Rattle.report_text.specs.declared.report.Answer.TheVariants as answers
 use Rattle.report_text.specs.declared.report.PointPiece.{PointPiece}
 use Rattle.log_client.specs.Appends.{piece_of}
-use Rattle.run_script.specs.Serving.{Gives}
+use Rattle.run_script.specs.Serving.{ServesLog}
 use Rattle.run_script.proofs.GivingCommands.{not_stopped, gives_stood, gives_full, gives_ended, gives_gone}
 use Rattle.run_script.proofs.serving.appends.append_with.Goals as goal
 
@@ -21,7 +21,7 @@ pub returns-in-Ok : goal.returns-in-Ok
 returns-in-Ok g c =
     let e = c.in-Ok.ensures in
     let a = c.in-Ok.appended in
-    subst (λ (points : List PointPiece). Gives c.args.store.now c.args.client.now c.append.new.self
+    subst (λ (points : List PointPiece). ServesLog c.args.store.now c.args.client.now c.append.new.self
     (whats.Append c.args.colours c.args.text) (answers.Stood a.stood.key.stamp a.row points) [])
     (sym (c.shown.ensures ∙ ap (map piece_of) c.as_slice.ensures))
     (gives_stood c.args.store.now c.args.client.now c.append.new.self e.client e.same e.goes e.grows c.args.colours c.args.text a

@@ -3,7 +3,7 @@ use Rattle.std.proofs.Common.{get_or, get_or-set_other, subst}
 use Rattle.std.specs.Prelude.{slice_index_or}
 use Rattle.std.specs.List.{enumerate_from}
 use Rattle.report_text.specs.declared.report.ClientReport.{ClientReport}
-use Rattle.run_script.specs.EndReports.{client_shown}
+use Rattle.run_script.specs.EndReports.{replies_shown}
 use Rattle.run_script.proofs.ClientsShown.{any_default, numbered_next, reply_shown}
 use Rattle.run_script.proofs.serving.ending.client_reports.Goals as goal
 
@@ -29,12 +29,12 @@ loop-number-preserved c =
       reports_are = c.in_ok-push.ensures.ok
           ∙ (ap (λ (l : List ClientReport). l ++ record { name = c.in_ok-copied.field-0; replies = c.replace.result } ∷ [])
           was.reports_are
-          ∙ (ap (λ (r : ClientReport). map (client_shown c.args.replies.items)
+          ∙ (ap (λ (r : ClientReport). map (replies_shown c.args.replies.items)
           (enumerate_from 0 (take number c.args.names.now)) ++ r ∷ [])
           (reply_shown c.in_ok-copied.field-0 c.name-item.result c.replace.result
           (slice_index_or c.args.replies.items number [])
           (c.in_ok-copied.ensures ∙ c.as_bytes.ensures) lines)
-          ∙ sym (numbered_next (client_shown c.args.replies.items) c.args.names.now number c.name-item.result low
+          ∙ sym (numbered_next (replies_shown c.args.replies.items) c.args.names.now number c.name-item.result low
           name_is)));
       count = length-set replies number c.replace.new.dest ∙ was.count;
       others = λ m later. get_or-set_other replies number m c.replace.new.dest []

@@ -2,13 +2,13 @@ use Rattle.std.proofs.Common.{ℕ, ap, sym, subst, ◌∙◌}
 use Rattle.script_text.specs.declared.script.Kind.TheVariants as kinds
 use Rattle.script_text.specs.declared.script.What.TheVariants as whats
 use Rattle.run_script.specs.declared.serving.opened.Opened.{Opened}
-use Rattle.run_script.specs.Opened.{IsKept, kind_opened}
+use Rattle.run_script.specs.Opened.{IsOpenedOf, kind_opened}
 use Rattle.run_script.specs.Serving.{GivesFor}
 use Rattle.run_script.proofs.GivingGets.{a_point, gives_deq}
 use Rattle.run_script.proofs.serving.gets.deq.Goals as goal
 
 pub deq-deq-requires-clause-queue : goal.deq-deq-requires-clause-queue
-deq-deq-requires-clause-queue g c κs within = subst (IsKept c.args.client.now) c.in-Queue.is c.requires.kept
+deq-deq-requires-clause-queue g c κs within = subst (IsOpenedOf c.args.client.now) c.in-Queue.is c.requires.kept
 
 pub took-requires : goal.took-requires
 took-requires g c =

@@ -3,18 +3,18 @@ use Rattle.script_text.specs.declared.script.Kind.TheVariants as kinds
 use Rattle.script_text.specs.declared.script.What.TheVariants as whats
 use Rattle.atomic_map.proofs.CallerLemmas.{map_later as atomic_later}
 use Rattle.run_script.specs.declared.serving.opened.Opened.{Opened}
-use Rattle.run_script.specs.Opened.{IsKept, kind_opened}
+use Rattle.run_script.specs.Opened.{IsOpenedOf, kind_opened}
 use Rattle.run_script.specs.Serving.{GivesFor}
 use Rattle.run_script.proofs.GivingGets.{gives_causal_get, gives_map_get}
 use Rattle.run_script.proofs.serving.gets.get.Goals as goal
 
 pub get-get-requires-clause-map : goal.get-get-requires-clause-map
-get-get-requires-clause-map g c κs within = (subst (IsKept c.args.client.now) c.in-Map.is c.requires.kept).0
+get-get-requires-clause-map g c κs within = (subst (IsOpenedOf c.args.client.now) c.in-Map.is c.requires.kept).0
 
 pub returns-in-Map-clause-stays : goal.returns-in-Map-clause-stays
 returns-in-Map-clause-stays g c =
     let e = c.get-get.ensures in
-    let is = subst (IsKept c.args.client.now) c.in-Map.is c.requires.kept in (
+    let is = subst (IsOpenedOf c.args.client.now) c.in-Map.is c.requires.kept in (
       ap (λ (home : ℕ). kinds.Map home c.get-get.new.self.colours) e.same.0
           ∙ (ap (λ (colours : List ℕ). kinds.Map c.in-Map.single.home colours) e.same.1 ∙ ap kind_opened (sym c.in-Map.is)),
       (
@@ -29,14 +29,14 @@ returns-in-Map-clause-stays g c =
 pub returns-in-Map-clause-gives : goal.returns-in-Map-clause-gives
 returns-in-Map-clause-gives g c =
     let e = c.get-get.ensures in
-    let is = subst (IsKept c.args.client.now) c.in-Map.is c.requires.kept in
+    let is = subst (IsOpenedOf c.args.client.now) c.in-Map.is c.requires.kept in
     subst (λ (x : Opened). GivesFor c.args.store.now c.args.client.now c.get-get.new.client (kind_opened x)
     (λ object. whats.Get object c.args.key) c.got.result) (sym c.in-Map.is)
     (gives_map_get c.args.store.now c.args.client.now c.get-get.new.client e.client c.got.result c.in-Map.single.home
     c.in-Map.single.colours c.args.key c.get-get.result c.got.ensures is.0.colours e.idle e.away e.ok e.err)
 
 pub get-get-requires-in-Causal-clause-map : goal.get-get-requires-in-Causal-clause-map
-get-get-requires-in-Causal-clause-map g c κs within = subst (IsKept c.args.client.now) c.in-Causal.is c.requires.kept
+get-get-requires-in-Causal-clause-map g c κs within = subst (IsOpenedOf c.args.client.now) c.in-Causal.is c.requires.kept
 
 pub returns-in-Causal-clause-stays : goal.returns-in-Causal-clause-stays
 returns-in-Causal-clause-stays g c = (
@@ -47,7 +47,7 @@ returns-in-Causal-clause-stays g c = (
 pub returns-in-Causal-clause-gives : goal.returns-in-Causal-clause-gives
 returns-in-Causal-clause-gives g c =
     let e = c.get-get-in-Causal.ensures in
-    let is = subst (IsKept c.args.client.now) c.in-Causal.is c.requires.kept in
+    let is = subst (IsOpenedOf c.args.client.now) c.in-Causal.is c.requires.kept in
     let few = is.few in
     subst (λ (x : Opened). GivesFor c.args.store.now c.args.client.now c.get-get-in-Causal.new.client (kind_opened x)
     (λ object. whats.Get object c.args.key) c.got_many.result) (sym c.in-Causal.is)

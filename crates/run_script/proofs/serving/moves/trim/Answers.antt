@@ -1,3 +1,4 @@
+use Rattle.std.proofs.Common.{refl}
 use Rattle.script_text.specs.declared.script.What.TheVariants as whats
 use Rattle.run_script.proofs.Giving.{gives_nothing}
 use Rattle.run_script.proofs.GivingCommands.{gives_trimmed}
@@ -13,4 +14,4 @@ pub returns-in-Err-NoMemory : goal.returns-in-Err-NoMemory
 returns-in-Err-NoMemory g c =
     let e = c.in-Err-NoMemory.ensures in
     gives_nothing c.args.store.now c.args.client.now c.trim.new.self e.client e.same e.goes e.grows e.finished e.idle
-    (whats.Trim c.args.colour) (rw c.in-Err-NoMemory.field-0-is at e.err).1
+    (whats.Trim c.args.colour) refl (rw c.in-Err-NoMemory.field-0-is at e.err).1

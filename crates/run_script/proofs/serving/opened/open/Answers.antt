@@ -1,5 +1,5 @@
 use Rattle.std.proofs.Common.{◌≡◌, refl, subst, sym, ◌∙◌}
-use Rattle.log_client.specs.Objects.{AreColours}
+use Rattle.log_client.specs.Objects.{HasColoursOf}
 use Rattle.run_script.proofs.ObjectFrames.{map_colours, one_colour}
 use Rattle.run_script.proofs.serving.opened.open.Goals as goal
 
@@ -16,8 +16,8 @@ returns-in_ok-again-in-Map-clause-unfolded c = (
       let colours : c.in_ok-single-in-Map.single.colours ≡ c.in-Map.colours = one.of.1 ∙ copy in
       let its_colours : c.open-several.result.colours ≡ c.in-Map.colours = all.of.1 ∙ again in
       let are = map_colours client regions c.in_ok-single-in-Map.single.home c.in_ok-single-in-Map.single.colours few within in (
-        one.map client (subst (AreColours client) one.of.1 are),
-        all.map client (subst (AreColours client) (colours ∙ sym again) are),
+        one.map client (subst (HasColoursOf client) one.of.1 are),
+        all.map client (subst (HasColoursOf client) (colours ∙ sym again) are),
         its_home ∙ sym home,
         its_colours ∙ sym colours,
       ),
@@ -28,26 +28,26 @@ returns-in_ok-copy-in-Tx-clause-unfolded c = (
   refl,
   λ client regions few within.
       let e = c.open-map.ensures in (
-        e.map client (subst (AreColours client) e.of.1
+        e.map client (subst (HasColoursOf client) e.of.1
             (map_colours client regions c.open-map.result.home c.open-map.result.colours few within)),
         tt,
       ),
 )
 
-pub returns-in_ok-map-in-Causal-clause-unfolded : goal.returns-in_ok-map-in-Causal-clause-unfolded
-returns-in_ok-map-in-Causal-clause-unfolded c = (
+pub returns-in-Causal-clause-unfolded : goal.returns-in-Causal-clause-unfolded
+returns-in-Causal-clause-unfolded c = (
   refl,
   λ client regions few within.
-      let e = c.in_ok-map-in-Causal.ensures in
-      let one = one_colour client c.in_ok-map-in-Causal.map.colour c.in-Causal.colour e.of few within in
+      let e = c.open-map-in-Causal.ensures in
+      let one = one_colour client c.open-map-in-Causal.result.colour c.in-Causal.colour e.of few within in
       e.map client one.0 one.1,
 )
 
-pub returns-in_ok-queue-in-Queue-clause-unfolded : goal.returns-in_ok-queue-in-Queue-clause-unfolded
-returns-in_ok-queue-in-Queue-clause-unfolded c = (
+pub returns-in-Queue-clause-unfolded : goal.returns-in-Queue-clause-unfolded
+returns-in-Queue-clause-unfolded c = (
   refl,
   λ client regions few within.
-      let e = c.in_ok-queue-in-Queue.ensures in
-      let one = one_colour client c.in_ok-queue-in-Queue.queue.colour c.in-Queue.colour e.of.1 few within.1 in
+      let e = c.open-queue.ensures in
+      let one = one_colour client c.open-queue.result.colour c.in-Queue.colour e.of.1 few within.1 in
       e.queue client one.0 one.1,
 )

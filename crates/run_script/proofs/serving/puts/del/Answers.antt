@@ -1,4 +1,4 @@
-use Rattle.std.proofs.Common.{refl, ap, sym, subst, ◌∙◌, arith, ◌∷◌, []}
+use Rattle.std.proofs.Common.{ap, sym, subst, ◌∙◌, arith, ◌∷◌, []}
 use Rattle.object_form.specs.Forms.{form_text}
 use Rattle.log_node.specs.declared.forms.Form.TheVariants as forms
 use Rattle.object_fold.specs.Nodes.{shard_of}
@@ -8,7 +8,7 @@ use Rattle.log_client.proofs.CallerLemmas.{rests_same}
 use Rattle.atomic_map.proofs.CallerLemmas.{map_later as atomic_later}
 use Rattle.log_map.specs.declared.map.LogMap.{LogMap}
 use Rattle.run_script.specs.declared.serving.opened.Opened.{Opened}
-use Rattle.run_script.specs.Opened.{IsKept, kind_opened}
+use Rattle.run_script.specs.Opened.{IsOpenedOf, kind_opened}
 use Rattle.run_script.specs.Serving.{GivesFor}
 use Rattle.run_script.proofs.GivingObjects.{gives_unasked_of}
 use Rattle.run_script.proofs.GivingPuts.{gives_map_del, points_fit}
@@ -20,10 +20,9 @@ returns-in_default-clause-rests g c = rests_same c.args.store.now c.args.client.
 pub returns-in_default-clause-gives : goal.returns-in_default-clause-gives
 returns-in_default-clause-gives g c = λ objects object at.
     gives_unasked_of c.args.store.now c.args.client.now objects (whats.Del object c.args.key) c.requires.client
-    (λ kept. (refl, refl))
 
 pub del-del-requires-clause-map : goal.del-del-requires-clause-map
-del-del-requires-clause-map g c κs within = (subst (IsKept c.args.client.now) c.in-Map.is c.requires.kept).0
+del-del-requires-clause-map g c κs within = (subst (IsOpenedOf c.args.client.now) c.in-Map.is c.requires.kept).0
 
 pub appended-requires-clause-room : goal.appended-requires-clause-room
 appended-requires-clause-room g c =
@@ -34,7 +33,7 @@ appended-requires-clause-room g c =
 pub returns-clause-stays : goal.returns-clause-stays
 returns-clause-stays g c =
     let e = c.del-del.ensures in
-    let is = subst (IsKept c.args.client.now) c.in-Map.is c.requires.kept in (
+    let is = subst (IsOpenedOf c.args.client.now) c.in-Map.is c.requires.kept in (
       ap (λ (m : LogMap). kinds.Map m.home m.colours) e.same ∙ ap kind_opened (sym c.in-Map.is),
       (
         e.map,
@@ -48,7 +47,7 @@ returns-clause-stays g c =
 pub returns-clause-gives : goal.returns-clause-gives
 returns-clause-gives g c =
     let e = c.del-del.ensures in
-    let is = subst (IsKept c.args.client.now) c.in-Map.is c.requires.kept in
+    let is = subst (IsOpenedOf c.args.client.now) c.in-Map.is c.requires.kept in
     subst (λ (x : Opened). GivesFor c.args.store.now c.args.client.now c.del-del.new.client (kind_opened x)
     (λ object. whats.Del object c.args.key) c.appended.result) (sym c.in-Map.is)
     (gives_map_del c.args.store.now c.args.client.now c.del-del.new.client e.client c.del-del.result c.appended.result

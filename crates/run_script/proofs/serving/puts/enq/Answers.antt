@@ -1,4 +1,4 @@
-use Rattle.std.proofs.Common.{refl, ap, sym, subst, ◌∙◌, arith, ◌∷◌, []}
+use Rattle.std.proofs.Common.{ap, sym, subst, ◌∙◌, arith, ◌∷◌, []}
 use Rattle.object_form.specs.Forms.{form_text}
 use Rattle.log_node.specs.declared.forms.Form.TheVariants as forms
 use Rattle.script_text.specs.declared.script.Kind.TheVariants as kinds
@@ -6,7 +6,7 @@ use Rattle.script_text.specs.declared.script.What.TheVariants as whats
 use Rattle.log_client.proofs.CallerLemmas.{rests_same}
 use Rattle.log_queue.specs.declared.queue.LogQueue.{LogQueue}
 use Rattle.run_script.specs.declared.serving.opened.Opened.{Opened}
-use Rattle.run_script.specs.Opened.{IsKept, kind_opened}
+use Rattle.run_script.specs.Opened.{IsOpenedOf, kind_opened}
 use Rattle.run_script.specs.Serving.{GivesFor}
 use Rattle.run_script.proofs.GivingObjects.{gives_unasked_of}
 use Rattle.run_script.proofs.GivingPuts.{gives_enq, points_fit}
@@ -18,10 +18,9 @@ returns-in_default-clause-rests g c = rests_same c.args.store.now c.args.client.
 pub returns-in_default-clause-gives : goal.returns-in_default-clause-gives
 returns-in_default-clause-gives g c = λ objects object at.
     gives_unasked_of c.args.store.now c.args.client.now objects (whats.Enq object c.args.value) c.requires.client
-    (λ kept. (refl, refl))
 
 pub enq-enq-requires-clause-queue : goal.enq-enq-requires-clause-queue
-enq-enq-requires-clause-queue g c κs within = subst (IsKept c.args.client.now) c.in-Queue.is c.requires.kept
+enq-enq-requires-clause-queue g c κs within = subst (IsOpenedOf c.args.client.now) c.in-Queue.is c.requires.kept
 
 pub appended-requires-clause-room : goal.appended-requires-clause-room
 appended-requires-clause-room g c =

@@ -1,4 +1,4 @@
-use Rattle.std.proofs.Common.{refl, ap, sym, subst, ◌∙◌, arith, ◌∷◌, []}
+use Rattle.std.proofs.Common.{ap, sym, subst, ◌∙◌, arith, ◌∷◌, []}
 use Rattle.object_form.specs.Forms.{form_text}
 use Rattle.log_node.specs.declared.forms.Form.TheVariants as forms
 use Rattle.object_fold.specs.Nodes.{shard_of}
@@ -9,7 +9,7 @@ use Rattle.atomic_map.proofs.CallerLemmas.{map_later as atomic_later}
 use Rattle.log_map.specs.declared.map.LogMap.{LogMap}
 use Rattle.causal_map.specs.declared.causal.CausalMap.{CausalMap}
 use Rattle.run_script.specs.declared.serving.opened.Opened.{Opened}
-use Rattle.run_script.specs.Opened.{IsKept, kind_opened}
+use Rattle.run_script.specs.Opened.{IsOpenedOf, kind_opened}
 use Rattle.run_script.specs.Serving.{GivesFor}
 use Rattle.run_script.proofs.GivingObjects.{gives_unasked_of}
 use Rattle.run_script.proofs.GivingPuts.{gives_causal_put, gives_map_put, points_fit}
@@ -21,10 +21,10 @@ returns-in_default-clause-rests g c = rests_same c.args.store.now c.args.client.
 pub returns-in_default-clause-gives : goal.returns-in_default-clause-gives
 returns-in_default-clause-gives g c = λ objects object at.
     gives_unasked_of c.args.store.now c.args.client.now objects (whats.Put object c.args.key c.args.value)
-    c.requires.client (λ kept. (refl, refl))
+    c.requires.client
 
 pub put-put-requires-clause-map : goal.put-put-requires-clause-map
-put-put-requires-clause-map g c κs within = (subst (IsKept c.args.client.now) c.in-Map.is c.requires.kept).0
+put-put-requires-clause-map g c κs within = (subst (IsOpenedOf c.args.client.now) c.in-Map.is c.requires.kept).0
 
 pub appended-requires-clause-room : goal.appended-requires-clause-room
 appended-requires-clause-room g c =
@@ -35,7 +35,7 @@ appended-requires-clause-room g c =
 pub returns-in-Map-clause-stays : goal.returns-in-Map-clause-stays
 returns-in-Map-clause-stays g c =
     let e = c.put-put.ensures in
-    let is = subst (IsKept c.args.client.now) c.in-Map.is c.requires.kept in (
+    let is = subst (IsOpenedOf c.args.client.now) c.in-Map.is c.requires.kept in (
       ap (λ (m : LogMap). kinds.Map m.home m.colours) e.same ∙ ap kind_opened (sym c.in-Map.is),
       (
         e.map,
@@ -49,14 +49,14 @@ returns-in-Map-clause-stays g c =
 pub returns-in-Map-clause-gives : goal.returns-in-Map-clause-gives
 returns-in-Map-clause-gives g c =
     let e = c.put-put.ensures in
-    let is = subst (IsKept c.args.client.now) c.in-Map.is c.requires.kept in
+    let is = subst (IsOpenedOf c.args.client.now) c.in-Map.is c.requires.kept in
     subst (λ (x : Opened). GivesFor c.args.store.now c.args.client.now c.put-put.new.client (kind_opened x)
     (λ object. whats.Put object c.args.key c.args.value) c.appended.result) (sym c.in-Map.is)
     (gives_map_put c.args.store.now c.args.client.now c.put-put.new.client e.client c.put-put.result c.appended.result
     c.appended.ensures c.in-Map.single.home c.in-Map.single.colours is.0.colours e.away c.args.key c.args.value e.ok e.err)
 
 pub put-put-requires-in-Causal-clause-map : goal.put-put-requires-in-Causal-clause-map
-put-put-requires-in-Causal-clause-map g c κs within = subst (IsKept c.args.client.now) c.in-Causal.is c.requires.kept
+put-put-requires-in-Causal-clause-map g c κs within = subst (IsOpenedOf c.args.client.now) c.in-Causal.is c.requires.kept
 
 pub appended-requires-in-Causal-clause-room : goal.appended-requires-in-Causal-clause-room
 appended-requires-in-Causal-clause-room g c =
@@ -74,7 +74,7 @@ returns-in-Causal-clause-stays g c = (
 pub returns-in-Causal-clause-gives : goal.returns-in-Causal-clause-gives
 returns-in-Causal-clause-gives g c =
     let e = c.put-put-in-Causal.ensures in
-    let is = subst (IsKept c.args.client.now) c.in-Causal.is c.requires.kept in
+    let is = subst (IsOpenedOf c.args.client.now) c.in-Causal.is c.requires.kept in
     let few = is.few in
     subst (λ (x : Opened). GivesFor c.args.store.now c.args.client.now c.put-put-in-Causal.new.client (kind_opened x)
     (λ object. whats.Put object c.args.key c.args.value) c.appended-in-Causal.result) (sym c.in-Causal.is)

@@ -1,15 +1,15 @@
-use Rattle.std.proofs.Common.{ℕ, List, refl, ap, sym, subst, ◌∙◌, arith}
+use Rattle.std.proofs.Common.{ℕ, List, ap, sym, subst, ◌∙◌, arith}
 use Rattle.std.proofs.lemmas.List.{length-map}
 use Rattle.object_form.specs.Forms.{form_text}
 use Rattle.log_node.specs.declared.forms.Form.TheVariants as forms
 use Rattle.log_node.specs.declared.forms.Pair.{Pair}
-use Rattle.lawful_run.specs.Asks.{keys_of, shards}
+use Rattle.lawful_run.specs.Asks.{keys_of_pairs, shards}
 use Rattle.script_text.specs.declared.script.Kind.TheVariants as kinds
 use Rattle.script_text.specs.declared.script.What.TheVariants as whats
 use Rattle.log_client.proofs.CallerLemmas.{rests_same}
 use Rattle.log_map.proofs.CallerLemmas.{map_later}
 use Rattle.atomic_map.specs.declared.atomic.AtomicMap.{AtomicMap}
-use Rattle.run_script.specs.Opened.{IsKept, kind_opened}
+use Rattle.run_script.specs.Opened.{IsOpenedOf, kind_opened}
 use Rattle.run_script.specs.Serving.{GivesFor}
 use Rattle.run_script.proofs.GivingObjects.{gives_unasked_of}
 use Rattle.run_script.proofs.GivingPuts.{gives_map_put_all, points_fit}
@@ -22,25 +22,24 @@ returns-in_default-clause-rests g c = rests_same c.args.store.now c.args.client.
 pub returns-in_default-clause-gives : goal.returns-in_default-clause-gives
 returns-in_default-clause-gives g c = λ objects object at.
     gives_unasked_of c.args.store.now c.args.client.now objects (whats.PutAll object c.args.pairs) c.requires.client
-    (λ kept. (refl, refl))
 
 pub put_all-put-requires-clause-map : goal.put_all-put-requires-clause-map
-put_all-put-requires-clause-map g c κs within = (subst (IsKept c.args.client.now) c.in-Map.is c.requires.kept).1
+put_all-put-requires-clause-map g c κs within = (subst (IsOpenedOf c.args.client.now) c.in-Map.is c.requires.kept).1
 
 pub appended-requires-clause-room : goal.appended-requires-clause-room
 appended-requires-clause-room g c =
     let room = c.in-Ok.ensures.capacity in
     let count = c.len.ensures in
     let many = length-map c.args.pairs (λ (p : Pair). p.key) in
-    let few = shards_few c.in-Map.several.colours (keys_of c.args.pairs) in
+    let few = shards_few c.in-Map.several.colours (keys_of_pairs c.args.pairs) in
     points_fit c.args.store.now c.args.client.now c.put_all-put.new.client
-    (shards c.in-Map.several.colours (keys_of c.args.pairs)) (form_text (forms.PutAll c.args.pairs)) c.put_all-put.result _
+    (shards c.in-Map.several.colours (keys_of_pairs c.args.pairs)) (form_text (forms.PutAll c.args.pairs)) c.put_all-put.result _
     c.put_all-put.ensures.ok (omega (arith, room, count, many, few))
 
 pub returns-clause-stays : goal.returns-clause-stays
 returns-clause-stays g c =
     let e = c.put_all-put.ensures in
-    let is = subst (IsKept c.args.client.now) c.in-Map.is c.requires.kept in (
+    let is = subst (IsOpenedOf c.args.client.now) c.in-Map.is c.requires.kept in (
       ap kind_opened (sym c.in-Map.is),
       (
         map_later c.args.store.now c.args.client.now c.put_all-put.new.client c.in-Map.single c.requires.client e.client is.0,
@@ -53,7 +52,7 @@ returns-clause-stays g c =
 pub returns-clause-gives : goal.returns-clause-gives
 returns-clause-gives g c =
     let e = c.put_all-put.ensures in
-    let is = subst (IsKept c.args.client.now) c.in-Map.is c.requires.kept in
+    let is = subst (IsOpenedOf c.args.client.now) c.in-Map.is c.requires.kept in
     let kind = ap (λ (home : ℕ). kinds.Map home c.in-Map.several.colours) is.2
     ∙ (ap (λ (colours : List ℕ). kinds.Map c.in-Map.single.home colours) is.3 ∙ ap kind_opened (sym c.in-Map.is)) in
     subst (λ (k : _). GivesFor c.args.store.now c.args.client.now c.put_all-put.new.client k

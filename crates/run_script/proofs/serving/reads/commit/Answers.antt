@@ -6,14 +6,14 @@ use Rattle.report_text.specs.declared.report.Answer.TheVariants as answers
 use Rattle.region_fold.specs.declared.transactions.Tx.{Tx}
 use Rattle.run_script.specs.declared.serving.opened.Opened.{Opened}
 use Rattle.run_script.specs.declared.serving.opened.Opened.TheVariants as opened
-use Rattle.run_script.specs.Opened.{IsKept}
+use Rattle.run_script.specs.Opened.{IsOpenedOf}
 use Rattle.run_script.specs.Serving.{GivesTo}
 use Rattle.run_script.proofs.FewShown.{points_few, shows_few_ruled}
 use Rattle.run_script.proofs.GivingReads.{gives_commit, gives_uncommitted}
 use Rattle.run_script.proofs.serving.reads.commit.Goals as goal
 
-pub returns-in_default-clause-gives : goal.returns-in_default-clause-gives
-returns-in_default-clause-gives g c =
+pub returns-in_default-with_capacity-clause-gives : goal.returns-in_default-with_capacity-clause-gives
+returns-in_default-with_capacity-clause-gives g c =
     subst (λ (x : Opened). GivesTo c.args.store.now c.args.client.now c.args.client.now x
     (opened.Tx c.in-Tx.map c.replace-tx.new.dest) (λ object. whats.Commit object c.args.pairs) answers.NoMemory)
     (sym c.in-Tx.is)
@@ -37,15 +37,15 @@ returns-in_default-room_for-clause-gives g c =
 pub most_points-requires-clause-found : goal.most_points-requires-clause-found
 most_points-requires-clause-found g c =
     subst (λ (o : Option Tx). IfSome o (λ (t : Tx). AreVersions t.versions)) (sym c.replace-tx.ensures.value)
-    (subst (IsKept c.args.client.now) c.in-Tx.is c.requires.kept).1
+    (subst (IsOpenedOf c.args.client.now) c.in-Tx.is c.requires.kept).1
 
-pub ruled-requires-clause-points : goal.ruled-requires-clause-points
-ruled-requires-clause-points g c =
+pub told_shown-requires-clause-points : goal.told_shown-requires-clause-points
+told_shown-requires-clause-points g c =
     points_few c.in-Tx.map.colours c.commit-commit.result c.replace-tx.result c.args.pairs _ _ c.most_points.ensures
     c.in-Ok.ensures.capacity c.commit-commit.ensures.points
 
-pub ruled-requires-clause-few : goal.ruled-requires-clause-few
-ruled-requires-clause-few g c =
+pub told_shown-requires-clause-few : goal.told_shown-requires-clause-few
+told_shown-requires-clause-few g c =
     let e = c.commit-commit.ensures in
     shows_few_ruled c.in-Tx.map.colours c.in-Ok-room_for.room c.commit-commit.result _ c.colour_count.ensures
     c.in-Ok-room_for.ensures.places e.raises e.syncs
@@ -54,13 +54,13 @@ pub returns-clause-gives : goal.returns-clause-gives
 returns-clause-gives g c =
     let e = c.commit-commit.ensures in
     subst (λ (x : Opened). GivesTo c.args.store.now c.args.client.now c.commit-commit.new.client x
-    (opened.Tx c.commit-commit.new.self c.replace-tx.new.dest) (λ object. whats.Commit object c.args.pairs) c.ruled.result)
+    (opened.Tx c.commit-commit.new.self c.replace-tx.new.dest) (λ object. whats.Commit object c.args.pairs) c.told_shown.result)
     (sym c.in-Tx.is)
     (subst (λ (o : Option Tx). GivesTo c.args.store.now c.args.client.now c.commit-commit.new.client
     (opened.Tx c.in-Tx.map c.in-Tx.found) (opened.Tx c.commit-commit.new.self o)
-    (λ object. whats.Commit object c.args.pairs) c.ruled.result) (sym c.replace-tx.ensures.after)
+    (λ object. whats.Commit object c.args.pairs) c.told_shown.result) (sym c.replace-tx.ensures.after)
     (subst (λ (o : Option Tx). GivesTo c.args.store.now c.args.client.now c.commit-commit.new.client
     (opened.Tx c.in-Tx.map o) (opened.Tx c.commit-commit.new.self None)
-    (λ object. whats.Commit object c.args.pairs) c.ruled.result) c.replace-tx.ensures.value
-    (gives_commit c.args.store.now c.args.client.now c.commit-commit.new.client e.client c.ruled.result c.in-Tx.map
-    c.commit-commit.new.self c.replace-tx.result c.args.pairs c.commit-commit.result c.ruled.ensures e.away e.ok e.err)))
+    (λ object. whats.Commit object c.args.pairs) c.told_shown.result) c.replace-tx.ensures.value
+    (gives_commit c.args.store.now c.args.client.now c.commit-commit.new.client e.client c.told_shown.result c.in-Tx.map
+    c.commit-commit.new.self c.replace-tx.result c.args.pairs c.commit-commit.result c.told_shown.ensures e.away e.ok e.err)))

@@ -1,10 +1,10 @@
-use Rattle.std.proofs.Common.{◌≡◌, ℕ, List, refl, ap, sym, subst, ◌∙◌}
+use Rattle.std.proofs.Common.{◌≡◌, ℕ, List, ap, sym, subst, ◌∙◌}
 use Rattle.script_text.specs.declared.script.Kind.{Kind}
 use Rattle.script_text.specs.declared.script.Kind.TheVariants as kinds
 use Rattle.script_text.specs.declared.script.What.TheVariants as whats
 use Rattle.log_map.proofs.CallerLemmas.{map_later}
 use Rattle.run_script.specs.declared.serving.opened.Opened.{Opened}
-use Rattle.run_script.specs.Opened.{IsKept, kind_opened}
+use Rattle.run_script.specs.Opened.{IsOpenedOf, kind_opened}
 use Rattle.run_script.specs.Serving.{GivesFor}
 use Rattle.run_script.proofs.FewShown.{shows_few_all}
 use Rattle.run_script.proofs.GivingObjects.{gives_unasked_of}
@@ -14,12 +14,10 @@ use Rattle.run_script.proofs.serving.reads.get_all.Goals as goal
 pub returns-in_default-clause-gives : goal.returns-in_default-clause-gives
 returns-in_default-clause-gives g c = λ objects object at.
     gives_unasked_of c.args.store.now c.args.client.now objects (whats.GetAll object c.args.keys) c.requires.client
-    (λ kept. (refl, refl))
 
 pub returns-in_default-room_for-clause-gives : goal.returns-in_default-room_for-clause-gives
 returns-in_default-room_for-clause-gives g c = λ objects object at.
     gives_unasked_of c.args.store.now c.args.client.now objects (whats.GetAll object c.args.keys) c.requires.client
-    (λ kept. (refl, refl))
 
 pub got_keys-requires-clause-many : goal.got_keys-requires-clause-many
 got_keys-requires-clause-many g c = c.get_all-get.ensures.many
@@ -32,7 +30,7 @@ got_keys-requires-clause-few g c =
 
 pub returns-clause-stays : goal.returns-clause-stays
 returns-clause-stays g c =
-    let kept = subst (IsKept c.args.client.now) c.in-Map.is c.requires.kept in
+    let kept = subst (IsOpenedOf c.args.client.now) c.in-Map.is c.requires.kept in
     let e = c.get_all-get.ensures in (
       ap kind_opened (sym c.in-Map.is),
       (
@@ -45,7 +43,7 @@ returns-clause-stays g c =
 
 pub returns-clause-gives : goal.returns-clause-gives
 returns-clause-gives g c =
-    let kept = subst (IsKept c.args.client.now) c.in-Map.is c.requires.kept in
+    let kept = subst (IsOpenedOf c.args.client.now) c.in-Map.is c.requires.kept in
     let e = c.get_all-get.ensures in
     let same : kinds.Map c.in-Map.several.home c.in-Map.several.colours
     ≡ kinds.Map c.in-Map.single.home c.in-Map.single.colours =

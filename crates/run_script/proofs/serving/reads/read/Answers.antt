@@ -18,8 +18,8 @@ use Rattle.run_script.proofs.GivingReads.{gives_read, gives_unread}
 use Rattle.script_meaning.proofs.CallerLemmas.{can_read}
 use Rattle.run_script.proofs.serving.reads.read.Goals as goal
 
-pub returns-in_default-clause-gives : goal.returns-in_default-clause-gives
-returns-in_default-clause-gives g c =
+pub returns-in_default-with_capacity-clause-gives : goal.returns-in_default-with_capacity-clause-gives
+returns-in_default-with_capacity-clause-gives g c =
     subst (λ (x : Opened). GivesTo c.args.store.now c.args.client.now c.args.client.now x (opened.Tx c.in-Tx.map None)
     (λ object. whats.Read object c.args.keys) answers.NoMemory) (sym c.in-Tx.is)
     (gives_unread c.args.store.now c.args.client.now c.requires.client c.in-Tx.map c.in-Tx.map c.in-Tx.found c.args.keys)

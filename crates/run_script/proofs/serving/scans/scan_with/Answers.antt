@@ -5,7 +5,7 @@ use Rattle.log_client.specs.declared.answers.Raised.{Raised}
 use Rattle.log_client.specs.declared.answers.Synced.{Synced}
 use Rattle.script_text.specs.declared.script.What.TheVariants as whats
 use Rattle.report_text.specs.declared.report.Answer.TheVariants as answers
-use Rattle.run_script.specs.Serving.{Gives}
+use Rattle.run_script.specs.Serving.{ServesLog}
 use Rattle.run_script.proofs.GivingScans.{gives_scan, gives_scan_trimmed, gives_scan_without}
 use Rattle.run_script.proofs.serving.scans.scan_with.Goals as goal
 
@@ -30,7 +30,7 @@ returns-in-Ok g c =
 pub returns-in-Err-Trimmed : goal.returns-in-Err-Trimmed
 returns-in-Err-Trimmed g c =
     let e = c.in-Err-Trimmed.ensures in
-    subst (λ (nodes : List PlacedNode). Gives c.args.store.now c.args.client.now c.stamped_read.new.self
+    subst (λ (nodes : List PlacedNode). ServesLog c.args.store.now c.args.client.now c.stamped_read.new.self
     (whats.Scan c.args.colours) (answers.Trimmed c.in-Err-Trimmed.colour c.in-Err-Trimmed.base) nodes) (sym c.new.ensures)
     (gives_scan_trimmed c.args.store.now c.args.client.now c.stamped_read.new.self e.client e.same e.goes e.grows e.finished
     c.args.colours c.in-Err-Trimmed.colour c.in-Err-Trimmed.base (rw c.in-Err-Trimmed.field-0-is at e.err))
@@ -38,7 +38,7 @@ returns-in-Err-Trimmed g c =
 pub returns : goal.returns
 returns g c =
     let e = c.in-Err-NoMemory.ensures in
-    subst (λ (nodes : List PlacedNode). Gives c.args.store.now c.args.client.now c.stamped_read.new.self
+    subst (λ (nodes : List PlacedNode). ServesLog c.args.store.now c.args.client.now c.stamped_read.new.self
     (whats.Scan c.args.colours) answers.NoMemory nodes) (sym c.new-in-Err-NoMemory.ensures)
     (gives_scan_without c.args.store.now c.args.client.now c.stamped_read.new.self e.client e.same e.goes e.grows e.finished
     c.args.colours (rw c.in-Err-NoMemory.field-0-is at e.err))

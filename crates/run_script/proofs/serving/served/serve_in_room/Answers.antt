@@ -4,7 +4,7 @@ use Rattle.std.proofs.lemmas.List.{length_push, map-id}
 use Rattle.std.proofs.lemmas.Option.{get_or_from_slice_get, slice_get_within}
 use Rattle.std.proofs.lemmas.Iterator.Consumers.{YieldsList-turn, YieldsList-end, YieldsList-so_far}
 use Rattle.script_text.specs.declared.script.Command.{Command}
-use Rattle.script_beside.specs.Dealt.{commands_in}
+use Rattle.script_beside.specs.Dealt.{share_commands}
 use Rattle.report_text.specs.declared.report.ReplyLine.{ReplyLine}
 use Rattle.run_script.specs.Served.{IsServable}
 use Rattle.run_script.specs.Serving.{Serves}
@@ -38,7 +38,7 @@ serve-reply-requires-clause-kept g c κs within =
     let flat = c.flatten-command-items.ensures in
     let all = all_pieces _ _ _ c.next.ensures.steps (λ x j b. (b.0, b.1 ∙ x.ok.0)) c.into_iter-command-iterator.ensures.into_iter_gives
     flat.source flat.front flat.back flat.done c.replace-commands.ensures.value c.into_iter.ensures.rest c.into_iter.ensures.len in
-    let commands = commands_in c.args.served.now.commands.items in
+    let commands = share_commands c.args.served.now.commands.items in
     let t = YieldsList-turn all yielded _
     c.loop-command.yielded_by _ c.next.new.self c.in-Some.command c.in-Some.is c.next.ensures.steps in
     let so_far = sym (map-id yielded) ∙ YieldsList-so_far all yielded _ c.loop-command.yielded_by in
@@ -62,7 +62,7 @@ serve-reply-requires-clause-command g c κs within =
     let flat = c.flatten-command-items.ensures in
     let all = all_pieces _ _ _ c.next.ensures.steps (λ x j b. (b.0, b.1 ∙ x.ok.0)) c.into_iter-command-iterator.ensures.into_iter_gives
     flat.source flat.front flat.back flat.done c.replace-commands.ensures.value c.into_iter.ensures.rest c.into_iter.ensures.len in
-    let commands = commands_in c.args.served.now.commands.items in
+    let commands = share_commands c.args.served.now.commands.items in
     let t = YieldsList-turn all yielded _
     c.loop-command.yielded_by _ c.next.new.self c.in-Some.command c.in-Some.is c.next.ensures.steps in
     let is = servable (IsServable c.args.store.now c.args.served.now.objects.items) commands
@@ -81,7 +81,7 @@ push_reserved-requires g c =
     flat.source flat.front flat.back flat.done c.replace-commands.ensures.value c.into_iter.ensures.rest c.into_iter.ensures.len in
     let t = YieldsList-turn all yielded _
     c.loop-command.yielded_by _ c.next.new.self c.in-Some.command c.in-Some.is c.next.ensures.steps in
-    room_left _ _ (length yielded) (length (commands_in c.args.served.now.commands.items)) _ _ c.loop-command.served.replies.ok.0
+    room_left _ _ (length yielded) (length (share_commands c.args.served.now.commands.items)) _ _ c.loop-command.served.replies.ok.0
     c.loop-command.invariant.count t.0 c.requires.room c.loop-command.invariant.room
 
 pub loop-command-preserved : goal.loop-command-preserved
@@ -94,7 +94,7 @@ loop-command-preserved g c =
     let flat = c.flatten-command-items.ensures in
     let all = all_pieces _ _ _ c.next.ensures.steps (λ x j b. (b.0, b.1 ∙ x.ok.0)) c.into_iter-command-iterator.ensures.into_iter_gives
     flat.source flat.front flat.back flat.done c.replace-commands.ensures.value c.into_iter.ensures.rest c.into_iter.ensures.len in
-    let commands = commands_in c.args.served.now.commands.items in
+    let commands = share_commands c.args.served.now.commands.items in
     let t = YieldsList-turn all yielded _
     c.loop-command.yielded_by _ c.next.new.self c.in-Some.command c.in-Some.is c.next.ensures.steps in
     let so_far = sym (map-id yielded) ∙ YieldsList-so_far all yielded _ c.loop-command.yielded_by in
@@ -116,7 +116,7 @@ loop-command-preserved g c =
           (serves_next store objects client c.serve-reply.new.client c.loop-command.served.objects.items
           c.serve-reply.new.opened.items yielded replies c.in-Some.command c.serve-reply.result
           (was.serves objects of) finished (c.serve-reply.ensures.answered objects (of ∙ sym was.kinds)));
-      same = (e.same.0 ∙ was.same.0, e.same.1 ∙ was.same.1);
+      same = (e.2.same.0 ∙ was.same.0, e.2.same.1 ∙ was.same.1);
       count = omega (arith, items_are, long, longer, was.count);
       room = c.push_reserved.ensures.capacity ∙ was.room;
     }
@@ -126,7 +126,7 @@ returns g c =
     let flat = c.flatten-command-items.ensures in
     let all = all_pieces _ _ _ c.next.ensures.steps (λ x j b. (b.0, b.1 ∙ x.ok.0)) c.into_iter-command-iterator.ensures.into_iter_gives
     flat.source flat.front flat.back flat.done c.replace-commands.ensures.value c.into_iter.ensures.rest c.into_iter.ensures.len in
-    let commands = commands_in c.args.served.now.commands.items in
+    let commands = share_commands c.args.served.now.commands.items in
     let t = YieldsList-end all c.loop-command.yielded _ c.loop-command.yielded_by _ c.next.new.self c.in-None.is c.next.ensures.steps in
     let whole = sym (map-id c.loop-command.yielded) ∙ t.0 in
     let store = c.args.store.now in

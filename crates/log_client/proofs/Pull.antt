@@ -1,0 +1,7 @@
+-- Pulls.
+pub mod BetweenHolds
+pub mod PullCalls
+pub mod PullReplies
+pub mod Pulling
+pub mod TrulyPulled
+pub mod TwoHolds

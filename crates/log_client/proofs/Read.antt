@@ -1,0 +1,15 @@
+-- Stamped reads.
+pub mod ClearedHolds
+pub mod ClearedReads
+pub mod Colours
+pub mod HiddenReads
+pub mod ItemsRead
+pub mod LineParts
+pub mod Lines
+pub mod MergedItems
+pub mod NamedKeys
+pub mod Raising
+pub mod ReadCalls
+pub mod ReadLater
+pub mod ReadReplies
+pub mod ReadStamps

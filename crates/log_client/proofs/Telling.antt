@@ -1,0 +1,3 @@
+-- Notes from one client to another.
+pub mod Hearing
+pub mod TellingAll

@@ -1,0 +1,3 @@
+-- Trims.
+pub mod TrimReplies
+pub mod Trims

@@ -1,0 +1,9 @@
+-- Appends.
+pub mod AppendCases
+pub mod AppendFinal
+pub mod AppendOne
+pub mod AppendSeveral
+pub mod AppendsBehind
+pub mod BeginRow
+pub mod FirstProposal
+pub mod Points

@@ -1,0 +1,255 @@
+-- After a get of a map there holds what held before.
+use Rattle.std.proofs.Common.{◌≡◌, ℕ, ◌<◌, List, [], ◌∷◌, ◌++◌, length, map, take, Option, Some, refl, ap, sym, subst, ◌∙◌, inl, inr, arith}
+use Rattle.std.specs.Prelude.{◌==◌, if◌then◌else◌}
+use Rattle.std.specs.List.{list_any}
+use Rattle.std.proofs.lemmas.List.{take_all}
+use Rattle.log_node.specs.Vectors.{at}
+use Rattle.log_node.specs.declared.ids.Key.{Key}
+use Rattle.log_node.specs.declared.limits.TheConstants.{MAX_COLOURS}
+use Rattle.object_fold.specs.Nodes.{ObjectNode, shard_of}
+use Rattle.object_fold.specs.Maps.{Value, value_among}
+use Rattle.col_core.specs.declared.Entry.{Entry}
+use Rattle.col_core.specs.History.{line}
+use Rattle.col_core.specs.Keeping.{Kept}
+use Rattle.col_core.specs.RegionOrder.{IsClearUpTo}
+use Rattle.col_core.proofs.CallerLemmas.{choice, In}
+use Rattle.world_laws.specs.declared.steps.Step.TheVariants.{Play}
+use Rattle.world_laws.specs.Worlds.{World, home_of, home_history, after, after_play, may_play, played_cut}
+use Rattle.world_laws.specs.Laws.{IsReached, log_of}
+use Rattle.world_laws.proofs.CallerLemmas.{played_client}
+use Rattle.script_text.specs.declared.script.Kind.{Kind}
+use Rattle.script_text.specs.declared.script.Kind.TheVariants as kinds
+use Rattle.script_text.specs.declared.script.What.{What}
+use Rattle.script_text.specs.declared.script.What.TheVariants as whats
+use Rattle.script_text.specs.declared.script.Command.{Command}
+use Rattle.script_text.specs.declared.script.Script.{Script}
+use Rattle.script_text.specs.Fitting.{AreObjectColours, HasObject, is_map, is_any_map}
+use Rattle.report_text.specs.declared.report.Answer.{Answer}
+use Rattle.report_text.specs.declared.report.Answer.TheVariants as answers
+use Rattle.report_text.specs.declared.report.KeyAnswer.{KeyAnswer}
+use Rattle.report_text.specs.declared.report.RaisePiece.{RaisePiece}
+use Rattle.report_text.specs.declared.report.SyncPiece.{SyncPiece}
+use Rattle.lawful_run.specs.Callers.{Caller}
+use Rattle.lawful_run.specs.Asks.{Getting, object_colours, colours_of_object, shards}
+use Rattle.lawful_run.specs.Deeds.{manner_of, colours_synced}
+use Rattle.lawful_run.specs.Explains.{Explains}
+use Rattle.lawful_run.specs.Objects.{AreObjectNodes, own_played}
+use Rattle.lawful_run.specs.Reads.{Syncs, ReadsAt, kept_after_piece}
+use Rattle.lawful_run.proofs.CallerLemmas.{explains_get, one_shard}
+use Rattle.script_meaning.specs.States.{State, Grants, answered, kind_in}
+use Rattle.script_meaning.specs.Stamped.{read_stamp, keys_read, stamped_read}
+use Rattle.script_meaning.specs.Dequeues.{object_node_at, first_nodes, sync_now, base_now}
+use Rattle.script_meaning.specs.Gets.{value_now, got_value, value_up_to, key_answers, keys_answer, got_keys}
+use Rattle.script_meaning.proofs.Run.FitCommands as fits
+use Rattle.script_meaning.proofs.Read.AfterRead.{EndsTold, read_reached, after_read}
+use Rattle.script_meaning.proofs.Read.AfterScan.{filtered_distinct}
+use Rattle.script_meaning.proofs.World.Clearing.{Finished}
+use Rattle.script_meaning.proofs.Object.Dequeuing.{are_objects, listed_objects}
+use Rattle.script_meaning.proofs.Object.Getting.{did_get, did_refuse_get}
+use Rattle.script_meaning.proofs.Run.Invariant.{IsStopped, Runs, IsFit, runs_done, free}
+use Rattle.script_meaning.proofs.Client.Kept.{caller_in, IsKeptBy, KeptAfter}
+use Rattle.script_meaning.proofs.Object.ObjectKinds.{object_has}
+use Rattle.script_meaning.proofs.Client.OwnEvents.{finished_client}
+use Rattle.script_meaning.proofs.Object.ShardSets.{shard_below, shards_below, key_in}
+use Rattle.script_meaning.proofs.Read.ShardReads.{value_read}
+use Rattle.script_meaning.proofs.Read.StampedPlays.{MayLook}
+use Rattle.script_meaning.proofs.Read.StampedRaises.{AreDistinct}
+
+-- keys with their values
+pub answered_keys : (value_of : List ℕ → Value) (keys : List (List ℕ))
+    → map (λ (k : KeyAnswer). k.key) (key_answers value_of keys) ≡ keys
+answered_keys value_of [] = refl
+answered_keys value_of (key ∷ keys) = ap (λ (l : List (List ℕ)). key ∷ l) (answered_keys value_of keys)
+
+pub answered_values : (value_of : List ℕ → Value) (keys : List (List ℕ))
+    → map (λ (k : KeyAnswer). k.value) (key_answers value_of keys) ≡ map value_of keys
+answered_values value_of [] = refl
+answered_values value_of (key ∷ keys) = ap (λ (l : List Value). value_of key ∷ l) (answered_values value_of keys)
+
+map_same : (f g : List ℕ → Value) (keys : List (List ℕ)) → ((key : List ℕ) → In key keys → f key ≡ g key)
+    → map f keys ≡ map g keys
+map_same f g [] each = refl
+map_same f g (key ∷ keys) each =
+    ap (λ (v : Value). v ∷ map f keys) (each key (inl refl))
+    ∙ ap (λ (l : List Value). g key ∷ l) (map_same f g keys (λ k i. each k (inr i)))
+
+module _ (script : Script) (commands : List Command) (state : State) (command : Command) (grants : Grants)
+    (runs : Runs script commands state) (fit : IsFit script commands command) where
+  abbrev u : ℕ
+  u = command.client
+
+  abbrev w : World
+  w = state.world
+
+  abbrev S : ℕ → Type 0
+  S = IsStopped commands state.replies
+
+  abbrev commands' : List Command
+  commands' = commands ++ command ∷ []
+
+  abbrev caller : Caller
+  caller = caller_in w script.objects u
+
+  -- a get that syncs a colour, whatever answer the sync explains
+  pub runs_get_by : (c : ℕ) → c < script.shape.colours → manner_of command.what ≡ Getting
+      → colours_synced caller command.what ≡ c ∷ [] → (answer : Answer)
+      → ((kept : Kept) → Syncs (log_of w) caller kept c (length (home_history w u c)) (played_cut w u c)
+      → Explains (log_of w) caller kept command.what answer []
+      (kept_after_piece (log_of w) caller kept (sync_now w u c)))
+      → Runs script commands' (if may_play w u c then answered state command (after w (Play u c)) answer []
+      else answered state command w (answers.Trimmed c (base_now w u c)) [])
+  runs_get_by c low getting synced answer says =
+      let few = fits.own_few script commands state command runs fit in
+      let client_ok = fits.client_ok script commands state command runs fit in
+      let column_ok = fits.column_ok script commands state command runs fit c low in
+      choice (Runs script commands') (may_play w u c) (answered state command (after w (Play u c)) answer [])
+      (answered state command w (answers.Trimmed c (base_now w u c)) [])
+      (λ ok. runs_done script commands state command runs fit (after w (Play u c)) answer []
+      (did_get script.objects w runs.reached u c few client_ok column_ok command.what getting ok answer says)
+      (choice (Finished S) (may_play w u c) (after_play w u c) w
+      (λ _. finished_client S w u (played_client w u c) refl runs.finished) (λ _. runs.finished)))
+      (λ refused. runs_done script commands state command runs fit w (answers.Trimmed c (base_now w u c)) []
+      (did_refuse_get script.objects w runs.reached u c few client_ok column_ok command.what getting synced refused)
+      runs.finished)
+
+  -- a get of a map
+  module _ (object home : ℕ) (colours key : List ℕ) (asked : command.what ≡ whats.Get object key)
+      (is_map : kind_in script.objects object ≡ Some (kinds.Map home colours))
+      (has : HasObject script.objects object is_any_map) where
+    abbrev c : ℕ
+    c = shard_of colours key
+
+    own_colours : AreObjectColours script.shape.colours colours
+    own_colours = subst (λ (k : Option Kind). AreObjectColours script.shape.colours (object_colours k)) is_map
+        (object_has script.objects script.shape.regions script.shape.colours fit.kinds object is_any_map has)
+
+    low : c < script.shape.colours
+    low = shard_below script.shape.colours colours own_colours.some own_colours.below key
+
+    small : c < MAX_COLOURS
+    small = let a = low in let b = fit.few_colours in omega (arith, a, b)
+
+    synced : colours_synced caller command.what ≡ c ∷ []
+    synced = ap (colours_synced caller) asked
+        ∙ (ap (λ (k : Option Kind). shards (object_colours k) (key ∷ [])) is_map ∙ one_shard colours key small)
+
+    abbrev count : ℕ
+    count = at (played_cut w u c) (home_of w u)
+
+    -- the nodes that the sync's snapshot counts
+    played : AreObjectNodes (log_of w) (own_played (log_of w) caller (sync_now w u c)) (first_nodes w u c count)
+    played =
+        let h = home_history w u c in
+        subst (λ (x : List Entry). AreObjectNodes (log_of w) (take count (line x)) (first_nodes w u c count))
+        (sym (take_all (length h) h (omega arith))) (are_objects w runs.reached (home_of w u) c count)
+
+    abbrev answer : Answer
+    answer = answers.Got (value_now w u colours c key) (sync_now w u c)
+
+    pub runs_get_value : Runs script commands' (got_value state command colours key)
+    runs_get_value =
+        runs_get_by c low (ap manner_of asked) synced answer
+        (λ kept syncs. subst (λ (what : What). Explains (log_of w) caller kept what answer []
+        (kept_after_piece (log_of w) caller kept (sync_now w u c))) (sym asked)
+        (explains_get (log_of w) caller kept object home colours key (sync_now w u c) (first_nodes w u c count) is_map
+        small refl syncs played))
+
+  -- several keys
+  module _ (object : ℕ) (keys : List (List ℕ)) (key : List ℕ) (is_key : In key keys)
+      (asked : command.what ≡ whats.GetAll object keys) (has : HasObject script.objects object is_map) where
+    abbrev its_colours : List ℕ
+    its_colours = colours_of_object caller object
+
+    abbrev cs : List ℕ
+    cs = shards its_colours keys
+
+    its_own : AreObjectColours script.shape.colours its_colours
+    its_own = object_has script.objects script.shape.regions script.shape.colours fit.kinds object is_map has
+
+    below : (c : ℕ) → In c cs → c < script.shape.colours
+    below = shards_below script.shape.colours fit.few_colours its_colours its_own.some its_own.below keys
+
+    abbrev first : ℕ
+    first = shard_of its_colours key
+
+    is_first : In first cs
+    is_first = key_in its_colours keys key is_key
+        (let a = shard_below script.shape.colours its_colours its_own.some its_own.below key in
+        let b = fit.few_colours in omega (arith, a, b))
+
+    distinct : AreDistinct cs
+    distinct = filtered_distinct (λ c. list_any (λ k. shard_of its_colours k == c) keys) MAX_COLOURS 0
+
+    look : MayLook script.objects S u (read_stamp w u cs) w cs
+    look = fits.may_look script commands state command runs fit cs below
+
+    going : S u → ⊥
+    going = free script commands state command runs fit
+
+    read_of : (y : World) → colours_synced (caller_in y script.objects u) command.what ≡ cs
+    read_of y = ap (colours_synced (caller_in y script.objects u)) asked
+
+    abbrev x : World
+    x = (stamped_read grants w u cs).world
+
+    reached : IsReached x
+    reached = read_reached script.objects S state command grants runs.reached runs.finished going (ap manner_of asked)
+        cs read_of distinct look first is_first
+
+    told : (stamp : ℕ) (raises : List RaisePiece) (syncs : List SyncPiece) (read : List Key)
+        → EndsTold script.objects S state command grants runs.reached runs.finished going (ap manner_of asked) cs
+        read_of distinct look first is_first stamp raises syncs read
+        → (kept : Kept) → IsKeptBy w u kept
+        → KeptAfter x script.objects u kept command.what (keys_answer x u its_colours keys stamp raises syncs read) []
+    told stamp raises syncs read ended kept k =
+        let h = ended.kept kept k in
+        let log = log_of x in
+        let there = caller_in x script.objects u in
+        let nodes : List ObjectNode = map (object_node_at x) read in
+        let value_of : List ℕ → Value = value_up_to x u its_colours (read_stamp w u cs) in
+        record {
+          after = h.after;
+          keeps = h.keeps;
+          explains = subst (λ (n : ℕ). Explains log there kept command.what
+              (keys_answer x u its_colours keys n raises syncs read) [] h.after) (sym ended.is) (
+                refl,
+                h.after,
+                (
+                  subst (λ (l : List ℕ). ReadsAt log there kept l (read_stamp w u cs) raises syncs h.after)
+                      (sym (read_of x)) h.reads,
+                  read,
+                  ended.read,
+                  nodes,
+                  listed_objects x reached read ended.nodes,
+                  inl (
+                    object,
+                    keys,
+                    asked,
+                    record {
+                      keys_are = answered_keys value_of keys;
+                      values_are = answered_values value_of keys
+                          ∙ map_same value_of (value_among its_colours nodes) keys (λ y i. value_of_key read ended.keys_are
+                          (λ c j. ended.clear c j) y i);
+                    },
+                    refl,
+                  ),
+                ),
+              );
+        } where
+          value_of_key : (read : List Key) → read ≡ keys_read x u (read_stamp w u cs) cs
+              → ((c : ℕ) → In c cs → IsClearUpTo (read_stamp w u cs) (home_history x u c))
+              → (y : List ℕ) → In y keys
+              → value_up_to x u its_colours (read_stamp w u cs) y ≡ value_among its_colours (map (object_node_at x) read) y
+          value_of_key read is clear y i =
+              let lt = shard_below script.shape.colours its_colours its_own.some its_own.below y in
+              let few = fit.few_colours in
+              let j = key_in its_colours keys y i (omega (arith, lt, few)) in
+              value_read x reached u (read_stamp w u cs) cs its_colours y (omega (arith, lt, few)) j
+              (clear (shard_of its_colours y) j)
+              ∙ ap (λ (ks : List Key). value_among its_colours (map (object_node_at x) ks) y) (sym is)
+
+    pub runs_get_keys : Runs script commands' (got_keys script.objects grants state command object keys)
+    runs_get_keys =
+        after_read script.objects S state command grants runs.reached runs.finished going (ap manner_of asked) cs
+        read_of distinct look first is_first (keys_answer x u its_colours keys) (λ _. []) (Runs script commands')
+        (λ answer nodes d fin. runs_done script commands state command runs fit x answer nodes d fin) told

@@ -1,0 +1,12 @@
+-- Whole runs.
+pub mod ExactReports
+pub mod FitCommands
+pub mod GrantedCommands
+pub mod GrantedReads
+pub mod GrantedSteps
+pub mod HelpGrants
+pub mod Invariant
+pub mod InvariantHolds
+pub mod LawfulReports
+pub mod WorkedMoves
+pub mod WorkedRuns

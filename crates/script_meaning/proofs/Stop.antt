@@ -1,0 +1,3 @@
+-- Stops.
+pub mod LastStops
+pub mod Stopping
