@@ -728,7 +728,8 @@ class Walk:
 
     def look_at_full(self):
         used = self.answer.number_behind("full")
-        rows = next((int(line.split(" ")[1]) for line in self.script.lines[: self.script.begin] if line.startswith("rows ")), 4096)
+        unsaid = 256 if self.script.lines[0] == "fuzzylog 2" else 4096
+        rows = next((int(line.split(" ")[1]) for line in self.script.lines[: self.script.begin] if line.startswith("rows ")), unsaid)
         self.need(self.command.word in APPENDS and len(self.append_colours()) > 1 and used == rows == self.next_row, "not full")
 
     def look_at_trimmed(self):

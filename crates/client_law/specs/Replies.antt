@@ -16,8 +16,8 @@ use Rattle.col_core.specs.Computed.{dated}
 use Rattle.col_core.specs.Log.{HasOutcome}
 use Rattle.col_core.specs.Appending.{EndsAtColour}
 use Rattle.col_core.specs.Keeping.{Kept, kept_after_single, kept_after_sync, kept_after_event, with_made, with_floor, with_row}
-use Rattle.script_text.specs.declared.script.What.{What}
-use Rattle.script_text.specs.declared.script.What.TheVariants as whats
+use Rattle.script_text.specs.declared.commands.What.{What}
+use Rattle.script_text.specs.declared.commands.What.TheVariants as whats
 use Rattle.report_text.specs.declared.report.Answer.TheVariants as answers
 use Rattle.report_text.specs.declared.report.PointPiece.{PointPiece}
 use Rattle.lawful_run.specs.Callers.{Caller, node_of}

@@ -1,7 +1,7 @@
 -- A command begins one row at most, and none where it may begin none: so a client has begun no more rows than it has
 -- asked commands that may begin one.
 use Rattle.std.proofs.Common.{◌≡◌, ◌⊎◌, Bool, true, false, ℕ, zero, suc, ◌<◌, nat_lt, ◌+◌, ◌≤◌, List, [], ◌∷◌, ◌++◌, length, Option, Some, None, inl, inr, refl, ap, sym, subst, ◌∙◌, arith, cond}
-use Rattle.std.specs.Prelude.{◌==◌, ◌||◌}
+use Rattle.std.specs.Prelude.{◌==◌, ◌||◌, not}
 use Rattle.std.specs.List.{filter, range_with_len}
 use Rattle.std.proofs.lemmas.Bool.{eqb-true, cases_lt}
 use Rattle.std.proofs.lemmas.List.Sums.{sum_by_push}
@@ -9,14 +9,17 @@ use Rattle.log_node.specs.declared.ids.Colours.{Colours}
 use Rattle.log_node.specs.declared.ids.Counts.{Counts}
 use Rattle.log_node.specs.declared.node.At.{At}
 use Rattle.log_node.specs.declared.node.At.TheVariants.{Event, Look}
+use Rattle.log_node.specs.declared.forms.Version.{Version}
 use Rattle.log_node.specs.declared.limits.TheConstants.{MAX_COLOURS}
 use Rattle.log_node.specs.Seen.{PlacedNode}
 use Rattle.log_node.specs.Sets.{members}
 use Rattle.col_core.specs.Log.{Log}
 use Rattle.col_core.specs.Keeping.{Kept, kept_after_event}
-use Rattle.script_text.specs.declared.script.What.{What}
-use Rattle.script_text.specs.declared.script.What.TheVariants as whats
+use Rattle.script_text.specs.declared.script.Kind.{Kind}
+use Rattle.script_text.specs.declared.commands.What.{What}
+use Rattle.script_text.specs.declared.commands.What.TheVariants as whats
 use Rattle.script_text.specs.declared.script.Command.{Command}
+use Rattle.script_text.specs.Commands.{use_of}
 use Rattle.report_text.specs.declared.report.Answer.{Answer}
 use Rattle.report_text.specs.declared.report.Answer.TheVariants as answers
 use Rattle.report_text.specs.declared.report.PointPiece.{PointPiece}
@@ -26,15 +29,15 @@ use Rattle.report_text.specs.declared.report.SyncPiece.{SyncPiece}
 use Rattle.object_fold.specs.Nodes.{shard_of}
 use Rattle.lawful_run.proofs.CallerLemmas.{kept_after_hidden, before_is, behind_is, one_shard, points_leave}
 use Rattle.lawful_run.specs.Callers.{Caller, node_of}
-use Rattle.lawful_run.specs.Asks.{shards, colours_of_object, Manner, Appending, Stopping, Syncing, Moving, Getting, Reading, Committing, Dequeuing}
-use Rattle.lawful_run.specs.Deeds.{AsksToAppend, colours_synced, manner_of}
+use Rattle.lawful_run.specs.Asks.{shards, object_colours, kind_asked, Manner, Appending, Stopping, Syncing, Moving, Getting, Reading, Committing, Dequeuing}
+use Rattle.lawful_run.specs.Deeds.{Reach, NoColours, Named, One, ShardsOf, Saying, saying_of, found_by, Reaches, SaysNode, AsksToAppend, colours_synced, manner_of}
 use Rattle.lawful_run.specs.Appends.{Appends, AppendsUnshown, one_unshown, several_unshown, HasNoStamp, none_for_one, none_for_several}
 use Rattle.lawful_run.specs.Moves.{with_places, kept_after_pull}
 use Rattle.lawful_run.specs.Reads.{kept_after_place, kept_after_piece, Raises, ClearSyncs, ReadsAt, HidesSyncs, HidesRead, RefusesRead}
 use Rattle.lawful_run.specs.Refusals.{Hides, Refuses, FindsNoMemory, nothing, gone, gave, hidden, kept_before, kept_behind}
 use Rattle.lawful_run.specs.Stops.{Stops, stopped_at_once, stopped_after}
 use Rattle.lawful_run.specs.Explains.{Explains, Answers, Explained, start, next}
-use Rattle.script_beside.specs.Begins.{may_begin, begins_in}
+use Rattle.script_beside.specs.Begins.{may_take_row, begins_in}
 
 -- as many rows are begun
 abbrev pub KeepsRows : Kept → Kept → Type 0
@@ -42,7 +45,7 @@ KeepsRows kept after = after.rows ≡ kept.rows
 
 -- as many rows are begun, or one more by a command that may begin one
 abbrev pub BeginsOne : What → Kept → Kept → Type 0
-BeginsOne what kept after = KeepsRows kept after ⊎ ((may_begin what ≡ true) × (after.rows ≡ kept.rows + 1))
+BeginsOne what kept after = KeepsRows kept after ⊎ ((may_take_row what ≡ true) × (after.rows ≡ kept.rows + 1))
 
 same_rows : (kept middle after : Kept) → after ≡ middle → KeepsRows kept middle → KeepsRows kept after
 same_rows kept middle after e r = ap (λ (k : Kept). k.rows) e ∙ r
@@ -57,6 +60,14 @@ then_keeps : (what : What) (kept middle after : Kept) → BeginsOne what kept mi
     → BeginsOne what kept after
 then_keeps what kept middle after (inl r) s = inl (s ∙ r)
 then_keeps what kept middle after (inr (may, one)) s = inr (may, s ∙ one)
+
+-- whether nodes of this reach may have several colours: those of one key have one, its shard's
+abbrev reaches_several : Reach → Bool
+reaches_several NoColours = false
+reaches_several (Named colours) = nat_lt 1 (length (members colours))
+reaches_several (One colour) = false
+reaches_several (ShardsOf (key ∷ [])) = false
+reaches_several _ = true
 
 two_or_more : (n : ℕ) → 2 ≤ n → nat_lt 1 n ≡ true
 two_or_more n two = grind (arith, two)
@@ -83,22 +94,49 @@ not_several colours key several is two = at (cases_lt (shard_of colours key) MAX
       let e = ap length (beyond (shard_of colours key) 0 MAX_COLOURS (omega (arith, high))) in
       let f : ⊥ = omega (arith, two, long, e) in f
 
+-- a node with several colours is of a reach that may have them
+reached : (own : List ℕ) (reach : Reach) (colours : Colours) → Reaches own reach colours → 2 ≤ length (members colours)
+    → reaches_several reach ≡ true
+reached own NoColours colours is two = let e = ap length is in absurd (let f : ⊥ = omega (arith, two, e) in f)
+reached own (Named asked) colours is two =
+    subst (λ (c : Colours). nat_lt 1 (length (members c)) ≡ true) is (two_or_more (length (members colours)) two)
+reached own (One colour) colours is two = let e = ap length is in absurd (let f : ⊥ = omega (arith, two, e) in f)
+reached own (ShardsOf (key ∷ [])) colours is two = absurd (not_several own key (members colours) is two)
+reached own _ colours is two = refl
+
+-- whether a node that is said may have several colours
+abbrev has_several : Option Saying → Bool
+has_several None = false
+has_several (Some saying) = reaches_several saying.reach
+
+said_several : (own : List ℕ) (said : Option Saying) (colours : Colours) (text : List ℕ) → SaysNode own said colours text
+    → 2 ≤ length (members colours) → has_several said ≡ true
+said_several own None colours text says two = absurd says
+said_several own (Some saying) colours text says two = reached own saying.reach colours says.0 two
+
+or_not : (b : Bool) → (b || not b) ≡ true
+or_not true = refl
+or_not false = refl
+
+first_of : (a b : Bool) → (a || not b) ≡ true → b ≡ true → a ≡ true
+first_of true b e t = refl
+first_of false true e t = e
+first_of false false e t = t
+
+-- a command whose node may have several colours may begin a row
+begins_so : (kind : Option Kind) (found : Option (List Version)) (what : What)
+    → (may_take_row what || not (has_several (saying_of kind found what))) ≡ true
+begins_so kind found (whats.Append colours text) = or_not (nat_lt 1 (length (members colours)))
+begins_so kind found _ = refl
+
 -- a command that asks for a node of several colours may begin a row
 pub several_may : (caller : Caller) (kept : Kept) (what : What) (colours : Colours) (text : List ℕ)
-    → AsksToAppend caller kept what colours text → 2 ≤ length (members colours) → may_begin what ≡ true
-several_may caller kept (whats.Append asked given) colours text asks two =
-    subst (λ (c : Colours). nat_lt 1 (length (members c)) ≡ true) asks.0
-    (two_or_more (length (members colours)) two)
-several_may caller kept (whats.Put object key value) colours text asks two =
-    absurd (not_several (colours_of_object caller object) key (members colours) asks.0 two)
-several_may caller kept (whats.Del object key) colours text asks two =
-    absurd (not_several (colours_of_object caller object) key (members colours) asks.0 two)
-several_may caller kept (whats.Stop steps asked given) colours text asks two = refl
-several_may caller kept (whats.PutAll object pairs) colours text asks two = refl
-several_may caller kept (whats.Commit object pairs) colours text asks two = refl
-several_may caller kept (whats.Enq object value) colours text asks two = refl
-several_may caller kept (whats.Deq object) colours text asks two = refl
-several_may caller kept _ colours text asks two = absurd asks
+    → AsksToAppend caller kept what colours text → 2 ≤ length (members colours) → may_take_row what ≡ true
+several_may caller kept what colours text asks two =
+    let kind = kind_asked caller what in
+    let found = found_by (use_of what) kept in
+    first_of (may_take_row what) (has_several (saying_of kind found what)) (begins_so kind found what)
+    (said_several (object_colours kind) (saying_of kind found what) colours text asks two)
 
 -- READS
 place_rows : (kept : Kept) (region colour : ℕ) (at : At) → KeepsRows kept (kept_after_place kept region colour at)
@@ -282,11 +320,11 @@ answer_begins log caller kept command reply after a =
 
 -- COMMANDS
 one_more : (commands : List Command) (command : Command)
-    → begins_in (commands ++ command ∷ []) ≡ begins_in commands + cond (may_begin command.what) 1 0
-one_more commands command = sum_by_push (λ (c : Command). cond (may_begin c.what) 1 0) commands command
+    → begins_in (commands ++ command ∷ []) ≡ begins_in commands + cond (may_take_row command.what) 1 0
+one_more commands command = sum_by_push (λ (c : Command). cond (may_take_row c.what) 1 0) commands command
 
 -- a command that may begin a row is one more
-pub one_that_begins : (commands : List Command) (command : Command) → may_begin command.what ≡ true
+pub one_that_begins : (commands : List Command) (command : Command) → may_take_row command.what ≡ true
     → begins_in (commands ++ command ∷ []) ≡ begins_in commands + 1
 one_that_begins commands command may =
     one_more commands command ∙ ap (λ b. begins_in commands + cond b 1 0) may

@@ -13,7 +13,7 @@ use Rattle.object_fold.specs.Nodes.{ObjectNode}
 use Rattle.col_core.specs.History.{entry_key}
 use Rattle.col_core.specs.Log.{Log}
 use Rattle.col_core.specs.Keeping.{Kept}
-use Rattle.script_text.specs.declared.script.What.{What}
+use Rattle.script_text.specs.declared.commands.What.{What}
 use Rattle.script_text.specs.declared.script.Command.{Command}
 use Rattle.report_text.specs.declared.report.Answer.{Answer}
 use Rattle.report_text.specs.declared.report.Answer.TheVariants as answers
@@ -30,7 +30,7 @@ use Rattle.lawful_run.specs.Objects.{GetsValue, GetsValues, TakesFront}
 use Rattle.lawful_run.specs.Shapes.{TellsBehind, TellsRead}
 use Rattle.lawful_run.specs.Refusals.{Hides, Refuses, FindsNoMemory, nothing, gone, gave, hidden, kept_before}
 use Rattle.lawful_run.specs.Explains.{Explains, Answers, Explained, AnswersKeys, ShowsVerdict, start, next}
-use Rattle.script_beside.specs.Begins.{may_begin, begins_in}
+use Rattle.script_beside.specs.Begins.{may_take_row, begins_in}
 use Rattle.few_rows.proofs.Begins.{several_may, before_rows, one_that_begins, no_fewer, begun_rows}
 use Rattle.few_rows.proofs.MoreFacts.{limited, home_same, synced_same, asks_more, away_fewer}
 use Rattle.few_rows.proofs.MoreReads.{syncs_more, played_more, read_more, hides_more, refuses_more}
@@ -89,7 +89,7 @@ module _ (log : Log) (caller : Caller) (rows : ℕ) (few : rows ≤ caller.rows)
   -- ANSWERS
   -- where a row is left for what may begin one, no append finds that all are begun
   never_full : (kept : Kept) (what : What) (colours : Colours) (text : List ℕ) (used : ℕ)
-      → (may_begin what ≡ true → kept.rows < rows) → AsksToAppend (limited caller rows) kept what colours text
+      → (may_take_row what ≡ true → kept.rows < rows) → AsksToAppend (limited caller rows) kept what colours text
       → HasNoRowLeft (limited caller rows) kept colours used → ⊥
   never_full kept what colours text used left asks full =
       let l = left (several_may (limited caller rows) kept what colours text asks full.several) in
@@ -160,7 +160,7 @@ module _ (log : Log) (caller : Caller) (rows : ℕ) (few : rows ≤ caller.rows)
       )
 
   explains_more : (kept : Kept) (what : What) (answer : Answer) (nodes : List PlacedNode) (after : Kept)
-      → (may_begin what ≡ true → kept.rows < rows)
+      → (may_take_row what ≡ true → kept.rows < rows)
       → Explains log (limited caller rows) kept what answer nodes after
       → Explains log caller kept what answer nodes after
   explains_more kept what answers.NoMemory nodes after left e = (e.0, memory_more kept what after e.1)
@@ -298,7 +298,7 @@ module _ (log : Log) (caller : Caller) (rows : ℕ) (few : rows ≤ caller.rows)
       (e.0, e.1, sym (home_same caller rows what) ∙ e.2, e.3)
 
   answers_more : (kept : Kept) (command : Command) (reply : ReplyLine) (after : Kept)
-      → (may_begin command.what ≡ true → kept.rows < rows)
+      → (may_take_row command.what ≡ true → kept.rows < rows)
       → Answers log (limited caller rows) kept command reply after → Answers log caller kept command reply after
   answers_more kept command reply after left a = record {
     line = a.line;

@@ -60,6 +60,7 @@ module _ (script : Script) (rows : ℕ) where
       → LawfulRun script report
   run_more report few enough run = record {
     log = run.log;
+    version = run.version;
     names = run.names;
     clients = λ n c there. client_more few run.log n c.replies (enough n) (run.clients n c there);
     columns = columns_more run.log report.columns run.columns;

@@ -25,6 +25,7 @@ mod singles;
 mod stops;
 mod threads;
 mod transactions;
+mod versions;
 
 /// Does a script over a source and a sink of which the reads and writes with these numbers fail.
 fn run_over<R: Threads + Wait + Sync>(

@@ -25,6 +25,7 @@ use Rattle.col_core.proofs.CallerLemmas.{if_true, line_grows, reached_within, da
 use Rattle.script_text.specs.declared.script.Command.{Command}
 use Rattle.script_text.specs.declared.script.Script.{Script}
 use Rattle.script_text.specs.Fitting.{IsFitting}
+use Rattle.script_text.proofs.CallerLemmas.{regions_few}
 use Rattle.report_text.specs.declared.report.Answer.{Answer}
 use Rattle.report_text.specs.declared.report.SyncPiece.{SyncPiece}
 use Rattle.report_text.specs.declared.report.RaisePiece.{RaisePiece}
@@ -263,7 +264,7 @@ module _ (script : Script) (report : Report) (fits : IsFitting script) (run : La
       let own = (caller_of script client).own in
       let x = closing_line own sync.colour l is in
       let h = take sync.events (run.log.histories own sync.colour) in
-      let few = fits.shape.few_regions in
+      let few = regions_few script.version script.shape fits.shape in
       let lo = x.0 in
       let within = reached_within (chain own (first run.log own sync.colour sync.events)) s.cut.reached own
       (omega (arith, lo, few)) in

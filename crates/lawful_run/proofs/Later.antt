@@ -15,7 +15,7 @@ use Rattle.col_core.specs.Cuts.{Dated, chain, base}
 use Rattle.col_core.specs.PlayOrder.{Place, Stands}
 use Rattle.col_core.specs.Log.{Log, IsLater, first}
 use Rattle.col_core.specs.Keeping.{Kept, seen_after}
-use Rattle.script_text.specs.declared.script.What.{What}
+use Rattle.script_text.specs.declared.commands.What.{What}
 use Rattle.script_text.specs.declared.script.Command.{Command}
 use Rattle.report_text.specs.declared.report.Answer.{Answer}
 use Rattle.report_text.specs.declared.report.Answer.TheVariants as answers

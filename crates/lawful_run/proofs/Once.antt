@@ -16,7 +16,7 @@ use Rattle.col_core.specs.Keeping.{Kept, updated, kept_after_sync}
 use Rattle.col_core.specs.PlayOrder.{Place}
 use Rattle.col_core.proofs.CallerLemmas.{if_true, within-at, key-irrefl, Between, in_order-between, once}
 use Rattle.script_text.specs.declared.script.Script.{Script}
-use Rattle.script_text.specs.declared.script.What.{What}
+use Rattle.script_text.specs.declared.commands.What.{What}
 use Rattle.script_text.specs.Fitting.{IsFitting, IsWithin as NamesWithin}
 use Rattle.report_text.specs.declared.report.Answer.{Answer}
 use Rattle.report_text.specs.declared.report.Answer.TheVariants as answers

@@ -16,7 +16,7 @@ use Rattle.col_core.specs.Legal.{IsColumnHistory}
 use Rattle.col_core.specs.Log.{Log, first}
 use Rattle.col_core.specs.Keeping.{Kept, updated, updated_at, seen_after, seen_past, kept_after_event, kept_after_look, kept_after_sync, kept_after_single, kept_after_point, with_made, with_floor, with_row, with_node}
 use Rattle.col_core.proofs.CallerLemmas.{chains_grow, reachable_grows, within, within-at, later, dates_longer}
-use Rattle.script_text.specs.declared.script.What.{What}
+use Rattle.script_text.specs.declared.commands.What.{What}
 use Rattle.script_text.specs.declared.script.Command.{Command}
 use Rattle.report_text.specs.declared.report.Answer.{Answer}
 use Rattle.report_text.specs.declared.report.Answer.TheVariants as answers

@@ -24,7 +24,7 @@ use Rattle.col_core.proofs.CallerLemmas.{choice, if_true, if_false, by_test, cha
 use Rattle.col_core.proofs.CallerLemmas.{later, dates_longer, In, in_filter}
 use Rattle.script_text.specs.declared.script.Command.{Command}
 use Rattle.script_text.specs.declared.script.Script.{Script}
-use Rattle.script_text.specs.declared.script.What.{What}
+use Rattle.script_text.specs.declared.commands.What.{What}
 use Rattle.script_text.specs.Fitting.{IsFitting, IsWithin as NamesWithin}
 use Rattle.report_text.specs.declared.report.Answer.{Answer}
 use Rattle.report_text.specs.declared.report.Answer.TheVariants as answers

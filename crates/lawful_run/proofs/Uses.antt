@@ -17,7 +17,7 @@ use Rattle.col_core.specs.declared.Entry.{Entry}
 use Rattle.col_core.specs.Log.{Log, HasOutcome}
 use Rattle.col_core.specs.Keeping.{Kept, kept_after_single, with_made, with_floor, with_row}
 use Rattle.col_core.proofs.CallerLemmas.{choice}
-use Rattle.script_text.specs.declared.script.What.{What}
+use Rattle.script_text.specs.declared.commands.What.{What}
 use Rattle.report_text.specs.declared.report.PointPiece.{PointPiece}
 use Rattle.lawful_run.specs.Callers.{Caller, node_of}
 use Rattle.lawful_run.specs.Deeds.{AsksToAppend, colours_synced, manner_of}

@@ -79,6 +79,7 @@ pub record IsComplete (log : Log) (script : Script) (region : ℕ) (r : BegunRow
 -- client.
 pub record LawfulRun (script : Script) (report : Report) : Type 0 where
   pub log : Log
+  pub version : report.version ≡ script.version
   pub names : map (λ (c : ClientReport). c.name) report.clients ≡ script.clients
   pub clients : (n : ℕ) (c : ClientReport) → slice_get report.clients n ≡ Some c → IsClientRun log script n c.replies
   pub columns : AreColumns log script report.columns

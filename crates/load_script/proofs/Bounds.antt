@@ -18,7 +18,7 @@ use Rattle.col_core.specs.Keeping.{Kept, kept_after_event}
 use Rattle.col_core.specs.Legal.{IsColumnHistory, IsLawfulEvent, MayEnter}
 use Rattle.col_core.specs.Log.{Log}
 use Rattle.col_core.proofs.CallerLemmas.{In, slice_in, in_left, in_right, same_id-true, dated-is_dated}
-use Rattle.script_text.specs.declared.script.What.{What}
+use Rattle.script_text.specs.declared.commands.What.{What}
 use Rattle.script_text.specs.declared.script.Command.{Command}
 use Rattle.script_text.specs.declared.script.Script.{Script}
 use Rattle.script_text.specs.Fitting.{IsFitting}

@@ -4,8 +4,8 @@ use Rattle.std.specs.Prelude.{◌==◌, ◌&&◌}
 use Rattle.std.specs.List.{filter, flat_map, range_with_len}
 use Rattle.log_node.specs.declared.ids.Colours.{Colours}
 use Rattle.col_core.proofs.CallerLemmas.{choice}
-use Rattle.script_text.specs.declared.script.What.{What}
-use Rattle.script_text.specs.declared.script.What.TheVariants as whats
+use Rattle.script_text.specs.declared.commands.What.{What}
+use Rattle.script_text.specs.declared.commands.What.TheVariants as whats
 use Rattle.script_text.specs.declared.script.Command.{Command}
 use Rattle.load_script.specs.declared.script.TheConstants.{CLIENTS}
 use Rattle.load_script.specs.declared.summary.Summary.{Summary}

@@ -17,7 +17,7 @@ use Rattle.col_core.specs.Keeping.{Kept, kept_after_event}
 use Rattle.col_core.specs.Log.{Log}
 use Rattle.col_core.specs.Rows.{BegunRow, FitsRow, IsMarkOf}
 use Rattle.col_core.proofs.CallerLemmas.{In, in_contains, contains_in, in_left, in_right}
-use Rattle.script_text.specs.declared.script.What.{What}
+use Rattle.script_text.specs.declared.commands.What.{What}
 use Rattle.script_text.specs.declared.script.Command.{Command}
 use Rattle.script_text.specs.declared.script.Script.{Script}
 use Rattle.script_text.specs.Fitting.{AreBelow, IsWithin, IsFitting}

@@ -16,7 +16,7 @@ use Rattle.col_core.specs.History.{entry_key}
 use Rattle.col_core.specs.Log.{Log}
 use Rattle.col_core.specs.Rows.{BegunRow, is_of}
 use Rattle.col_core.proofs.CallerLemmas.{In, in_contains, contains_in, slice_in, in_filter, in_filter-back, key-irrefl, by_test, apart, if_true, if_false}
-use Rattle.script_text.specs.declared.script.What.{What}
+use Rattle.script_text.specs.declared.commands.What.{What}
 use Rattle.script_text.specs.declared.script.Command.{Command}
 use Rattle.script_text.specs.declared.script.Script.{Script}
 use Rattle.script_text.specs.Fitting.{IsFitting}

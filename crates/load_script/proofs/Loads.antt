@@ -8,8 +8,8 @@ use Rattle.std.proofs.lemmas.List.Elements.{All-nil, All-cons}
 use Rattle.log_node.specs.declared.ids.Colours.{Colours}
 use Rattle.log_node.specs.Sets.{members}
 use Rattle.col_core.proofs.CallerLemmas.{In, contains_in, slice_in, choice}
-use Rattle.script_text.specs.declared.script.What.{What}
-use Rattle.script_text.specs.declared.script.What.TheVariants as whats
+use Rattle.script_text.specs.declared.commands.What.{What}
+use Rattle.script_text.specs.declared.commands.What.TheVariants as whats
 use Rattle.script_text.specs.declared.script.Command.{Command}
 use Rattle.script_text.specs.Fitting.{AreBelow, HasColours, IsWithin, UsesObject, IsFitting}
 use Rattle.report_text.specs.declared.report.ColumnReport.{ColumnReport}
@@ -143,6 +143,7 @@ module _ (count : ℕ) (small : count ≤ MAX_LOAD) where
 
   pub load_fits : IsFitting (load_script count)
   load_fits = record {
+    version = refl;
     shape = record {
       a_region = omega arith;
       few_regions = omega arith;

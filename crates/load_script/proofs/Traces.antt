@@ -25,7 +25,7 @@ use Rattle.col_core.specs.Keeping.{Kept, updated, updated_at, kept_after_event, 
 use Rattle.col_core.specs.Log.{Log, first, HasOutcome}
 use Rattle.col_core.specs.PlayOrder.{Place, Stands}
 use Rattle.col_core.proofs.CallerLemmas.{In, in_append, in_left, in_right, contains_in, choice}
-use Rattle.script_text.specs.declared.script.What.{What}
+use Rattle.script_text.specs.declared.commands.What.{What}
 use Rattle.script_text.specs.declared.script.Command.{Command}
 use Rattle.script_text.specs.Fitting.{AreBelow, IsWithin}
 use Rattle.report_text.specs.declared.report.Answer.{Answer}

@@ -3,8 +3,8 @@ use Rattle.std.specs.Prelude.{ℕ, ◌+◌, ◌*◌, ◌%◌, ◌==◌, List, []
 use Rattle.std.specs.List.{flat_map, range_with_len}
 use Rattle.log_node.specs.declared.ids.Colours.{Colours}
 use Rattle.log_node.specs.Sets.{set_of}
-use Rattle.script_text.specs.declared.script.What.{What}
-use Rattle.script_text.specs.declared.script.What.TheVariants as whats
+use Rattle.script_text.specs.declared.commands.What.{What}
+use Rattle.script_text.specs.declared.commands.What.TheVariants as whats
 use Rattle.script_text.specs.declared.script.Command.{Command}
 use Rattle.script_text.specs.declared.script.Script.{Script}
 use Rattle.load_script.specs.declared.script.TheConstants.{CLIENTS, FIRST_LINE}
@@ -58,6 +58,7 @@ numbered letter count = map (λ n. letter ∷ (48 + n) ∷ []) (range_with_len 0
 -- a load's script: as many rounds as its number says
 abbrev pub load_script : ℕ → Script
 load_script count = record {
+  version = 1;
   shape = record { regions = 2; colours = 4; homes = map home_by_turns (range_with_len 0 CLIENTS); rows = 4096 };
   regions = codes "east" ∷ codes "west" ∷ [];
   colours = numbered 99 4;

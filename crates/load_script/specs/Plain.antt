@@ -1,8 +1,8 @@
 -- Scripts that only append, sync and pull, and reports of runs that found memory.
 use Rattle.std.specs.Prelude.{◌≡◌, Bool, true, false, not, ◌≤◌, ℕ, length}
 use Rattle.std.specs.List.{All, list_all}
-use Rattle.script_text.specs.declared.script.What.{What}
-use Rattle.script_text.specs.declared.script.What.TheVariants as whats
+use Rattle.script_text.specs.declared.commands.What.{What}
+use Rattle.script_text.specs.declared.commands.What.TheVariants as whats
 use Rattle.script_text.specs.declared.script.Command.{Command}
 use Rattle.script_text.specs.declared.script.Script.{Script}
 use Rattle.report_text.specs.declared.report.Answer.{Answer}

@@ -83,6 +83,7 @@ pub fn make(alloc: Global, count: u32) -> Result<Script, AllocError>
     ensures { IfOk result (λ script. script ≡ load_script count) }
 {
     Ok(Script {
+        version: 1,
         shape: Shape {
             regions: 2,
             colours: 4,

@@ -29,7 +29,7 @@ use Rattle.log_client.specs.StampedReads.{sync_piece}
 use Rattle.log_client.specs.Objects.{HasColoursOf, FoldsLine}
 use Rattle.log_client.proofs.CallerLemmas.{folds_none, follows_later, one_started, snapshot_is_own, stamps_played, tracks_long}
 use Rattle.log_map.specs.declared.map.LogMap.{LogMap}
-use Rattle.log_map.specs.Maps.{AreFresh, Gets, IsMapOf, IsShardOf}
+use Rattle.log_map.specs.Maps.{AreFresh, AreOpen, Gets, IsMapOf, IsShardOf}
 
 module _ (c : Client) (colours : List ℕ) (are : HasColoursOf c colours) where
   pub within : (colour : ℕ) → Contains colours colour → colour < length (tracks_of c)
@@ -66,13 +66,13 @@ set_cases (z ∷ xs) (suc n) (suc j) x y e = elim (set_cases xs n j x y e) [
 
 -- where one shard's fold went on
 pub map_folded : (c : Client) (m : LogMap) (place colour : ℕ) (old new : KeptLine ShardMap) (shards : List (KeptLine ShardMap))
-    → IsMapOf c m → slice_get m.colours place ≡ Some colour → slice_get m.shards.items place ≡ Some old
+    → IsMapOf c m → AreOpen m → slice_get m.colours place ≡ Some colour → slice_get m.shards.items place ≡ Some old
     → shards ≡ set m.shards.items place new → HasShardOf old.state new.state
     → FoldsLine c colour new.count (IsShardMap new.state)
     → (n : LogMap) → n.home ≡ m.home → n.colours ≡ m.colours → n.shards.items ≡ shards → IsMapOf c n
-map_folded c m place colour old new shards of there at is same folds n home colours items = record {
+map_folded c m place colour old new shards of every there at is same folds n home colours items = record {
   colours = subst (HasColoursOf c) (sym colours) of.colours;
-  many = ap length items ∙ (ap length is ∙ (length-set m.shards.items place new ∙ (of.many ∙ ap length (sym colours))));
+  many = inr (ap length items ∙ (ap length is ∙ (length-set m.shards.items place new ∙ (every ∙ ap length (sym colours)))));
   shards = λ k other shard here found.
       let here_then = ap (λ (l : List ℕ). slice_get l k) (sym colours) ∙ here in
       subst (λ (l : List ℕ). IsShardOf c l other shard) (sym colours)
@@ -133,41 +133,40 @@ module _ (s : Store) (c d : Client) (colours key : List ℕ) (colour : ℕ) (val
 -- WITHIN THE MAP
 
 -- the shard of a colour
-pub shard_at : (c : Client) (m : LogMap) (place colour : ℕ) (old : KeptLine ShardMap) → IsMapOf c m
+pub shard_at : (c : Client) (m : LogMap) (place colour : ℕ) (old : KeptLine ShardMap) → AreOpen m
     → slice_get m.colours place ≡ Some colour → old ≡ slice_index_or m.shards.items place old
     → slice_get m.shards.items place ≡ Some old
-shard_at c m place colour old of there is =
+shard_at c m place colour old every there is =
     let lt = get_within m.colours place colour there in
-    let many = of.many in
-    slice_get_read m.shards.items (length m.shards.items) place old refl (omega (arith, lt, many)) is
+    slice_get_read m.shards.items (length m.shards.items) place old refl (omega (arith, lt, every)) is
 
 -- what is folded of it
 pub shard_folds : (c : Client) (m : LogMap) (place colour : ℕ) (old : KeptLine ShardMap) (line : List PlacedNode) → IsMapOf c m
-    → slice_get m.colours place ≡ Some colour → old ≡ slice_index_or m.shards.items place old → line ≡ own_line c colour
+    → AreOpen m → slice_get m.colours place ≡ Some colour → old ≡ slice_index_or m.shards.items place old → line ≡ own_line c colour
     → FoldsFirst line old.count (IsShardMap old.state)
-shard_folds c m place colour old line of there is here =
+shard_folds c m place colour old line of every there is here =
     subst (λ (l : List PlacedNode). FoldsFirst l old.count (IsShardMap old.state)) (sym here)
-    (of.shards place colour old there (shard_at c m place colour old of there is)).folds
+    (of.shards place colour old there (shard_at c m place colour old every there is)).folds
 
 -- and its value of a key
 pub shard_value_is : (c : Client) (m : LogMap) (place colour : ℕ) (old : KeptLine ShardMap) (line : List PlacedNode)
-    (key : List ℕ) (r : Result Value AllocError) → IsMapOf c m → slice_get m.colours place ≡ Some colour
+    (key : List ℕ) (r : Result Value AllocError) → IsMapOf c m → AreOpen m → slice_get m.colours place ≡ Some colour
     → old ≡ slice_index_or m.shards.items place old → line ≡ own_line c colour
     → IfOk r (λ value. value ≡ shard_value old.state.colours old.state.shard (object_nodes line) key)
     → IfOk r (λ value. value ≡ shard_value m.colours colour (object_nodes (own_line c colour)) key)
-shard_value_is c m place colour old line key r of there is here ok =
-    let f = of.shards place colour old there (shard_at c m place colour old of there is) in
+shard_value_is c m place colour old line key r of every there is here ok =
+    let f = of.shards place colour old there (shard_at c m place colour old every there is) in
     subst (λ (l : List PlacedNode). IfOk r (λ value. value ≡ shard_value m.colours colour (object_nodes l) key)) here
     (subst (λ (k : ℕ). IfOk r (λ value. value ≡ shard_value m.colours k (object_nodes line) key)) f.shard_is
     (subst (λ (cs : List ℕ). IfOk r (λ value. value ≡ shard_value cs old.state.shard (object_nodes line) key)) f.colours_are ok))
 
 -- the map with the shard that went on
 pub map_with : (c : Client) (m : LogMap) (place colour : ℕ) (old new : KeptLine ShardMap) (line : List PlacedNode) → IsMapOf c m
-    → slice_get m.colours place ≡ Some colour → old ≡ slice_index_or m.shards.items place old → line ≡ own_line c colour
+    → AreOpen m → slice_get m.colours place ≡ Some colour → old ≡ slice_index_or m.shards.items place old → line ≡ own_line c colour
     → HasShardOf old.state new.state → FoldsFirst line new.count (IsShardMap new.state)
     → IsMapOf c (record m { shards = with_item m.shards place new })
-map_with c m place colour old new line of there is here same folds =
-    map_folded c m place colour old new (set m.shards.items place new) of there (shard_at c m place colour old of there is) refl
+map_with c m place colour old new line of every there is here same folds =
+    map_folded c m place colour old new (set m.shards.items place new) of every there (shard_at c m place colour old every there is) refl
     same (subst (λ (l : List PlacedNode). FoldsFirst l new.count (IsShardMap new.state)) here folds)
     (record m { shards = with_item m.shards place new }) refl refl refl
 
@@ -209,10 +208,20 @@ pub opened : (c : Client) (m : LogMap) → HasColoursOf c m.colours → AreFresh
     → IsMapOf c m
 opened c m are fresh = record {
   colours = are;
-  many = fresh.many;
+  many = inr fresh.many;
   shards = λ n colour shard there at. let f = fresh.each n colour shard there at in record {
     colours_are = f.0;
     shard_is = f.1;
     folds = folds_none (own_line c colour) shard.count (IsShardMap shard.state) f.2 f.3;
   };
+}
+
+-- with no shard
+pub unopened : (c : Client) (m : LogMap) → HasColoursOf c m.colours → m.shards.items ≡ [] → IsMapOf c m
+unopened c m are none = record {
+  colours = are;
+  many = inl none;
+  shards = λ n colour shard there at.
+      let e : slice_get [] n ≡ Some shard = ap (λ (l : List (KeptLine ShardMap)). slice_get l n) (sym none) ∙ at in
+      absurd (let f : ⊥ = cc (e) in f);
 }

@@ -1,5 +1,5 @@
 -- What a map keeps beside its client, and what its gets answer.
-use Rattle.std.specs.Prelude.{◌≡◌, ℕ, List, [], length, Some, slice_get}
+use Rattle.std.specs.Prelude.{◌≡◌, ◌⊎◌, ℕ, List, [], length, Some, slice_get}
 use Rattle.object_fold.specs.declared.kept_line.KeptLine.{KeptLine}
 use Rattle.object_fold.specs.declared.shard_map.ShardMap.{ShardMap}
 use Rattle.object_fold.specs.Maps.{Value}
@@ -30,10 +30,14 @@ pub record AreFresh (colours : List ℕ) (count : ℕ) (shards : List (KeptLine 
   pub each : (n colour : ℕ) (shard : KeptLine ShardMap) → slice_get colours n ≡ Some colour → slice_get shards n ≡ Some shard
       → (shard.state.colours ≡ colours) × (shard.state.shard ≡ colour) × (shard.count ≡ 0) × IsShardMap shard.state []
 
--- The map is kept beside the client: a shard for each of its colours, which are the client's.
+-- there is a shard for each colour
+abbrev pub AreOpen : LogMap → Type 0
+AreOpen m = length m.shards.items ≡ length m.colours
+
+-- The map is kept beside the client, whose colours its own are: with no shard yet, or one for each colour.
 pub record IsMapOf (c : Client) (m : LogMap) : Type 0 where
   pub colours : HasColoursOf c m.colours
-  pub many : length m.shards.items ≡ length m.colours
+  pub many : (m.shards.items ≡ []) ⊎ AreOpen m
   pub shards : (n colour : ℕ) (shard : KeptLine ShardMap) → slice_get m.colours n ≡ Some colour
       → slice_get m.shards.items n ≡ Some shard → IsShardOf c m.colours colour shard
 

@@ -1,5 +1,5 @@
 // The map.
-ghost use Rattle.std.specs.Prelude.{◌≡◌, IsTrue, ◌∷◌, [], Some, IfOk, IfErr, slice_get};
+ghost use Rattle.std.specs.Prelude.{◌≡◌, IsTrue, ◌∷◌, [], Some, IfOk, IfErr, OnOk, length, slice_get};
 ghost use Rattle.std.specs.List.{Contains};
 ghost use Rattle.object_form.specs.Forms.{is_word, form_text};
 ghost use Rattle.object_fold.specs.Nodes.{object_nodes, shard_of};
@@ -10,7 +10,7 @@ ghost use Rattle.log_client.specs.Calls.{AnswersSync};
 ghost use Rattle.log_client.specs.Clients.{IsClient, Helps, own_line};
 ghost use Rattle.log_client.specs.Reading.{RestsOn};
 ghost use Rattle.log_client.specs.Objects.{HasColoursOf, StandsIn, PutRefused, GetRefused, RefusesAway};
-ghost use Rattle.log_map.specs.Maps.{IsMapOf, IsSameMap, Gets};
+ghost use Rattle.log_map.specs.Maps.{AreFresh, AreOpen, IsMapOf, IsSameMap, Gets};
 
 use fuzzy_io::Gate;
 use log_client::{Appended, Client, ObjectFault, Store, Synced};
@@ -20,12 +20,26 @@ use std::alloc::{AllocError, Global};
 use std::sync::Wait;
 
 /// A map at a home region, for one client, with which all its calls are made. A key's nodes are in the colour of its shard; what
-/// is folded of each shard is kept.
+/// is folded of each shard is kept, from the first get on.
 #[derive(Drop)]
 pub struct LogMap {
     pub(crate) home: u8,
     pub(crate) colours: ColourList,
+    /// None before the first get; then one for each colour.
     pub(crate) shards: Vec<KeptLine<ShardMap>>,
+}
+
+// For each colour of a map a shard, of which nothing is folded.
+fn shards_of(alloc: Global, colours: &ColourList) -> Result<Vec<KeptLine<ShardMap>>, AllocError>
+    ensures { IfOk result (λ shards. AreFresh colours.now (length colours.now) shards.items) }
+{
+    let mut shards = Vec::with_capacity(alloc, colours.len())?;
+    for colour in colours.as_slice() {
+        let copy = Vec::from_slice(alloc, colours.as_slice())?;
+        let shard = ShardMap::open(alloc, ListOf::from(copy), *colour);
+        shards.push(KeptLine::new(shard))?;
+    }
+    Ok(shards)
 }
 
 // Where a colour stands among colours.
@@ -61,22 +75,16 @@ fn value_kept(
 }
 
 impl LogMap {
-    /// The map of these colours at a home, of which nothing is folded.
-    pub fn open(alloc: Global, home: u8, colours: ColourList) -> Result<LogMap, AllocError>
-        ensures of { IfOk result (λ map. (map.home ≡ home) × (map.colours ≡ colours)) }
-        ensures map { (client : Client) → HasColoursOf client colours → IfOk result (IsMapOf client) }
+    /// The map of these colours at a home, of which nothing is folded. It takes no memory.
+    pub fn open(alloc: Global, home: u8, colours: ColourList) -> LogMap
+        ensures of { (result.home ≡ home) × (result.colours ≡ colours) }
+        ensures map { (client : Client) → HasColoursOf client colours → IsMapOf client result }
     {
-        let mut shards = Vec::with_capacity(alloc, colours.len())?;
-        for colour in colours.as_slice() {
-            let copy = Vec::from_slice(alloc, colours.as_slice())?;
-            let shard = ShardMap::open(alloc, ListOf::from(copy), *colour);
-            shards.push(KeptLine::new(shard))?;
-        }
-        Ok(LogMap {
+        LogMap {
             home,
             colours,
-            shards,
-        })
+            shards: Vec::new(alloc),
+        }
     }
 
     /// Puts a value under a key: its node stands in the colour of the key's shard. Waits as an append does.
@@ -155,6 +163,39 @@ impl LogMap {
         client.append_form_to(rt, alloc, store, gate, colour, Form::Delete { key: copy })
     }
 
+    // Opens the shards, unless they are open. Without memory the map is as before.
+    fn open_shards(&mut self, alloc: Global, client: &Client) -> Result<(), AllocError>
+        requires map { IsMapOf client.now self.old }
+        ensures map { IsMapOf client.now self.new }
+        ensures same { IsSameMap self.old self.new }
+        ensures whole { OnOk result (AreOpen self.new) }
+    {
+        if self.shards.len() != self.colours.len() {
+            self.shards = shards_of(alloc, &self.colours)?;
+        }
+        Ok(())
+    }
+
+    // The value of a key, whose shard has this colour, after the own nodes that the client has played of it; the shards are open.
+    fn value_open(
+        &mut self,
+        alloc: Global,
+        client: &Client,
+        colour: u8,
+        key: &[u8],
+    ) -> Result<Option<Text>, AllocError>
+        requires map { IsMapOf client.now self.old }
+        requires whole { AreOpen self.old }
+        requires colour { Contains self.old.colours colour }
+        ensures map { IsMapOf client.now self.new }
+        ensures same { IsSameMap self.old self.new }
+        ensures value { IfOk result (λ value. value
+            ≡ shard_value self.old.colours colour (object_nodes (own_line client.now colour)) key.now) }
+    {
+        let place = place_of(self.colours.as_slice(), colour);
+        value_kept(&mut self.shards[place], alloc, client.line(colour), key)
+    }
+
     // The value of a key, whose shard has this colour, after the own nodes that the client has played of it.
     fn value(
         &mut self,
@@ -170,8 +211,8 @@ impl LogMap {
         ensures value { IfOk result (λ value. value
             ≡ shard_value self.old.colours colour (object_nodes (own_line client.now colour)) key.now) }
     {
-        let place = place_of(self.colours.as_slice(), colour);
-        value_kept(&mut self.shards[place], alloc, client.line(colour), key)
+        self.open_shards(alloc, client)?;
+        self.value_open(alloc, client, colour, key)
     }
 
     /// The value of a key after what the client then plays of its shard, or none. Waits as a sync does; the gate is for appends

@@ -12,7 +12,7 @@ use crate::made::{made_text, put_each};
 use crate::parts::{Part, parts_of, threads_for};
 use fork_join::map_indices;
 use fuzzy_io::{Failed, MemorySink, Sink};
-use report_text::{NameIndex, Output, Page, Report, print};
+use report_text::{NameIndex, Output, Page, Report, print, put_version};
 use std::alloc::{AllocError, Global};
 use std::num::NonZeroUsize;
 use std::thread::Threads;
@@ -52,7 +52,7 @@ fn put_report<O: Output>(
     requires texts { AreMade (part_text names.now) parts.now texts.now }
     ensures { Adds (O.state out.old) (O.state out.new) (report_bytes report.now) }
 {
-    out.put(b"report 1\n");
+    put_version(report.version, out);
     put_each(parts, texts, names, out);
 }
 

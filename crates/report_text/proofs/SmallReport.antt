@@ -8,7 +8,7 @@ use Rattle.log_node.specs.declared.node.Node.{Node}
 use Rattle.log_node.specs.declared.node.At.TheVariants as at_kinds
 use Rattle.log_node.specs.Vectors.{zeros}
 use Rattle.col_core.specs.declared.Event.TheVariants.{Single}
-use Rattle.script_text.specs.declared.script.Word.TheVariants as words
+use Rattle.script_text.specs.declared.commands.Word.TheVariants as words
 use Rattle.report_text.specs.declared.report.Answer.TheVariants as answers
 use Rattle.report_text.specs.declared.report.Report.{Report}
 use Rattle.report_text.specs.ReportText.{report_bytes}
@@ -24,6 +24,7 @@ first_node = record { id = first_id; region = 0; colours = record { 0 = 1 }; tex
 
 abbrev first_report : Report
 first_report = record {
+  version = 1;
   clients = record {
     name = codes "a";
     replies =

@@ -3,7 +3,7 @@ ghost use Rattle.std.specs.Prelude.{OnOk, OnErr};
 ghost use Rattle.std.specs.Io.KnownBytes.{Appends};
 ghost use Rattle.fuzzy_io.specs.Causes.{CountsFaults, AppendsFront};
 ghost use Rattle.report_text.specs.Output.{Adds};
-ghost use Rattle.report_text.specs.ReportText.{report_bytes, refusal_bytes};
+ghost use Rattle.report_text.specs.ReportText.{report_bytes, refusal_bytes, version_line};
 
 use crate::names::NameIndex;
 use crate::output::Output;
@@ -12,12 +12,21 @@ use crate::printed::print_each;
 use crate::report::Report;
 use fuzzy_io::{Failed, Sink};
 
+/// The first line of a report, to an output.
+pub fn put_version<O: Output>(version: u8, out: &mut O)
+    ensures { Adds (O.state out.old) (O.state out.new) (version_line version) }
+{
+    out.put(b"report ");
+    out.put_number(version as u64);
+    out.put(b"\n");
+}
+
 /// The report, to an output.
 fn put_report<O: Output>(report: &Report, out: &mut O)
     ensures { Adds (O.state out.old) (O.state out.new) (report_bytes report.now) }
 {
     let names = NameIndex::of(report);
-    out.put(b"report 1\n");
+    put_version(report.version, out);
     print_each(&report.clients, &names, out);
     print_each(&report.rows, &names, out);
     print_each(&report.columns, &names, out);

@@ -1,2 +1,3 @@
 mod Axis
 mod Enumerated
+mod LogCommands

@@ -4,14 +4,15 @@ use Rattle.std.specs.List.{flat_map}
 use Rattle.log_node.specs.declared.ids.Colours.{Colours}
 use Rattle.log_node.specs.declared.forms.Pair.{Pair}
 use Rattle.log_node.specs.Sets.{members}
-use Rattle.script_text.specs.declared.script.What.{What}
-use Rattle.script_text.specs.declared.script.What.TheVariants as whats
+use Rattle.script_text.specs.declared.commands.What.{What}
+use Rattle.script_text.specs.declared.commands.What.TheVariants as whats
 use Rattle.script_text.specs.declared.script.Object.{Object}
 use Rattle.script_text.specs.declared.script.Script.{Script}
 use Rattle.script_text.specs.declared.uses.Use.{Use}
 use Rattle.script_text.specs.declared.uses.Use.TheVariants.{OfLog, OfObject}
-use Rattle.script_text.specs.Uses.{use_of}
-use Rattle.script_text.specs.Words.{word_text, word_of}
+use Rattle.script_text.specs.Contents.{Said, Nothing, SaysText, SaysKey, SaysValue, SaysPair, SaysKeys, SaysPairs}
+use Rattle.script_text.specs.Commands.{content_of, use_of, word_of}
+use Rattle.script_text.specs.Words.{word_text}
 use Rattle.report_text.specs.declared.report.Answer.{Answer}
 use Rattle.report_text.specs.declared.report.Answer.TheVariants.{Stood, StampEnd, Full, Stopped, Synced, Scanned, Pulled, SameRegion, Based, Got, GotMany, GotKeys, Ruled, NoTx, Took, UnreadTrimmed, UnreadNoMemory, Trimmed, NotHome, NoMemory}
 use Rattle.run_picture.specs.Pieces.{text_shown, texts_joined}
@@ -60,48 +61,60 @@ source_label script region colour =
     texts_joined (codes " " ∷ text_shown (name_among script.regions region)
     ∷ codes " " ∷ text_shown (name_among script.colours colour) ∷ [])
 
--- the object that a command is of
-abbrev pub used_label : Script → Use → List ℕ
-used_label script (OfLog stops) = []
-used_label script (OfObject object read) = object_label script object
+-- a command of no object
+abbrev pub IsOfLog : Use → Type 0
+IsOfLog (OfLog stops) = Unit {0}
+IsOfLog (OfObject object read) = ⊥
+
+-- what a command of the log is about: its colours, or a region and a colour
+abbrev pub named_label : Script → What → List ℕ
+named_label script (whats.Append colours _) = colours_label script colours
+named_label script (whats.Stop _ colours _) = colours_label script colours
+named_label script (whats.Scan colours) = colours_label script colours
+named_label script (whats.Sync colour) = field_label (name_among script.colours colour)
+named_label script (whats.Trim colour) = field_label (name_among script.colours colour)
+named_label script (whats.Pull region colour) = source_label script region colour
+named_label script _ = []
+
+-- what a command is about, by what it is of
+abbrev pub used_label : Script → What → Use → List ℕ
+used_label script what (OfLog stops) = named_label script what
+used_label script what (OfObject object read) = object_label script object
 
 -- what a command is about: its colours, a region and a colour, or an object
 abbrev pub subject_label : Script → What → List ℕ
-subject_label script (whats.Append colours _) = colours_label script colours
-subject_label script (whats.Stop _ colours _) = colours_label script colours
-subject_label script (whats.Scan colours) = colours_label script colours
-subject_label script (whats.Sync colour) = field_label (name_among script.colours colour)
-subject_label script (whats.Trim colour) = field_label (name_among script.colours colour)
-subject_label script (whats.Pull region colour) = source_label script region colour
-subject_label script what = used_label script (use_of what)
+subject_label script what = used_label script what (use_of what)
 
 -- its word, and what it is about
 abbrev pub heading_label : Script → What → List ℕ
 heading_label script what = word_label what ++ subject_label script what
 
 -- the fields after these: a text, keys, a value
+abbrev pub fields_label : Said → List ℕ
+fields_label Nothing = []
+fields_label (SaysText text) = field_label text
+fields_label (SaysKey key) = field_label key
+fields_label (SaysValue value) = field_label value
+fields_label (SaysPair key value) = pair_label key value
+fields_label (SaysKeys keys) = flat_map field_label keys
+fields_label (SaysPairs pairs) = pairs_label pairs
+
+-- those of a command
 abbrev pub content_label : What → List ℕ
-content_label (whats.Append _ text) = field_label text
-content_label (whats.Stop _ _ text) = field_label text
-content_label (whats.Put _ key value) = pair_label key value
-content_label (whats.Get _ key) = field_label key
-content_label (whats.Del _ key) = field_label key
-content_label (whats.PutAll _ pairs) = pairs_label pairs
-content_label (whats.Commit _ pairs) = pairs_label pairs
-content_label (whats.GetAll _ keys) = flat_map field_label keys
-content_label (whats.Read _ keys) = flat_map field_label keys
-content_label (whats.Enq _ value) = field_label value
-content_label _ = []
+content_label what = fields_label (content_of what)
 
 -- a command without what it is about
 abbrev pub short_label : What → List ℕ
 short_label what = word_label what ++ content_label what
 
--- what a command says: an append its text alone, and any other its word and its content
+-- what a command with these fields says: one with a text that alone, and any other its word and the fields
+abbrev pub saying_by : What → Said → List ℕ
+saying_by what (SaysText text) = field_label text
+saying_by what _ = short_label what
+
+-- what a command says
 abbrev pub saying_label : What → List ℕ
-saying_label (whats.Append a b) = content_label (whats.Append a b)
-saying_label (whats.Stop a b c) = content_label (whats.Stop a b c)
-saying_label what = short_label what
+saying_label what = saying_by what (content_of what)
 
 -- a command whose object could not be read
 abbrev pub unread_label : What → List ℕ

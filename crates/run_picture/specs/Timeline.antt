@@ -1,10 +1,15 @@
 -- The text of a timeline, in SVG: a lane for each client, its commands in the order of the file, and who read what.
-use Rattle.std.specs.Prelude.{ℕ, ◌+◌, ◌-◌, ◌==◌, min, max, List, [], ◌∷◌, ◌++◌, length, take, Option, Some, None, decimal, codes, if◌then◌else◌}
+use Rattle.std.specs.Prelude.{true, ℕ, ◌+◌, ◌-◌, ◌==◌, min, max, List, [], ◌∷◌, ◌++◌, length, take, Option, Some, None, decimal, codes, if◌then◌else◌}
 use Rattle.std.specs.List.{flat_map, enumerate_from}
-use Rattle.script_text.specs.declared.script.What.{What}
-use Rattle.script_text.specs.declared.script.What.TheVariants as whats
+use Rattle.script_text.specs.declared.commands.What.{What}
 use Rattle.script_text.specs.declared.script.Command.{Command}
 use Rattle.script_text.specs.declared.script.Script.{Script}
+use Rattle.script_text.specs.declared.uses.NodeOf.{NodeOf}
+use Rattle.script_text.specs.declared.uses.NodeOf.TheVariants.{NoNode}
+use Rattle.script_text.specs.declared.uses.Use.{Use}
+use Rattle.script_text.specs.declared.uses.Use.TheVariants.{OfLog}
+use Rattle.script_text.specs.Contents.{Said, Nothing}
+use Rattle.script_text.specs.Commands.{content_of, node_of, use_of}
 use Rattle.report_text.specs.declared.report.Answer.{Answer}
 use Rattle.report_text.specs.declared.report.ClientReport.{ClientReport}
 use Rattle.report_text.specs.declared.report.Report.{Report}
@@ -36,30 +41,31 @@ client_text script placed =
     ∷ codes "</text><text x='18' y='46'>in " ∷ text_shown (name_among script.regions region)
     ∷ codes "</text></g>\n" ∷ [])
 
--- how the box of a command looks: one that adds a node, one that stops halfway, and one that only asks
-abbrev pub look_of : What → List ℕ
-look_of (whats.Append _ _) = codes "adds'><use href='#b'/><svg width='123' height='36'><text x='12' y='15'>"
-look_of (whats.Put _ _ _) = codes "adds'><use href='#b'/><svg width='123' height='36'><text x='12' y='15'>"
-look_of (whats.Del _ _) = codes "adds'><use href='#b'/><svg width='123' height='36'><text x='12' y='15'>"
-look_of (whats.PutAll _ _) = codes "adds'><use href='#b'/><svg width='123' height='36'><text x='12' y='15'>"
-look_of (whats.Commit _ _) = codes "adds'><use href='#b'/><svg width='123' height='36'><text x='12' y='15'>"
-look_of (whats.Enq _ _) = codes "adds'><use href='#b'/><svg width='123' height='36'><text x='12' y='15'>"
-look_of (whats.Deq _) = codes "adds'><use href='#b'/><svg width='123' height='36'><text x='12' y='22'>"
-look_of (whats.Stop _ _ _) = codes "stops'><use href='#b'/><svg width='123' height='36'><text x='12' y='15'>"
-look_of (whats.Sync _) = codes "asks'><use href='#o'/><svg width='123' height='36'><text x='12' y='22'>"
-look_of (whats.Scan _) = codes "asks'><use href='#o'/><svg width='123' height='36'><text x='12' y='22'>"
-look_of (whats.Pull _ _) = codes "asks'><use href='#o'/><svg width='123' height='36'><text x='12' y='22'>"
-look_of (whats.Trim _) = codes "asks'><use href='#o'/><svg width='123' height='36'><text x='12' y='22'>"
-look_of (whats.Get _ _) = codes "asks'><use href='#o'/><svg width='123' height='36'><text x='12' y='15'>"
-look_of (whats.GetAll _ _) = codes "asks'><use href='#o'/><svg width='123' height='36'><text x='12' y='15'>"
-look_of (whats.Read _ _) = codes "asks'><use href='#o'/><svg width='123' height='36'><text x='12' y='15'>"
+-- the form of a command's box, by the node that it appends: one that only asks, one that stops halfway, and one that adds a
+-- node
+abbrev pub form_by : NodeOf → Use → List ℕ
+form_by NoNode _ = codes "asks'><use href='#o'/>"
+form_by _ (OfLog true) = codes "stops'><use href='#b'/>"
+form_by _ _ = codes "adds'><use href='#b'/>"
+
+abbrev pub form_of : What → List ℕ
+form_of what = form_by (node_of what) (use_of what)
+
+-- how low its heading stands: higher where content is below
+abbrev pub heading_by : Said → ℕ
+heading_by Nothing = 22
+heading_by _ = 15
+
+abbrev pub heading_y : What → ℕ
+heading_y what = heading_by (content_of what)
 
 -- the beginning of a command's box
 abbrev pub box_start : Script → ℕ → Command → List ℕ
 box_start script place command =
     texts_joined (codes "<svg x='" ∷ decimal (x_of place) ∷ codes "' y='" ∷ decimal (top_of command.client + 12)
     ∷ codes "' width='130' height='36' class='box r" ∷ decimal (home_of script command.client) ∷ codes " "
-    ∷ look_of command.what ∷ [])
+    ∷ form_of command.what ∷ codes "<svg width='123' height='36'><text x='12' y='" ∷ decimal (heading_y command.what)
+    ∷ codes "'>" ∷ [])
 
 -- what a command says
 abbrev pub said_text : Script → What → List ℕ

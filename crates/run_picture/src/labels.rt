@@ -1,13 +1,14 @@
 // What a command says, as a drawing has it. Each field has a space before it.
 ghost use Rattle.std.specs.Prelude.{◌≡◌};
 ghost use Rattle.std.specs.List.{flat_map};
+ghost use Rattle.script_text.specs.Commands.{use_of};
 ghost use Rattle.report_text.specs.Output.{Adds};
-ghost use Rattle.run_picture.specs.Labels.{name_among, word_label, field_label, pair_label, pairs_label, colours_label, object_label, source_label, subject_label, heading_label, content_label, short_label, saying_label, unread_label, node_label};
+ghost use Rattle.run_picture.specs.Labels.{name_among, word_label, field_label, pair_label, pairs_label, colours_label, object_label, source_label, IsOfLog, named_label, subject_label, heading_label, content_label, short_label, saying_label, unread_label, node_label};
 
 use crate::pieces::{Piece, put_all};
 use log_node::{Colours, Names, Pair, Text};
 use report_text::{Answer, Output};
-use script_text::{Script, What};
+use script_text::{Content, Script, Use, What};
 
 /// The name with this number; nothing where the number names nothing.
 pub fn name_among(names: &Names, number: u8) -> &[u8]
@@ -100,9 +101,10 @@ fn put_source<O: Output>(script: &Script, region: u8, colour: u8, out: &mut O)
     );
 }
 
-/// What the command is about: its colours, a region and a colour, or an object.
-fn put_subject<O: Output>(script: &Script, what: &What, out: &mut O)
-    ensures { Adds (O.state out.old) (O.state out.new) (subject_label script.now what.now) }
+// What a command of the log is about: its colours, or a region and a colour.
+fn put_named<O: Output>(script: &Script, what: &What, out: &mut O)
+    requires { IsOfLog (use_of what.now) }
+    ensures { Adds (O.state out.old) (O.state out.new) (named_label script.now what.now) }
 {
     match what {
         What::Append { colours, .. } => put_colours(script, *colours, out),
@@ -111,15 +113,17 @@ fn put_subject<O: Output>(script: &Script, what: &What, out: &mut O)
         What::Sync { colour } => put_field(name_among(&script.colours, *colour), out),
         What::Trim { colour } => put_field(name_among(&script.colours, *colour), out),
         What::Pull { region, colour } => put_source(script, *region, *colour, out),
-        What::Put { object, .. } => put_object(script, *object, out),
-        What::Get { object, .. } => put_object(script, *object, out),
-        What::Del { object, .. } => put_object(script, *object, out),
-        What::PutAll { object, .. } => put_object(script, *object, out),
-        What::GetAll { object, .. } => put_object(script, *object, out),
-        What::Read { object, .. } => put_object(script, *object, out),
-        What::Commit { object, .. } => put_object(script, *object, out),
-        What::Enq { object, .. } => put_object(script, *object, out),
-        What::Deq { object } => put_object(script, *object, out),
+        _ => unreachable!(),
+    }
+}
+
+// What the command is about: its colours, a region and a colour, or an object.
+fn put_subject<O: Output>(script: &Script, what: &What, out: &mut O)
+    ensures { Adds (O.state out.old) (O.state out.new) (subject_label script.now what.now) }
+{
+    match what.use_of() {
+        Use::OfLog { .. } => put_named(script, what, out),
+        Use::OfObject { object, .. } => put_object(script, object, out),
     }
 }
 
@@ -135,22 +139,14 @@ pub fn put_heading<O: Output>(script: &Script, what: &What, out: &mut O)
 pub fn put_content<O: Output>(what: &What, out: &mut O)
     ensures { Adds (O.state out.old) (O.state out.new) (content_label what.now) }
 {
-    match what {
-        What::Append { text, .. } => put_field(text.as_bytes(), out),
-        What::Stop { text, .. } => put_field(text.as_bytes(), out),
-        What::Put { key, value, .. } => put_pair(key.as_bytes(), value.as_bytes(), out),
-        What::Get { key, .. } => put_field(key.as_bytes(), out),
-        What::Del { key, .. } => put_field(key.as_bytes(), out),
-        What::PutAll { pairs, .. } => put_pairs(pairs.as_slice(), out),
-        What::Commit { pairs, .. } => put_pairs(pairs.as_slice(), out),
-        What::GetAll { keys, .. } => put_fields(keys.as_slice(), out),
-        What::Read { keys, .. } => put_fields(keys.as_slice(), out),
-        What::Enq { value, .. } => put_field(value.as_bytes(), out),
-        What::Sync { .. } => put_all(&[], out),
-        What::Scan { .. } => put_all(&[], out),
-        What::Pull { .. } => put_all(&[], out),
-        What::Trim { .. } => put_all(&[], out),
-        What::Deq { .. } => put_all(&[], out),
+    match what.content() {
+        Content::Nothing => put_all(&[], out),
+        Content::Text(text) => put_field(text, out),
+        Content::Key(key) => put_field(key, out),
+        Content::Value(value) => put_field(value, out),
+        Content::Pair(key, value) => put_pair(key, value, out),
+        Content::Keys(keys) => put_fields(keys, out),
+        Content::Pairs(pairs) => put_pairs(pairs, out),
     }
 }
 
@@ -172,26 +168,18 @@ fn put_unread<O: Output>(what: &What, out: &mut O)
     );
 }
 
-// What a command says: an append its text alone, and any other its word and its content.
+// What a command says: one that appends a text that alone, and any other its word and its content.
 fn put_saying<O: Output>(what: &What, out: &mut O)
     ensures { Adds (O.state out.old) (O.state out.new) (saying_label what.now) }
 {
-    match what {
-        What::Append { .. } => put_content(what, out),
-        What::Stop { .. } => put_content(what, out),
-        What::Sync { .. } => put_short(what, out),
-        What::Scan { .. } => put_short(what, out),
-        What::Pull { .. } => put_short(what, out),
-        What::Trim { .. } => put_short(what, out),
-        What::Put { .. } => put_short(what, out),
-        What::Get { .. } => put_short(what, out),
-        What::Del { .. } => put_short(what, out),
-        What::PutAll { .. } => put_short(what, out),
-        What::GetAll { .. } => put_short(what, out),
-        What::Read { .. } => put_short(what, out),
-        What::Commit { .. } => put_short(what, out),
-        What::Enq { .. } => put_short(what, out),
-        What::Deq { .. } => put_short(what, out),
+    match what.content() {
+        Content::Text(text) => put_field(text, out),
+        Content::Nothing => put_short(what, out),
+        Content::Key(_) => put_short(what, out),
+        Content::Value(_) => put_short(what, out),
+        Content::Pair(_, _) => put_short(what, out),
+        Content::Keys(_) => put_short(what, out),
+        Content::Pairs(_) => put_short(what, out),
     }
 }
 

@@ -2,7 +2,7 @@
 ghost use Rattle.std.specs.Prelude.{◌≡◌, take};
 ghost use Rattle.std.specs.List.{flat_map, enumerate_from};
 ghost use Rattle.report_text.specs.Output.{Adds};
-ghost use Rattle.run_picture.specs.Timeline.{shown_of, line_text, client_text, look_of, box_start, said_text, note_start, told_text, point_text, end_text, more_text, head_text, tail_text, parts_text, timeline_text};
+ghost use Rattle.run_picture.specs.Timeline.{shown_of, line_text, client_text, form_of, heading_y, box_start, said_text, note_start, told_text, point_text, end_text, more_text, head_text, tail_text, parts_text, timeline_text};
 
 use crate::answers::{home_of, put_answer};
 use crate::arrows::{answer_to, put_arrows};
@@ -11,7 +11,7 @@ use crate::look::{TIMELINE_LEGEND, put_start};
 use crate::pieces::{Piece, put_all};
 use crate::places::{top_of, x_of};
 use report_text::{ClientReport, Output, Report};
-use script_text::{Command, Script, What};
+use script_text::{Command, Content, NodeOf, Script, Use, What};
 
 /// How many commands are shown at most.
 pub const COMMANDS_SHOWN: usize = 40;
@@ -82,41 +82,24 @@ fn put_clients<O: Output>(script: &Script, clients: &[ClientReport], out: &mut O
     }
 }
 
-// How the box of a command looks: filled where it adds a node, dashed where it stops halfway, and round where it only asks.
-fn look_of(what: &What) -> &'static str
-    ensures { result.now ≡ look_of what.now }
+// The form of a command's box: round where it only asks, dashed where it stops halfway, and filled where it adds a node.
+fn form_of(what: &What) -> &'static str
+    ensures { result.now ≡ form_of what.now }
 {
-    match what {
-        What::Append { .. } =>
-            "adds'><use href='#b'/><svg width='123' height='36'><text x='12' y='15'>",
-        What::Put { .. } =>
-            "adds'><use href='#b'/><svg width='123' height='36'><text x='12' y='15'>",
-        What::Del { .. } =>
-            "adds'><use href='#b'/><svg width='123' height='36'><text x='12' y='15'>",
-        What::PutAll { .. } =>
-            "adds'><use href='#b'/><svg width='123' height='36'><text x='12' y='15'>",
-        What::Commit { .. } =>
-            "adds'><use href='#b'/><svg width='123' height='36'><text x='12' y='15'>",
-        What::Enq { .. } =>
-            "adds'><use href='#b'/><svg width='123' height='36'><text x='12' y='15'>",
-        What::Deq { .. } =>
-            "adds'><use href='#b'/><svg width='123' height='36'><text x='12' y='22'>",
-        What::Stop { .. } =>
-            "stops'><use href='#b'/><svg width='123' height='36'><text x='12' y='15'>",
-        What::Sync { .. } =>
-            "asks'><use href='#o'/><svg width='123' height='36'><text x='12' y='22'>",
-        What::Scan { .. } =>
-            "asks'><use href='#o'/><svg width='123' height='36'><text x='12' y='22'>",
-        What::Pull { .. } =>
-            "asks'><use href='#o'/><svg width='123' height='36'><text x='12' y='22'>",
-        What::Trim { .. } =>
-            "asks'><use href='#o'/><svg width='123' height='36'><text x='12' y='22'>",
-        What::Get { .. } =>
-            "asks'><use href='#o'/><svg width='123' height='36'><text x='12' y='15'>",
-        What::GetAll { .. } =>
-            "asks'><use href='#o'/><svg width='123' height='36'><text x='12' y='15'>",
-        What::Read { .. } =>
-            "asks'><use href='#o'/><svg width='123' height='36'><text x='12' y='15'>",
+    match (what.node_of(), what.use_of()) {
+        (NodeOf::NoNode, _) => "asks'><use href='#o'/>",
+        (_, Use::OfLog { stops: true }) => "stops'><use href='#b'/>",
+        (_, _) => "adds'><use href='#b'/>",
+    }
+}
+
+// How low its heading stands: higher where content is below.
+fn heading_y(what: &What) -> u64
+    ensures { result ≡ heading_y what.now }
+{
+    match what.content() {
+        Content::Nothing => 22,
+        _ => 15,
     }
 }
 
@@ -133,7 +116,10 @@ fn put_box_start<O: Output>(script: &Script, place: usize, command: &Command, ou
             Piece::Mark("' width='130' height='36' class='box r"),
             Piece::Number(home_of(script, command.client) as u64),
             Piece::Mark(" "),
-            Piece::Mark(look_of(&command.what)),
+            Piece::Mark(form_of(&command.what)),
+            Piece::Mark("<svg width='123' height='36'><text x='12' y='"),
+            Piece::Number(heading_y(&command.what)),
+            Piece::Mark("'>"),
         ],
         out,
     );

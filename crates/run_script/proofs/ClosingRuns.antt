@@ -26,6 +26,7 @@ use Rattle.stamp_board.specs.declared.rows.ClosedRow.{ClosedRow}
 use Rattle.stamp_board.specs.declared.view.Size.{Size}
 use Rattle.script_text.specs.declared.script.Script.{Script}
 use Rattle.script_text.specs.Fitting.{IsFitting}
+use Rattle.script_text.proofs.CallerLemmas.{regions_few}
 use Rattle.report_text.specs.declared.report.ClientReport.{ClientReport}
 use Rattle.report_text.specs.declared.report.ColumnReport.{ColumnReport}
 use Rattle.report_text.specs.declared.report.QueueKey.{QueueKey}
@@ -471,6 +472,7 @@ module _ (script : Script) (fits : IsFitting script) (s : Store) (clients : List
   pub runs_end_lawfully : LawfulRun script report
   runs_end_lawfully = record {
     log = log;
+    version = refl;
     names = names;
     clients = client_runs;
     columns = columns;
@@ -495,7 +497,7 @@ module _ (script : Script) (fits : IsFitting script) (s : Store) (clients : List
   pub can_be_shown : CanShow script.regions script.colours closed
   can_be_shown = record {
     many = many_regions ∙ sym fits.regions;
-    few = let a = fits.regions in let b = fits.shape.few_regions in omega (arith, a, b);
+    few = let a = fits.regions in let b = regions_few script.version script.shape fits.shape in omega (arith, a, b);
     columns = λ n e at.
         let r = (region_at n e at).2 in
         let region = slice_get_within closed.regions n e at in

@@ -11,11 +11,11 @@ use Rattle.log_node.specs.Sets.{members}
 use Rattle.col_core.specs.Keeping.{Kept, kept_after_event, kept_after_sync, with_made, with_row}
 use Rattle.col_core.specs.Log.{Log}
 use Rattle.col_core.proofs.CallerLemmas.{contains_in}
-use Rattle.script_text.specs.declared.script.What.{What}
-use Rattle.script_text.specs.declared.script.What.TheVariants as whats
+use Rattle.script_text.specs.declared.commands.What.{What}
+use Rattle.script_text.specs.declared.commands.What.TheVariants as whats
 use Rattle.script_text.specs.declared.uses.Use.{Use}
 use Rattle.script_text.specs.declared.uses.Use.TheVariants.{OfLog, OfObject}
-use Rattle.script_text.specs.Uses.{use_of}
+use Rattle.script_text.specs.Commands.{use_of}
 use Rattle.report_text.specs.declared.report.Answer.TheVariants as answers
 use Rattle.report_text.specs.declared.report.PointPiece.{PointPiece}
 use Rattle.report_text.specs.declared.report.RaisePiece.{RaisePiece}

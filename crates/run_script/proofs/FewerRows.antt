@@ -30,6 +30,7 @@ can_run_with script dealt rows can some few =
         begins = can.is.begins;
       };
       fits = let f = can.fits in record {
+        version = f.version;
         shape = let of = f.shape in record {
           a_region = of.a_region;
           few_regions = of.few_regions;

@@ -8,8 +8,8 @@ use Rattle.col_core.specs.Keeping.{Kept, nothing_kept, with_read}
 use Rattle.col_core.specs.Log.{Log}
 use Rattle.script_text.specs.Items.{is_stop}
 use Rattle.script_text.specs.declared.script.Object.{Object}
-use Rattle.script_text.specs.declared.script.What.{What}
-use Rattle.script_text.specs.declared.script.What.TheVariants as whats
+use Rattle.script_text.specs.declared.commands.What.{What}
+use Rattle.script_text.specs.declared.commands.What.TheVariants as whats
 use Rattle.report_text.specs.declared.report.Answer.{Answer}
 use Rattle.report_text.specs.declared.report.Answer.TheVariants as answers
 use Rattle.lawful_run.specs.Asks.{home_asked, may_help}

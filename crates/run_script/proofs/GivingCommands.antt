@@ -1,5 +1,5 @@
 -- What a client gives to appends, stops, pulls and trims, by what its calls left.
-use Rattle.std.proofs.Common.{◌≡◌, ◌≢◌, ◌⊎◌, ℕ, ◌^◌, ◌<◌, ◌≤◌, List, [], map, true, Some, None, Err, refl, ap, sym, subst, ◌∙◌, inl, inr, arith}
+use Rattle.std.proofs.Common.{◌≡◌, ◌≢◌, ◌⊎◌, ℕ, ◌+◌, ◌*◌, ◌^◌, ◌<◌, ◌≤◌, List, [], length, map, true, Some, None, Err, refl, ap, sym, subst, ◌∙◌, inl, inr, arith}
 use Rattle.std.specs.Prelude.{Result}
 use Rattle.std.specs.List.{range_with_len}
 use Rattle.std.proofs.lemmas.List.Elements.{All-contains}
@@ -13,8 +13,8 @@ use Rattle.col_core.specs.Keeping.{Kept}
 use Rattle.col_core.specs.Log.{Log}
 use Rattle.col_core.proofs.CallerLemmas.{in_filter-back, contains_in}
 use Rattle.script_text.specs.Fitting.{AreBelow, HasColours}
-use Rattle.script_text.specs.declared.script.What.{What}
-use Rattle.script_text.specs.declared.script.What.TheVariants as whats
+use Rattle.script_text.specs.declared.commands.What.{What}
+use Rattle.script_text.specs.declared.commands.What.TheVariants as whats
 use Rattle.report_text.specs.declared.report.Answer.{Answer}
 use Rattle.report_text.specs.declared.report.Answer.TheVariants as answers
 use Rattle.lawful_run.specs.Callers.{Caller, node_of}
@@ -34,7 +34,7 @@ use Rattle.log_client.specs.Fits.{HaveGoneOn}
 use Rattle.log_client.specs.Growing.{HasGrown}
 use Rattle.log_client.specs.Clients.{IsClient, Finished, Helps, Keeps, caller_of, holds_of, seen_of, starts_of}
 use Rattle.log_client.specs.Calls.{IsExplained, IsSame, PullsAs, PullRefused, GaveAlone, TrimsAs}
-use Rattle.log_client.specs.Appends.{AppendsAs, AppendRefused, AreColoursOf, AppendFindsNoMemory, AppendStopped, piece_of}
+use Rattle.log_client.specs.Appends.{AppendsAs, AppendRefused, AreColoursOf, IsStopWithin, AppendFindsNoMemory, AppendStopped, piece_of}
 use Rattle.log_client.proofs.CallerLemmas.{rests_same}
 use Rattle.run_script.specs.Serving.{ServesLog}
 use Rattle.run_script.proofs.CommandAnswers as commands
@@ -60,6 +60,11 @@ colours_of s colours least some has below =
       some = omega (arith, some, many);
       within = has_below colours s.size.colours below has.bits;
     }
+
+-- a stop of several colours, within its append
+pub stop_within : (colours : Colours) (steps : ℕ) → HasColours 2 colours → steps ≤ 2 * length (members colours) + 2
+    → IsStopWithin colours steps
+stop_within colours steps has few = (has.many, few)
 
 -- APPENDS
 

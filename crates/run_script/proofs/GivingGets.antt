@@ -13,15 +13,22 @@ use Rattle.col_core.proofs.CallerLemmas.{contains_in}
 use Rattle.script_text.specs.declared.script.Kind.{Kind}
 use Rattle.script_text.specs.declared.script.Kind.TheVariants as kinds
 use Rattle.script_text.specs.declared.script.Object.{Object}
-use Rattle.script_text.specs.declared.script.What.{What}
-use Rattle.script_text.specs.declared.script.What.TheVariants as whats
+use Rattle.script_text.specs.declared.commands.What.{What}
+use Rattle.script_text.specs.declared.commands.What.TheVariants as whats
+use Rattle.script_text.specs.declared.uses.ReadUse.TheVariants.{Leaves}
+use Rattle.script_text.specs.declared.uses.Use.{Use}
+use Rattle.script_text.specs.declared.uses.Use.TheVariants.{OfObject}
+use Rattle.script_text.specs.Commands.{use_of}
+use Rattle.report_text.specs.declared.report.SyncPiece.{SyncPiece}
+use Rattle.script_meaning.specs.States.{kind_in}
 use Rattle.report_text.specs.declared.report.Answer.{Answer}
 use Rattle.report_text.specs.declared.report.Answer.TheVariants as answers
-use Rattle.lawful_run.specs.Asks.{Getting, home_asked, object_colours, object_home, shards}
-use Rattle.lawful_run.specs.Deeds.{AsksToAppend, colours_synced, manner_of}
+use Rattle.lawful_run.specs.Asks.{Getting, home_asked, kind_of_object, kind_used, object_colours, object_home, shards}
+use Rattle.lawful_run.specs.Deeds.{AsksToAppend, Deed, ShardsOf, colours_reached, colours_synced, deed_of, manner_of}
 use Rattle.lawful_run.specs.Callers.{Caller}
 use Rattle.lawful_run.specs.Explains.{Explains}
-use Rattle.lawful_run.specs.Reads.{HidesSyncs, IsTrimmed}
+use Rattle.lawful_run.specs.Objects.{GetsValue, GetsValues}
+use Rattle.lawful_run.specs.Reads.{HidesSyncs, IsTrimmed, Syncs, kept_after_piece}
 use Rattle.lawful_run.specs.Refusals.{IsAway, IsHomeRefusal}
 use Rattle.lawful_run.proofs.CallerLemmas.{explains_get_trimmed, explains_get_without, explains_take, explains_unread, explains_unread_without}
 use Rattle.append_core.specs.declared.stood.Point.{Point}
@@ -95,66 +102,106 @@ module _ (s : Store) (c d : Client) (on : RestsOn s c d) (objects : List Object)
     get_refused faults.NoTx is away = absurd is
     get_refused faults.NoMemory is away = without (untold_hidden s c d colour is) away
 
-module _ (s : Store) (c d : Client) (on : RestsOn s c d) (answer : Answer) where
-  pub gives_map_get : (home : ℕ) (colours key : List ℕ) (call : Result (Value × Synced) ObjectFault)
+-- what is asked so is explained where it is answered by the value of the key in a map
+abbrev pub ExplainsGot : (ℕ → What) → List ℕ → Type 0
+ExplainsGot asked key =
+    (log : Log) (caller : Caller) (kept after : Kept) (object : ℕ) (value : Value) (sync : SyncPiece)
+    → ((home : ℕ) × (colours : List ℕ) × (kind_of_object caller object ≡ Some (kinds.Map home colours))
+    × (colours_synced caller (asked object) ≡ sync.colour ∷ [])
+    × Syncs log caller kept sync.colour sync.events sync.counts × GetsValue log caller colours sync key value
+    × (after ≡ kept_after_piece log caller kept sync))
+    → Explains log caller kept (asked object) (answers.Got value sync) [] after
+
+-- the same of the values of the key in a causal map
+abbrev pub ExplainsGotMany : (ℕ → What) → List ℕ → Type 0
+ExplainsGotMany asked key =
+    (log : Log) (caller : Caller) (kept after : Kept) (object : ℕ) (values : List (List ℕ)) (sync : SyncPiece)
+    → ((kind_of_object caller object ≡ Some (kinds.Causal sync.colour))
+    × Syncs log caller kept sync.colour sync.events sync.counts × GetsValues log caller sync key values
+    × (after ≡ kept_after_piece log caller kept sync))
+    → Explains log caller kept (asked object) (answers.GotMany values sync) [] after
+
+-- of a command that asks for a key of an object
+module _ (s : Store) (c d : Client) (on : RestsOn s c d) (answer : Answer) (asked : ℕ → What) (key : List ℕ)
+    (uses : (object : ℕ) → use_of (asked object) ≡ OfObject object Leaves)
+    (deeds : (object : ℕ) → deed_of (asked object) ≡ record { manner = Getting; syncs = ShardsOf (key ∷ []) }) where
+  module _ (objects : List Object) (object : ℕ) (kind : Kind) (at : kind_in objects object ≡ Some kind) where
+    abbrev it : Caller
+    it = caller_of s d objects
+
+    getting : manner_of (asked object) ≡ Getting
+    getting = ap (λ (x : Deed). x.manner) (deeds object)
+
+    homes : home_asked it (asked object) ≡ object_home (Some kind)
+    homes = ap (λ (u : Use). object_home (kind_used it u)) (uses object) ∙ ap object_home at
+
+    syncs : colours_synced it (asked object) ≡ shards (object_colours (Some kind)) (key ∷ [])
+    syncs = ap (λ (u : Use). colours_reached (object_colours (kind_used it u)) (deed_of (asked object)).syncs) (uses object)
+        ∙ (ap (λ (x : Deed). colours_reached (object_colours (kind_of_object it object)) x.syncs) (deeds object)
+        ∙ ap (λ (k : Option Kind). shards (object_colours k) (key ∷ [])) at)
+
+  pub gives_map_get : ExplainsGot asked key → (home : ℕ) (colours : List ℕ) (call : Result (Value × Synced) ObjectFault)
       → answer ≡ get_answer call → HasColoursOf c colours → (Helps d → Helps c)
       → (c.region ≢ home → call ≡ Err (faults.NotHome home))
       → IfOk call (λ r. Gets s c d colours (shard_of colours key) key r.0 r.1)
       → IfErr call (GetRefused (Some home) s c d (shard_of colours key))
-      → GivesFor s c d (kinds.Map home colours) (λ object. whats.Get object key) answer
-  gives_map_get home colours key call shown are idle tells ok err objects object at =
-      subst (λ (a : Answer). GivesOf s objects c d (whats.Get object key) a []) (sym shown) (by call tells ok err) where
-        synced : colours_synced (caller_of s d objects) (whats.Get object key) ≡ shard_of colours key ∷ []
-        synced = ap (λ (k : Option Kind). shards (object_colours k) (key ∷ [])) at ∙ shard_alone c colours key are
+      → GivesFor s c d (kinds.Map home colours) asked answer
+  gives_map_get explains home colours call shown are idle tells ok err = record { no_reads = refl; of = each } where
+    each : (objects : List Object) (object : ℕ) → kind_in objects object ≡ Some (kinds.Map home colours)
+        → GivesOf s objects c d (asked object) answer []
+    each objects object at =
+        subst (λ (a : Answer). GivesOf s objects c d (asked object) a []) (sym shown) (by call tells ok err) where
+          home_is : home_asked (caller_of s d objects) (asked object) ≡ Some home
+          home_is = homes objects object (kinds.Map home colours) at
 
-        by : (call : Result (Value × Synced) ObjectFault) → (c.region ≢ home → call ≡ Err (faults.NotHome home))
-            → IfOk call (λ r. Gets s c d colours (shard_of colours key) key r.0 r.1)
-            → IfErr call (GetRefused (Some home) s c d (shard_of colours key))
-            → GivesOf s objects c d (whats.Get object key) (get_answer call) []
-        by (Ok got) tells ok err =
-            gives_by s c d on objects (whats.Get object key) (get_answer (Ok got)) (GetsAs colours key got.1 got.0)
-            (inr idle)
-            (away_by s c d on objects (whats.Get object key) (Some home) (Ok got) get_answer (λ h. refl)
-            (ap object_home at) (told_home c home (Ok got) tells)) ok.explained
-            (λ log kept after r. (refl, object, key, refl, home, colours, at, synced ∙ ap (λ (k : ℕ). k ∷ []) (sym ok.synced), r.0, r.1, r.2))
-        by (Err fault) tells ok err =
-            get_refused s c d on objects (whats.Get object key) refl idle (Some home)
-            (ap object_home at) (shard_of colours key) synced fault err
-            (away_by s c d on objects (whats.Get object key) (Some home) (Err fault) get_answer (λ h. refl)
-            (ap object_home at) (told_home c home (Err fault) tells))
+          synced : colours_synced (caller_of s d objects) (asked object) ≡ shard_of colours key ∷ []
+          synced = syncs objects object (kinds.Map home colours) at ∙ shard_alone c colours key are
 
-  pub gives_causal_get : (colour : ℕ) (key : List ℕ) (call : Result (List (List ℕ) × Synced) ObjectFault)
+          by : (call : Result (Value × Synced) ObjectFault) → (c.region ≢ home → call ≡ Err (faults.NotHome home))
+              → IfOk call (λ r. Gets s c d colours (shard_of colours key) key r.0 r.1)
+              → IfErr call (GetRefused (Some home) s c d (shard_of colours key))
+              → GivesOf s objects c d (asked object) (get_answer call) []
+          by (Ok got) tells ok err =
+              gives_by s c d on objects (asked object) (get_answer (Ok got)) (GetsAs colours key got.1 got.0) (inr idle)
+              (away_by s c d on objects (asked object) (Some home) (Ok got) get_answer (λ h. refl) home_is
+              (told_home c home (Ok got) tells)) ok.explained
+              (λ log kept after r. explains log (caller_of s d objects) kept after object got.0 (sync_piece got.1)
+              (home, colours, at, synced ∙ ap (λ (k : ℕ). k ∷ []) (sym ok.synced), r.0, r.1, r.2))
+          by (Err fault) tells ok err =
+              get_refused s c d on objects (asked object) (getting objects object (kinds.Map home colours) at) idle (Some home)
+              home_is (shard_of colours key) synced fault err
+              (away_by s c d on objects (asked object) (Some home) (Err fault) get_answer (λ h. refl) home_is
+              (told_home c home (Err fault) tells))
+
+  pub gives_causal_get : ExplainsGotMany asked key → (colour : ℕ) (call : Result (List (List ℕ) × Synced) ObjectFault)
       → answer ≡ many_answer call → colour < MAX_COLOURS → (Helps d → Helps c)
       → IfOk call (λ r. GetsMany s c d colour key r.0 r.1) → IfErr call (GetRefused None s c d colour)
-      → GivesFor s c d (kinds.Causal colour) (λ object. whats.Get object key) answer
-  gives_causal_get colour key call shown low idle ok err objects object at =
-      subst (λ (a : Answer). GivesOf s objects c d (whats.Get object key) a []) (sym shown) (by call ok err) where
-        -- it has no home
-        no_home : (answer : Answer) → IsAway (caller_of s d objects) (home_asked (caller_of s d objects) (whats.Get object key)) → IsHomeRefusal answer
-        no_home answer away = absurd (subst (IsAway (caller_of s d objects)) (ap object_home at) away)
+      → GivesFor s c d (kinds.Causal colour) asked answer
+  gives_causal_get explains colour call shown low idle ok err = record { no_reads = refl; of = each } where
+    each : (objects : List Object) (object : ℕ) → kind_in objects object ≡ Some (kinds.Causal colour)
+        → GivesOf s objects c d (asked object) answer []
+    each objects object at =
+        subst (λ (a : Answer). GivesOf s objects c d (asked object) a []) (sym shown) (by call ok err) where
+          -- it has no home
+          no_home : (answer : Answer) → IsAway (caller_of s d objects) (home_asked (caller_of s d objects) (asked object)) → IsHomeRefusal answer
+          no_home answer away =
+              absurd (subst (IsAway (caller_of s d objects)) (homes objects object (kinds.Causal colour) at) away)
 
-        by : (call : Result (List (List ℕ) × Synced) ObjectFault) → IfOk call (λ r. GetsMany s c d colour key r.0 r.1)
-            → IfErr call (GetRefused None s c d colour)
-            → GivesOf s objects c d (whats.Get object key) (many_answer call) []
-        by (Ok got) ok err =
-            gives_by s c d on objects (whats.Get object key) (many_answer (Ok got)) (GetsManyAs key got.1 got.0)
-            (inr idle) (no_home (many_answer (Ok got))) ok.explained
-            (λ log kept after r. (
-              refl,
-              object,
-              key,
-              refl,
-              at ∙ ap (λ (k : ℕ). Some (kinds.Causal k)) (sym ok.synced),
-              r.0,
-              r.1,
-              r.2,
-            ))
-        by (Err fault) ok err =
-            get_refused s c d on objects (whats.Get object key) refl idle None
-            (ap object_home at) colour
-            (ap (λ (k : Option Kind). shards (object_colours k) (key ∷ [])) at ∙ only_shard colour key low) fault err
-            (no_home (fault_answer fault))
+          by : (call : Result (List (List ℕ) × Synced) ObjectFault) → IfOk call (λ r. GetsMany s c d colour key r.0 r.1)
+              → IfErr call (GetRefused None s c d colour)
+              → GivesOf s objects c d (asked object) (many_answer call) []
+          by (Ok got) ok err =
+              gives_by s c d on objects (asked object) (many_answer (Ok got)) (GetsManyAs key got.1 got.0) (inr idle)
+              (no_home (many_answer (Ok got))) ok.explained
+              (λ log kept after r. explains log (caller_of s d objects) kept after object got.0 (sync_piece got.1)
+              (at ∙ ap (λ (k : ℕ). Some (kinds.Causal k)) (sym ok.synced), r.0, r.1, r.2))
+          by (Err fault) ok err =
+              get_refused s c d on objects (asked object) (getting objects object (kinds.Causal colour) at) idle None
+              (homes objects object (kinds.Causal colour) at) colour
+              (syncs objects object (kinds.Causal colour) at ∙ only_shard colour key low) fault err
+              (no_home (fault_answer fault))
 
+module _ (s : Store) (c d : Client) (on : RestsOn s c d) (answer : Answer) where
   -- DEQUEUES
 
   pub gives_deq : (home colour : ℕ) (call : Result (Value × Appended × Synced) ObjectFault)
@@ -164,58 +211,61 @@ module _ (s : Store) (c d : Client) (on : RestsOn s c d) (answer : Answer) where
       → (c.region ≢ home → call ≡ Err (faults.NotHome home))
       → IfOk call (λ r. Dequeues s c d colour r.0 r.1 r.2) → IfErr call (DeqRefused home s c d colour)
       → GivesFor s c d (kinds.Queue home colour) (λ object. whats.Deq object) answer
-  gives_deq home colour call took shown tells ok err objects object at = by call took shown tells ok err where
-    asks : (kept : Kept) (set : Colours) → members set ≡ colour ∷ [] → AsksToAppend (caller_of s d objects) kept (whats.Deq object) set dequeue_text
-    asks kept set is = (is ∙ ap object_colours (sym at), refl)
-
-    hides : (log : Log) (kept after : Kept) → HidesOne colour log (caller_of s d objects) kept after
-        → HidesSyncs log (caller_of s d objects) kept (colours_synced (caller_of s d objects) (whats.Deq object)) after
-    hides log kept after h = subst (λ (l : List ℕ). HidesSyncs log (caller_of s d objects) kept l after) (sym (ap object_colours at)) h
-
-    refused : (fault : ObjectFault) → DeqRefused home s c d colour fault
-        → (IsAway (caller_of s d objects) (home_asked (caller_of s d objects) (whats.Deq object)) → IsHomeRefusal (fault_answer fault))
-        → GivesOf s objects c d (whats.Deq object) (fault_answer fault) []
-    refused (faults.NotHome shown) is far =
-        gives_away s c d on objects (whats.Deq object) (inl refl) (Some home) shown (ap object_home at) is
-    refused (faults.Append fault) is far =
-        gives_refused s c d on objects (whats.Deq object) (inl refl) (colour ∷ []) dequeue_text
-        (λ e. let f : ⊥ = cc (e) in f) asks fault is far
-    refused (faults.Sync fault) is far = absurd is
-    refused (faults.Unread stamp (sync_faults.Trimmed shown base)) is far =
-        gives_by s c d on objects (whats.Deq object) (answers.UnreadTrimmed stamp shown base)
-        (StandsThen is.1 dequeue_text stamp (λ log who stood after.
-        IsTrimmed log who stood colour base × (after ≡ stood))) (inl refl) far
-        is.3
-        (λ log kept after r. explains_unread log (caller_of s d objects) kept (whats.Deq object) is.1 dequeue_text stamp shown base r.0 after refl
-        (among (colours_synced (caller_of s d objects) (whats.Deq object)) colour shown (ap object_colours at) is.0) (asks kept is.1 is.2) r.1
-        (subst (λ (k : ℕ). IsTrimmed log (caller_of s d objects) r.0 k base) (sym is.0) r.2.0)
-        (hides log r.0 after (none_hidden colour log (caller_of s d objects) r.0 after r.2.1)))
-    refused (faults.Unread stamp sync_faults.NoMemory) is far =
-        gives_by s c d on objects (whats.Deq object) (answers.UnreadNoMemory stamp)
-        (StandsThen is.0 dequeue_text stamp (HidesOne colour)) (inl refl) far is.2
-        (λ log kept after r. explains_unread_without log (caller_of s d objects) kept (whats.Deq object) is.0 dequeue_text stamp r.0 after refl
-        (asks kept is.0 is.1) r.1 (hides log r.0 after r.2))
-    refused faults.NoTx is far = absurd is
-    refused faults.NoMemory is far =
-        gives_none s c d on objects (whats.Deq object) (inl refl) is
-
-    by : (call : Result (Value × Appended × Synced) ObjectFault)
-        → IfOk call (λ r. (p : Point) → r.1.stood.points ≡ p ∷ []
-        → answer ≡ answers.Took r.0 (piece_of p) (sync_piece r.2))
-        → IfErr call (λ fault. answer ≡ fault_answer fault)
-        → (c.region ≢ home → call ≡ Err (faults.NotHome home))
-        → IfOk call (λ r. Dequeues s c d colour r.0 r.1 r.2) → IfErr call (DeqRefused home s c d colour)
+  gives_deq home colour call took shown tells ok err = record { no_reads = refl; of = each } where
+    each : (objects : List Object) (object : ℕ) → kind_in objects object ≡ Some (kinds.Queue home colour)
         → GivesOf s objects c d (whats.Deq object) answer []
-    by (Ok r) took shown tells ok err =
-        subst (λ (a : Answer). GivesOf s objects c d (whats.Deq object) a []) (sym (took ok.point ok.point_is))
-        (gives_by s c d on objects (whats.Deq object) (answers.Took r.0 (piece_of ok.point) (sync_piece r.2))
-        (TakesAs ok.set r.1 ok.point r.2 r.0) (inl refl)
-        (away_from s c d on objects (whats.Deq object) home (Ok r) _ (ap object_home at) tells tt) ok.explained
-        (λ log kept after r'. subst (λ (k : Kept). Explains log (caller_of s d objects) kept (whats.Deq object)
-        (answers.Took r.0 (piece_of ok.point) (sync_piece r.2)) [] k) (sym r'.4)
-        (explains_take log (caller_of s d objects) kept (whats.Deq object) ok.set dequeue_text r.1.stood.key.stamp (piece_of ok.point) (sync_piece r.2) r.0
-        r'.0 refl (ok.synced ∙ sym ok.point_there) (asks kept ok.set ok.members_are) r'.1 r'.2 r'.3)))
-    by (Err fault) took shown tells ok err =
-        subst (λ (a : Answer). GivesOf s objects c d (whats.Deq object) a []) (sym shown)
-        (refused fault err
-        (away_from s c d on objects (whats.Deq object) home (Err fault) (fault_answer fault) (ap object_home at) tells refl))
+    each objects object at = by call took shown tells ok err where
+      asks : (kept : Kept) (set : Colours) → members set ≡ colour ∷ [] → AsksToAppend (caller_of s d objects) kept (whats.Deq object) set dequeue_text
+      asks kept set is = (is ∙ ap object_colours (sym at), refl)
+
+      hides : (log : Log) (kept after : Kept) → HidesOne colour log (caller_of s d objects) kept after
+          → HidesSyncs log (caller_of s d objects) kept (colours_synced (caller_of s d objects) (whats.Deq object)) after
+      hides log kept after h = subst (λ (l : List ℕ). HidesSyncs log (caller_of s d objects) kept l after) (sym (ap object_colours at)) h
+
+      refused : (fault : ObjectFault) → DeqRefused home s c d colour fault
+          → (IsAway (caller_of s d objects) (home_asked (caller_of s d objects) (whats.Deq object)) → IsHomeRefusal (fault_answer fault))
+          → GivesOf s objects c d (whats.Deq object) (fault_answer fault) []
+      refused (faults.NotHome shown) is far =
+          gives_away s c d on objects (whats.Deq object) (inl refl) (Some home) shown (ap object_home at) is
+      refused (faults.Append fault) is far =
+          gives_refused s c d on objects (whats.Deq object) (inl refl) (colour ∷ []) dequeue_text
+          (λ e. let f : ⊥ = cc (e) in f) asks fault is far
+      refused (faults.Sync fault) is far = absurd is
+      refused (faults.Unread stamp (sync_faults.Trimmed shown base)) is far =
+          gives_by s c d on objects (whats.Deq object) (answers.UnreadTrimmed stamp shown base)
+          (StandsThen is.1 dequeue_text stamp (λ log who stood after.
+          IsTrimmed log who stood colour base × (after ≡ stood))) (inl refl) far
+          is.3
+          (λ log kept after r. explains_unread log (caller_of s d objects) kept (whats.Deq object) is.1 dequeue_text stamp shown base r.0 after refl
+          (among (colours_synced (caller_of s d objects) (whats.Deq object)) colour shown (ap object_colours at) is.0) (asks kept is.1 is.2) r.1
+          (subst (λ (k : ℕ). IsTrimmed log (caller_of s d objects) r.0 k base) (sym is.0) r.2.0)
+          (hides log r.0 after (none_hidden colour log (caller_of s d objects) r.0 after r.2.1)))
+      refused (faults.Unread stamp sync_faults.NoMemory) is far =
+          gives_by s c d on objects (whats.Deq object) (answers.UnreadNoMemory stamp)
+          (StandsThen is.0 dequeue_text stamp (HidesOne colour)) (inl refl) far is.2
+          (λ log kept after r. explains_unread_without log (caller_of s d objects) kept (whats.Deq object) is.0 dequeue_text stamp r.0 after refl
+          (asks kept is.0 is.1) r.1 (hides log r.0 after r.2))
+      refused faults.NoTx is far = absurd is
+      refused faults.NoMemory is far =
+          gives_none s c d on objects (whats.Deq object) (inl refl) is
+
+      by : (call : Result (Value × Appended × Synced) ObjectFault)
+          → IfOk call (λ r. (p : Point) → r.1.stood.points ≡ p ∷ []
+          → answer ≡ answers.Took r.0 (piece_of p) (sync_piece r.2))
+          → IfErr call (λ fault. answer ≡ fault_answer fault)
+          → (c.region ≢ home → call ≡ Err (faults.NotHome home))
+          → IfOk call (λ r. Dequeues s c d colour r.0 r.1 r.2) → IfErr call (DeqRefused home s c d colour)
+          → GivesOf s objects c d (whats.Deq object) answer []
+      by (Ok r) took shown tells ok err =
+          subst (λ (a : Answer). GivesOf s objects c d (whats.Deq object) a []) (sym (took ok.point ok.point_is))
+          (gives_by s c d on objects (whats.Deq object) (answers.Took r.0 (piece_of ok.point) (sync_piece r.2))
+          (TakesAs ok.set r.1 ok.point r.2 r.0) (inl refl)
+          (away_from s c d on objects (whats.Deq object) home (Ok r) _ (ap object_home at) tells tt) ok.explained
+          (λ log kept after r'. subst (λ (k : Kept). Explains log (caller_of s d objects) kept (whats.Deq object)
+          (answers.Took r.0 (piece_of ok.point) (sync_piece r.2)) [] k) (sym r'.4)
+          (explains_take log (caller_of s d objects) kept (whats.Deq object) ok.set dequeue_text r.1.stood.key.stamp (piece_of ok.point) (sync_piece r.2) r.0
+          r'.0 refl (ok.synced ∙ sym ok.point_there) (asks kept ok.set ok.members_are) r'.1 r'.2 r'.3)))
+      by (Err fault) took shown tells ok err =
+          subst (λ (a : Answer). GivesOf s objects c d (whats.Deq object) a []) (sym shown)
+          (refused fault err
+          (away_from s c d on objects (whats.Deq object) home (Err fault) (fault_answer fault) (ap object_home at) tells refl))

@@ -1,12 +1,14 @@
 -- What a client gives to commands of objects, by what its calls left.
 use Rattle.std.proofs.Common.{◌≡◌, ◌≢◌, ◌⊎◌, ℕ, List, [], map, Option, Some, None, Ok, Err, refl, ap, sym, subst, ◌∙◌, inl, inr}
-use Rattle.std.specs.Prelude.{IfErr, IfOk, IsTrue, Result}
+use Rattle.std.specs.Prelude.{IfErr, IfOk, IsTrue, Result, false}
 use Rattle.log_node.specs.declared.ids.Colours.{Colours}
 use Rattle.log_node.specs.Sets.{members}
 use Rattle.col_core.specs.Keeping.{Kept}
 use Rattle.col_core.specs.Log.{Log}
+use Rattle.script_text.specs.Fitting.{is_tx}
+use Rattle.script_text.specs.declared.script.Kind.{Kind}
 use Rattle.script_text.specs.declared.script.Object.{Object}
-use Rattle.script_text.specs.declared.script.What.{What}
+use Rattle.script_text.specs.declared.commands.What.{What}
 use Rattle.report_text.specs.declared.report.Answer.{Answer}
 use Rattle.report_text.specs.declared.report.Answer.TheVariants as answers
 use Rattle.lawful_run.specs.Appends.{HasNoStamp, HasNoRowLeft}
@@ -32,7 +34,7 @@ use Rattle.log_client.specs.Objects.{IsAwayFrom, PutRefused, StandsIn, StandsNot
 use Rattle.log_client.specs.Reading.{RestsOn}
 use Rattle.log_client.proofs.CallerLemmas.{rests_same}
 use Rattle.run_script.specs.Replying.{append_answer, fault_answer}
-use Rattle.run_script.specs.Serving.{GivesOf}
+use Rattle.run_script.specs.Serving.{GivesFor, GivesOf}
 use Rattle.run_script.proofs.Giving.{Any, IsLeft, Nothing, did_nothing, served}
 
 -- where the client is of another region than the home, the call says so
@@ -204,6 +206,9 @@ module _ (s : Store) (c d : Client) (on : RestsOn s c d) (objects : List Object)
         refused fault err (away_by what home (Err fault) append_answer (λ h. refl) homes tells)
 
 -- memory was refused before anything was asked of the client
-pub gives_unasked_of : (s : Store) (c : Client) (objects : List Object) (what : What) → IsClient s c
-    → GivesOf s objects c c what answers.NoMemory []
-gives_unasked_of s c objects what is = gives_none s c c (rests_same s c is) objects what (inr (λ helps. helps)) refl
+pub gives_unasked_of : (s : Store) (c : Client) (kind : Kind) (asked : ℕ → What) → IsClient s c → is_tx kind ≡ false
+    → GivesFor s c c kind asked answers.NoMemory
+gives_unasked_of s c kind asked is no_reads = record {
+  no_reads = no_reads;
+  of = λ objects object at. gives_none s c c (rests_same s c is) objects (asked object) (inr (λ helps. helps)) refl;
+}

@@ -9,7 +9,7 @@ use Rattle.object_fold.specs.Nodes.{shard_of}
 use Rattle.object_form.specs.Forms.{form_text}
 use Rattle.script_text.specs.declared.script.Kind.{Kind}
 use Rattle.script_text.specs.declared.script.Kind.TheVariants as kinds
-use Rattle.script_text.specs.declared.script.What.TheVariants as whats
+use Rattle.script_text.specs.declared.commands.What.TheVariants as whats
 use Rattle.report_text.specs.declared.report.Answer.{Answer}
 use Rattle.lawful_run.specs.Asks.{keys_of_pairs, object_colours, object_home, put_form, shards}
 use Rattle.lawful_run.proofs.CallerLemmas.{one_shard}
@@ -56,64 +56,79 @@ module _ (s : Store) (c d : Client) (on : RestsOn s c d) (call : Result Appended
         → IfOk call (StandsIn s c d (shard_of colours key ∷ []) (form_text (forms.Put key value)))
         → IfErr call (PutRefused (Some home) s c d (shard_of colours key ∷ []) (form_text (forms.Put key value)))
         → GivesFor s c d (kinds.Map home colours) (λ object. whats.Put object key value) answer
-    gives_map_put value ok err objects object at =
-        subst (λ (a : Answer). GivesOf s objects c d (whats.Put object key value) a []) (sym shown)
-        (gives_put s c d on objects (whats.Put object key value) refl (Some home)
-        (ap object_home at) (shard_of colours key ∷ []) (form_text (forms.Put key value))
-        (λ kept set is. (
-          is ∙ (sym (shard_alone c colours key are)
-              ∙ ap (λ (k : Option Kind). shards (object_colours k) (key ∷ [])) (sym at)),
-          ap (λ (k : Option Kind). form_text (put_form k key value)) (sym at),
-        ))
-        call (told_home c home call tells) ok err)
+    gives_map_put value ok err = record {
+      no_reads = refl;
+      of = λ objects object at.
+          subst (λ (a : Answer). GivesOf s objects c d (whats.Put object key value) a []) (sym shown)
+          (gives_put s c d on objects (whats.Put object key value) refl (Some home)
+          (ap object_home at) (shard_of colours key ∷ []) (form_text (forms.Put key value))
+          (λ kept set is. (
+            is ∙ (sym (shard_alone c colours key are)
+                ∙ ap (λ (k : Option Kind). shards (object_colours k) (key ∷ [])) (sym at)),
+            ap (λ (k : Option Kind). form_text (put_form k key value)) (sym at),
+          ))
+          call (told_home c home call tells) ok err);
+    }
 
     pub gives_map_del : IfOk call (StandsIn s c d (shard_of colours key ∷ []) (form_text (forms.Delete key)))
         → IfErr call (PutRefused (Some home) s c d (shard_of colours key ∷ []) (form_text (forms.Delete key)))
         → GivesFor s c d (kinds.Map home colours) (λ object. whats.Del object key) answer
-    gives_map_del ok err objects object at =
-        subst (λ (a : Answer). GivesOf s objects c d (whats.Del object key) a []) (sym shown)
-        (gives_put s c d on objects (whats.Del object key) refl (Some home)
-        (ap object_home at) (shard_of colours key ∷ []) (form_text (forms.Delete key))
-        (λ kept set is. (
-          is ∙ (sym (shard_alone c colours key are)
-              ∙ ap (λ (k : Option Kind). shards (object_colours k) (key ∷ [])) (sym at)),
-          refl,
-        ))
-        call (told_home c home call tells) ok err)
+    gives_map_del ok err = record {
+      no_reads = refl;
+      of = λ objects object at.
+          subst (λ (a : Answer). GivesOf s objects c d (whats.Del object key) a []) (sym shown)
+          (gives_put s c d on objects (whats.Del object key) refl (Some home)
+          (ap object_home at) (shard_of colours key ∷ []) (form_text (forms.Delete key))
+          (λ kept set is. (
+            is ∙ (sym (shard_alone c colours key are)
+                ∙ ap (λ (k : Option Kind). shards (object_colours k) (key ∷ [])) (sym at)),
+            refl,
+          ))
+          call (told_home c home call tells) ok err);
+    }
 
   pub gives_map_put_all : (home : ℕ) (colours : List ℕ) (pairs : List Pair)
       → (c.region ≢ home → call ≡ Err (faults.NotHome home))
       → IfOk call (StandsIn s c d (shards colours (keys_of_pairs pairs)) (form_text (forms.PutAll pairs)))
       → IfErr call (PutRefused (Some home) s c d (shards colours (keys_of_pairs pairs)) (form_text (forms.PutAll pairs)))
       → GivesFor s c d (kinds.Map home colours) (λ object. whats.PutAll object pairs) answer
-  gives_map_put_all home colours pairs tells ok err objects object at =
-      subst (λ (a : Answer). GivesOf s objects c d (whats.PutAll object pairs) a []) (sym shown)
-      (gives_put s c d on objects (whats.PutAll object pairs) refl (Some home)
-      (ap object_home at) (shards colours (keys_of_pairs pairs)) (form_text (forms.PutAll pairs))
-      (λ kept set is. (is ∙ ap (λ (k : Option Kind). shards (object_colours k) (keys_of_pairs pairs)) (sym at), refl))
-      call (told_home c home call tells) ok err)
+  gives_map_put_all home colours pairs tells ok err = record {
+    no_reads = refl;
+    of = λ objects object at.
+        subst (λ (a : Answer). GivesOf s objects c d (whats.PutAll object pairs) a []) (sym shown)
+        (gives_put s c d on objects (whats.PutAll object pairs) refl (Some home)
+        (ap object_home at) (shards colours (keys_of_pairs pairs)) (form_text (forms.PutAll pairs))
+        (λ kept set is. (is ∙ ap (λ (k : Option Kind). shards (object_colours k) (keys_of_pairs pairs)) (sym at), refl))
+        call (told_home c home call tells) ok err);
+  }
 
   pub gives_causal_put : (colour : ℕ) (key value : List ℕ) → colour < MAX_COLOURS
       → IfOk call (StandsIn s c d (colour ∷ []) (form_text (forms.Causal key value)))
       → IfErr call (PutRefused None s c d (colour ∷ []) (form_text (forms.Causal key value)))
       → GivesFor s c d (kinds.Causal colour) (λ object. whats.Put object key value) answer
-  gives_causal_put colour key value low ok err objects object at =
-      subst (λ (a : Answer). GivesOf s objects c d (whats.Put object key value) a []) (sym shown)
-      (gives_put s c d on objects (whats.Put object key value) refl None
-      (ap object_home at) (colour ∷ []) (form_text (forms.Causal key value))
-      (λ kept set is. (
-        is ∙ (sym (only_shard colour key low)
-            ∙ ap (λ (k : Option Kind). shards (object_colours k) (key ∷ [])) (sym at)),
-        ap (λ (k : Option Kind). form_text (put_form k key value)) (sym at),
-      ))
-      call (λ h e far. absurd (let f : ⊥ = cc (e) in f)) ok err)
+  gives_causal_put colour key value low ok err = record {
+    no_reads = refl;
+    of = λ objects object at.
+        subst (λ (a : Answer). GivesOf s objects c d (whats.Put object key value) a []) (sym shown)
+        (gives_put s c d on objects (whats.Put object key value) refl None
+        (ap object_home at) (colour ∷ []) (form_text (forms.Causal key value))
+        (λ kept set is. (
+          is ∙ (sym (only_shard colour key low)
+              ∙ ap (λ (k : Option Kind). shards (object_colours k) (key ∷ [])) (sym at)),
+          ap (λ (k : Option Kind). form_text (put_form k key value)) (sym at),
+        ))
+        call (λ h e far. absurd (let f : ⊥ = cc (e) in f)) ok err);
+  }
 
   pub gives_enq : (home colour : ℕ) (value : List ℕ) → (c.region ≢ home → call ≡ Err (faults.NotHome home))
       → IfOk call (StandsIn s c d (colour ∷ []) (form_text (forms.Enqueue value)))
       → IfErr call (PutRefused (Some home) s c d (colour ∷ []) (form_text (forms.Enqueue value)))
       → GivesFor s c d (kinds.Queue home colour) (λ object. whats.Enq object value) answer
-  gives_enq home colour value tells ok err objects object at =
-      subst (λ (a : Answer). GivesOf s objects c d (whats.Enq object value) a []) (sym shown)
-      (gives_put s c d on objects (whats.Enq object value) refl (Some home)
-      (ap object_home at) (colour ∷ []) (form_text (forms.Enqueue value))
-      (λ kept set is. (is ∙ ap object_colours (sym at), refl)) call (told_home c home call tells) ok err)
+  gives_enq home colour value tells ok err = record {
+    no_reads = refl;
+    of = λ objects object at.
+        subst (λ (a : Answer). GivesOf s objects c d (whats.Enq object value) a []) (sym shown)
+        (gives_put s c d on objects (whats.Enq object value) refl (Some home)
+        (ap object_home at) (colour ∷ []) (form_text (forms.Enqueue value))
+        (λ kept set is. (is ∙ ap object_colours (sym at), refl)) call (told_home c home call tells) ok err);
+  }

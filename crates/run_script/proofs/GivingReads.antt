@@ -16,8 +16,8 @@ use Rattle.col_core.specs.Log.{Log}
 use Rattle.script_text.specs.declared.script.Kind.{Kind}
 use Rattle.script_text.specs.declared.script.Kind.TheVariants as kinds
 use Rattle.script_text.specs.declared.script.Object.{Object}
-use Rattle.script_text.specs.declared.script.What.{What}
-use Rattle.script_text.specs.declared.script.What.TheVariants as whats
+use Rattle.script_text.specs.declared.commands.What.{What}
+use Rattle.script_text.specs.declared.commands.What.TheVariants as whats
 use Rattle.report_text.specs.declared.report.Answer.{Answer}
 use Rattle.report_text.specs.declared.report.Answer.TheVariants as answers
 use Rattle.report_text.specs.declared.report.KeyAnswer.{KeyAnswer}
@@ -266,47 +266,50 @@ module _ (s : Store) (c d : Client) (on : RestsOn s c d) (answer : Answer) where
       → (c.region ≢ home → call ≡ Err (faults.NotHome home))
       → IfOk call (λ r. GetsAll s c d colours last keys r.0 r.1) → IfErr call (GetAllRefused home s c d (shards colours keys))
       → GivesFor s c d (kinds.Map home colours) (λ object. whats.GetAll object keys) answer
-  gives_map_get_all home colours last keys call shows tells ok err objects object at = by call shows tells ok err where
-    synced_are : colours_synced (caller_of s d objects) (whats.GetAll object keys) ≡ shards colours keys
-    synced_are = ap (λ (k : Option Kind). shards (object_colours k) keys) at
-
-    by : (call : Result (List Value × StampedRead) ObjectFault) → ShowsKeys keys call answer
-        → (c.region ≢ home → call ≡ Err (faults.NotHome home))
-        → IfOk call (λ r. GetsAll s c d colours last keys r.0 r.1) → IfErr call (GetAllRefused home s c d (shards colours keys))
+  gives_map_get_all home colours last keys call shows tells ok err = record { no_reads = refl; of = each } where
+    each : (objects : List Object) (object : ℕ) → kind_in objects object ≡ Some (kinds.Map home colours)
         → GivesOf s objects c d (whats.GetAll object keys) answer []
-    by (Ok r) shows tells ok err =
-        let raises = map raise_piece r.1.raises in
-        let syncs = map sync_piece r.1.syncs in
-        subst (λ (a : Answer). GivesOf s objects c d (whats.GetAll object keys) a []) (sym shows.2)
-        (gives_by s c d on objects (whats.GetAll object keys) (answers.GotKeys r.1.stamp shows.0 raises syncs)
-        (GetsAllAs colours last keys r.0 r.1) (inl refl)
-        (away_from s c d on objects (whats.GetAll object keys) home (Ok r) _ (ap object_home at) tells tt) ok
-        (λ log kept after x. (
-          refl,
-          after,
-          (
-            subst (λ (l : List ℕ). ReadsAt log (caller_of s d objects) kept l r.1.stamp raises syncs after)
-                (sym synced_are) x.1.0,
-            x.0,
-            x.1.1,
-            x.2,
-            x.3,
-            inl (
-              object,
-              keys,
-              refl,
-              subst (λ (v : List Value). AreAnswers keys v shows.0)
-                  (x.4 ∙ ap (λ (k : Option Kind). values_among (object_colours k) x.2 keys) (sym at)) shows.1,
-              refl,
+    each objects object at = by call shows tells ok err where
+      synced_are : colours_synced (caller_of s d objects) (whats.GetAll object keys) ≡ shards colours keys
+      synced_are = ap (λ (k : Option Kind). shards (object_colours k) keys) at
+
+      by : (call : Result (List Value × StampedRead) ObjectFault) → ShowsKeys keys call answer
+          → (c.region ≢ home → call ≡ Err (faults.NotHome home))
+          → IfOk call (λ r. GetsAll s c d colours last keys r.0 r.1) → IfErr call (GetAllRefused home s c d (shards colours keys))
+          → GivesOf s objects c d (whats.GetAll object keys) answer []
+      by (Ok r) shows tells ok err =
+          let raises = map raise_piece r.1.raises in
+          let syncs = map sync_piece r.1.syncs in
+          subst (λ (a : Answer). GivesOf s objects c d (whats.GetAll object keys) a []) (sym shows.2)
+          (gives_by s c d on objects (whats.GetAll object keys) (answers.GotKeys r.1.stamp shows.0 raises syncs)
+          (GetsAllAs colours last keys r.0 r.1) (inl refl)
+          (away_from s c d on objects (whats.GetAll object keys) home (Ok r) _ (ap object_home at) tells tt) ok
+          (λ log kept after x. (
+            refl,
+            after,
+            (
+              subst (λ (l : List ℕ). ReadsAt log (caller_of s d objects) kept l r.1.stamp raises syncs after)
+                  (sym synced_are) x.1.0,
+              x.0,
+              x.1.1,
+              x.2,
+              x.3,
+              inl (
+                object,
+                keys,
+                refl,
+                subst (λ (v : List Value). AreAnswers keys v shows.0)
+                    (x.4 ∙ ap (λ (k : Option Kind). values_among (object_colours k) x.2 keys) (sym at)) shows.1,
+                refl,
+              ),
             ),
-          ),
-        )))
-    by (Err fault) shows tells ok err =
-        subst (λ (a : Answer). GivesOf s objects c d (whats.GetAll object keys) a []) (sym shows)
-        (refused_gives_of s c d on objects (whats.GetAll object keys) refl (shards colours keys) synced_are home
-        (ap object_home at) fault
-        (away_from s c d on objects (whats.GetAll object keys) home (Err fault) (fault_answer fault) (ap object_home at) tells refl)
-        err)
+          )))
+      by (Err fault) shows tells ok err =
+          subst (λ (a : Answer). GivesOf s objects c d (whats.GetAll object keys) a []) (sym shows)
+          (refused_gives_of s c d on objects (whats.GetAll object keys) refl (shards colours keys) synced_are home
+          (ap object_home at) fault
+          (away_from s c d on objects (whats.GetAll object keys) home (Err fault) (fault_answer fault) (ap object_home at) tells refl)
+          err)
 
   pub gives_read : (m n : TxMap) (found now : Option Tx) (keys : List (List ℕ))
       (call : Result (List Value × Tx × StampedRead) ObjectFault) → now ≡ tx_found call
@@ -314,44 +317,47 @@ module _ (s : Store) (c d : Client) (on : RestsOn s c d) (answer : Answer) where
       → IfOk call (λ r. ReadsKeys s c d m.colours m.fold.kept.last keys r.0 r.1 r.2)
       → IfErr call (KeysRefused m.home s c d (rising m.colours))
       → GivesTo s c d (opened.Tx m found) (opened.Tx n now) (λ object. whats.Read object keys) answer
-  gives_read m n found now keys call is shows tells ok err objects object at = by call is shows tells ok err where
-    synced_are : colours_synced (caller_of s d objects) (whats.Read object keys) ≡ rising m.colours
-    synced_are = ap (λ (k : Option Kind). rising (object_colours k)) at
-
-    by : (call : Result (List Value × Tx × StampedRead) ObjectFault) → now ≡ tx_found call
-        → ShowsKeys keys (keys_found call) answer → (c.region ≢ m.home → call ≡ Err (faults.NotHome m.home))
-        → IfOk call (λ r. ReadsKeys s c d m.colours m.fold.kept.last keys r.0 r.1 r.2)
-        → IfErr call (KeysRefused m.home s c d (rising m.colours))
+  gives_read m n found now keys call is shows tells ok err = record { of = each } where
+    each : (objects : List Object) (object : ℕ) → kind_in objects object ≡ Some (kinds.Tx m.home m.colours)
         → ServesObject s objects c d object (opened.Tx m found) (opened.Tx n now) (whats.Read object keys) answer
-    by (Ok r) is shows tells ok err =
-        let raises = map raise_piece r.2.raises in
-        let syncs = map sync_piece r.2.syncs in
-        let caller = caller_of s d objects in
-        subst (λ (a : Answer). ServesObject s objects c d object (opened.Tx m found) (opened.Tx n now) (whats.Read object keys) a)
-        (sym shows.2)
-        (read_gives s c d on objects object keys (opened.Tx m found) (opened.Tx n now)
-        (answers.GotKeys r.2.stamp shows.0 raises syncs) r.1.versions
-        (HasNodesRead (rising m.colours) m.fold.kept.last r.2
-        (λ nodes. (r.0 ≡ values_after nodes keys) × (r.1.versions ≡ versions_after nodes keys)))
-        (ap (λ (o : Option Tx). versions_in (opened.Tx n o)) is)
-        (away_from s c d on objects (whats.Read object keys) m.home (Ok r) _ (ap object_home at) tells tt) ok.1
-        (λ log kept read x. (
-          subst (λ (v : List Version). Explains log caller kept (whats.Read object keys)
-              (answers.GotKeys r.2.stamp shows.0 raises syncs) [] (with_read read object (Some v))) (sym x.4.1)
-              (explains_read log caller kept object keys r.2.stamp shows.0 raises syncs read x.0 x.2
-              (subst (λ (l : List ℕ). ReadsAt log caller kept l r.2.stamp raises syncs read) (sym synced_are) x.1.0) x.1.1 x.3
-              (subst (λ (v : List Value). AreAnswers keys v shows.0) x.4.0 shows.1)),
-          reads_keep log caller kept (rising m.colours) r.2.stamp raises syncs read x.1.0,
-        )))
-    by (Err fault) is shows tells ok err =
-        subst (λ (a : Answer). ServesObject s objects c d object (opened.Tx m found) (opened.Tx n now) (whats.Read object keys) a)
-        (sym shows)
-        (lets_go s c d on objects object keys (opened.Tx m found) (opened.Tx n now) (fault_answer fault)
-        (ap (λ (o : Option Tx). versions_in (opened.Tx n o)) is) (no_keys fault)
-        (refused_gives_of s c d on objects (whats.Read object keys) refl (rising m.colours) synced_are m.home
-        (ap object_home at) fault
-        (away_from s c d on objects (whats.Read object keys) m.home (Err fault) (fault_answer fault) (ap object_home at) tells refl)
-        (as_several m.home s c d (rising m.colours) fault err)))
+    each objects object at = by call is shows tells ok err where
+      synced_are : colours_synced (caller_of s d objects) (whats.Read object keys) ≡ rising m.colours
+      synced_are = ap (λ (k : Option Kind). rising (object_colours k)) at
+
+      by : (call : Result (List Value × Tx × StampedRead) ObjectFault) → now ≡ tx_found call
+          → ShowsKeys keys (keys_found call) answer → (c.region ≢ m.home → call ≡ Err (faults.NotHome m.home))
+          → IfOk call (λ r. ReadsKeys s c d m.colours m.fold.kept.last keys r.0 r.1 r.2)
+          → IfErr call (KeysRefused m.home s c d (rising m.colours))
+          → ServesObject s objects c d object (opened.Tx m found) (opened.Tx n now) (whats.Read object keys) answer
+      by (Ok r) is shows tells ok err =
+          let raises = map raise_piece r.2.raises in
+          let syncs = map sync_piece r.2.syncs in
+          let caller = caller_of s d objects in
+          subst (λ (a : Answer). ServesObject s objects c d object (opened.Tx m found) (opened.Tx n now) (whats.Read object keys) a)
+          (sym shows.2)
+          (read_gives s c d on objects object keys (opened.Tx m found) (opened.Tx n now)
+          (answers.GotKeys r.2.stamp shows.0 raises syncs) r.1.versions
+          (HasNodesRead (rising m.colours) m.fold.kept.last r.2
+          (λ nodes. (r.0 ≡ values_after nodes keys) × (r.1.versions ≡ versions_after nodes keys)))
+          (ap (λ (o : Option Tx). versions_in (opened.Tx n o)) is)
+          (away_from s c d on objects (whats.Read object keys) m.home (Ok r) _ (ap object_home at) tells tt) ok.1
+          (λ log kept read x. (
+            subst (λ (v : List Version). Explains log caller kept (whats.Read object keys)
+                (answers.GotKeys r.2.stamp shows.0 raises syncs) [] (with_read read object (Some v))) (sym x.4.1)
+                (explains_read log caller kept object keys r.2.stamp shows.0 raises syncs read x.0 x.2
+                (subst (λ (l : List ℕ). ReadsAt log caller kept l r.2.stamp raises syncs read) (sym synced_are) x.1.0) x.1.1 x.3
+                (subst (λ (v : List Value). AreAnswers keys v shows.0) x.4.0 shows.1)),
+            reads_keep log caller kept (rising m.colours) r.2.stamp raises syncs read x.1.0,
+          )))
+      by (Err fault) is shows tells ok err =
+          subst (λ (a : Answer). ServesObject s objects c d object (opened.Tx m found) (opened.Tx n now) (whats.Read object keys) a)
+          (sym shows)
+          (lets_go s c d on objects object keys (opened.Tx m found) (opened.Tx n now) (fault_answer fault)
+          (ap (λ (o : Option Tx). versions_in (opened.Tx n o)) is) (no_keys fault)
+          (refused_gives_of s c d on objects (whats.Read object keys) refl (rising m.colours) synced_are m.home
+          (ap object_home at) fault
+          (away_from s c d on objects (whats.Read object keys) m.home (Err fault) (fault_answer fault) (ap object_home at) tells refl)
+          (as_several m.home s c d (rising m.colours) fault err)))
 
   pub gives_commit : (m n : TxMap) (found : Option Tx) (pairs : List Pair)
       (call : Result (Verdict × Appended × StampedRead) ObjectFault) → answer ≡ told_answer verdict_answer call
@@ -359,37 +365,44 @@ module _ (s : Store) (c d : Client) (on : RestsOn s c d) (answer : Answer) where
       → IfOk call (λ r. (rests : Tx) × (found ≡ Some rests) × Commits s c d m.colours m.fold.kept.last rests.versions pairs r.0 r.1 r.2)
       → IfErr call (CommitRefused m.home s c d m.colours (option_map (λ (t : Tx). t.versions) found) pairs)
       → GivesTo s c d (opened.Tx m found) (opened.Tx n None) (λ object. whats.Commit object pairs) answer
-  gives_commit m n found pairs call shown tells ok err objects object at =
-      subst (λ (a : Answer). ServesObject s objects c d object (opened.Tx m found) (opened.Tx n None) (whats.Commit object pairs) a)
-      (sym shown)
-      (by call tells ok err) where
-        by : (call : Result (Verdict × Appended × StampedRead) ObjectFault)
-            → (c.region ≢ m.home → call ≡ Err (faults.NotHome m.home))
-            → IfOk call (λ r. (rests : Tx) × (found ≡ Some rests) × Commits s c d m.colours m.fold.kept.last rests.versions pairs r.0 r.1 r.2)
-            → IfErr call (CommitRefused m.home s c d m.colours (option_map (λ (t : Tx). t.versions) found) pairs)
-            → ServesObject s objects c d object (opened.Tx m found) (opened.Tx n None) (whats.Commit object pairs) (told_answer verdict_answer call)
-        by (Ok r) tells ok err =
-            committed s c d on objects object pairs m n found at ok.0.versions
-            (ap (λ (o : Option Tx). versions_in (opened.Tx m o)) ok.1) r.0 r.1 r.2
-            (away_from s c d on objects (whats.Commit object pairs) m.home (Ok r) _ (ap object_home at) tells tt) ok.2
-        by (Err fault) tells ok err =
-            uncommitted s c d on objects object pairs m n found at fault
-            (away_from s c d on objects (whats.Commit object pairs) m.home (Err fault) (fault_answer fault) (ap object_home at)
-            tells refl) err
+  gives_commit m n found pairs call shown tells ok err = record { of = each } where
+    each : (objects : List Object) (object : ℕ) → kind_in objects object ≡ Some (kinds.Tx m.home m.colours)
+        → ServesObject s objects c d object (opened.Tx m found) (opened.Tx n None) (whats.Commit object pairs) answer
+    each objects object at =
+        subst (λ (a : Answer). ServesObject s objects c d object (opened.Tx m found) (opened.Tx n None) (whats.Commit object pairs) a)
+        (sym shown)
+        (by call tells ok err) where
+          by : (call : Result (Verdict × Appended × StampedRead) ObjectFault)
+              → (c.region ≢ m.home → call ≡ Err (faults.NotHome m.home))
+              → IfOk call (λ r. (rests : Tx) × (found ≡ Some rests) × Commits s c d m.colours m.fold.kept.last rests.versions pairs r.0 r.1 r.2)
+              → IfErr call (CommitRefused m.home s c d m.colours (option_map (λ (t : Tx). t.versions) found) pairs)
+              → ServesObject s objects c d object (opened.Tx m found) (opened.Tx n None) (whats.Commit object pairs) (told_answer verdict_answer call)
+          by (Ok r) tells ok err =
+              committed s c d on objects object pairs m n found at ok.0.versions
+              (ap (λ (o : Option Tx). versions_in (opened.Tx m o)) ok.1) r.0 r.1 r.2
+              (away_from s c d on objects (whats.Commit object pairs) m.home (Ok r) _ (ap object_home at) tells tt) ok.2
+          by (Err fault) tells ok err =
+              uncommitted s c d on objects object pairs m n found at fault
+              (away_from s c d on objects (whats.Commit object pairs) m.home (Err fault) (fault_answer fault) (ap object_home at)
+              tells refl) err
 
 -- MEMORY WAS REFUSED BEFORE ANYTHING WAS ASKED
 
 module _ (s : Store) (c : Client) (is : IsClient s c) (m n : TxMap) (found : Option Tx) where
   pub gives_unread : (keys : List (List ℕ))
       → GivesTo s c c (opened.Tx m found) (opened.Tx n None) (λ object. whats.Read object keys) answers.NoMemory
-  gives_unread keys objects object at =
-      let on = rests_same s c is in
-      lets_go s c c on objects object keys (opened.Tx m found) (opened.Tx n None) answers.NoMemory refl
-      (λ stamp shown raises syncs e. let f : ⊥ = cc (e) in f)
-      (gives_none s c c on objects (whats.Read object keys) (inl refl) refl)
+  gives_unread keys = record {
+    of = λ objects object at.
+        let on = rests_same s c is in
+        lets_go s c c on objects object keys (opened.Tx m found) (opened.Tx n None) answers.NoMemory refl
+        (λ stamp shown raises syncs e. let f : ⊥ = cc (e) in f)
+        (gives_none s c c on objects (whats.Read object keys) (inl refl) refl);
+  }
 
   pub gives_uncommitted : (pairs : List Pair)
       → GivesTo s c c (opened.Tx m found) (opened.Tx n None) (λ object. whats.Commit object pairs) answers.NoMemory
-  gives_uncommitted pairs objects object at =
-      let on = rests_same s c is in
-      uncommitted s c c on objects object pairs m n found at faults.NoMemory (λ far. inl refl) refl
+  gives_uncommitted pairs = record {
+    of = λ objects object at.
+        let on = rests_same s c is in
+        uncommitted s c c on objects object pairs m n found at faults.NoMemory (λ far. inl refl) refl;
+  }

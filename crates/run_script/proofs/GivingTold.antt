@@ -11,7 +11,7 @@ use Rattle.col_core.specs.History.{entry_key}
 use Rattle.col_core.specs.Keeping.{Kept}
 use Rattle.col_core.specs.Log.{Log}
 use Rattle.script_text.specs.declared.script.Object.{Object}
-use Rattle.script_text.specs.declared.script.What.{What}
+use Rattle.script_text.specs.declared.commands.What.{What}
 use Rattle.report_text.specs.declared.report.Answer.{Answer}
 use Rattle.report_text.specs.declared.report.Answer.TheVariants as answers
 use Rattle.lawful_run.specs.Asks.{Committing, Manner, home_asked, may_help, rising}

@@ -21,8 +21,8 @@ mod Dealing
 mod Pieces
 mod EndsShown
 mod ClientsShown
-mod SomeRows
 mod RunningBeside
+mod StoreSizes
 mod RunsOf
 mod WordLemmas
 mod Loads

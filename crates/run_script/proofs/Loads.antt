@@ -1,13 +1,13 @@
 -- The script of a load can be run on threads, and what its run shows.
 use Rattle.std.proofs.Common.{◌≡◌, ℕ, ◌<◌, ◌≤◌, false, List, length, refl, ap, sym, subst, ◌∙◌, ◌⊎◌, inl, inr, arith}
 use Rattle.std.specs.List.{All}
-use Rattle.log_node.specs.declared.limits.TheConstants.{MAX_ROWS}
-use Rattle.script_text.specs.declared.script.What.{What}
-use Rattle.script_text.specs.declared.script.What.TheVariants as whats
+use Rattle.script_text.specs.declared.commands.What.{What}
+use Rattle.script_text.specs.declared.commands.What.TheVariants as whats
 use Rattle.script_text.specs.declared.script.Command.{Command}
 use Rattle.script_text.specs.declared.script.Script.{Script}
 use Rattle.script_text.specs.Items.{is_stop}
 use Rattle.script_text.specs.Fitting.{IsFitting}
+use Rattle.script_text.specs.Versions.{limits_in}
 use Rattle.script_beside.specs.declared.dealt.DealtScript.{DealtScript}
 use Rattle.script_beside.specs.Dealt.{IsDealt}
 use Rattle.script_meaning.specs.States.{StopsAreLast}
@@ -34,7 +34,7 @@ pub load_can_run : LoadsFit → (count : ℕ) → count ≤ MAX_LOAD → (script
 load_can_run fit count le script same dealt is = record {
   is = is;
   fits = subst IsFitting (sym same) (fit count le).0;
-  rows = subst (λ (s : Script). s.shape.rows ≤ MAX_ROWS) (sym same) (omega arith);
+  rows = subst (λ (s : Script). s.shape.rows ≤ (limits_in s.version).rows) (sym same) (omega arith);
   some_rows = subst (λ (s : Script). 0 < s.shape.rows) (sym same) (omega arith);
   stops = subst StopsAreLast (sym same) (λ i j d lt within stop.
       absurd (let f = no_stop _ (plain i d (omega (arith, lt, within))) in let g : ⊥ = cc (f, stop) in g));

@@ -10,12 +10,12 @@ use Rattle.script_text.specs.Fitting.{HasObject, IsKindWithin, UsesOne, UsesObje
 use Rattle.script_text.specs.declared.script.Kind.{Kind}
 use Rattle.script_text.specs.declared.script.Kind.TheVariants as kinds
 use Rattle.script_text.specs.declared.script.Object.{Object}
-use Rattle.script_text.specs.declared.script.What.{What}
+use Rattle.script_text.specs.declared.commands.What.{What}
 use Rattle.script_text.specs.declared.uses.ReadUse.TheVariants.{Leaves}
 use Rattle.script_text.specs.declared.uses.Use.{Use}
 use Rattle.script_text.specs.declared.uses.Use.TheVariants.{OfLog, OfObject}
 use Rattle.script_text.specs.Table.{is_of}
-use Rattle.script_text.specs.Uses.{use_of}
+use Rattle.script_text.specs.Commands.{use_of}
 use Rattle.report_text.specs.declared.report.Answer.{Answer}
 use Rattle.script_meaning.specs.States.{kind_in}
 use Rattle.log_client.specs.declared.store.Store.{Store}
@@ -174,15 +174,17 @@ pub gives_asked : (s : Store) (c d : Client) (x y : Opened) (what : What) (asks 
     → kind_in objects object ≡ Some (kind_opened x) → ServesObject s objects c d object x y what answer
 gives_asked s c d x y what asks n answer is numbered gives objects object asked at =
     let same = named n object (sym (numbered n) ∙ (sym (ap object_asked is) ∙ asked)) in
-    subst (λ (w : What). ServesObject s objects c d object x y w answer) (sym (is ∙ ap asks same)) (gives objects object at)
+    subst (λ (w : What). ServesObject s objects c d object x y w answer) (sym (is ∙ ap asks same)) (gives.of objects object at)
 
--- the same of a command that neither lets a read go nor uses it up, of an object that has none
+-- the same of a command that neither lets a read go nor uses it up, of an object of which none is kept
 pub gives_unread : (s : Store) (c d : Client) (x y : Opened) (what : What) (asks : ℕ → What) (n : ℕ) (answer : Answer)
-    → what ≡ asks n → ((k : ℕ) → use_of (asks k) ≡ OfObject k Leaves) → is_tx (kind_opened x) ≡ false → StaysOpen d x y
+    → what ≡ asks n → ((k : ℕ) → use_of (asks k) ≡ OfObject k Leaves) → kind_opened y ≡ kind_opened x
     → GivesFor s c d (kind_opened x) asks answer
     → (objects : List Object) (object : ℕ) → object_asked what ≡ Some object
     → kind_in objects object ≡ Some (kind_opened x) → ServesObject s objects c d object x y what answer
-gives_unread s c d x y what asks n answer is uses no_tx stays gives =
-    gives_asked s c d x y what asks n answer is (λ k. ap object_in (uses k)) (λ objects object at.
-    given_at s objects c d object x y (asks object) answer (uses object) (finds_same x y no_tx stays.0)
-    (gives objects object at))
+gives_unread s c d x y what asks n answer is uses same gives =
+    gives_asked s c d x y what asks n answer is (λ k. ap object_in (uses k)) (record {
+      of = λ objects object at.
+          given_at s objects c d object x y (asks object) answer (uses object) (finds_same x y gives.no_reads same)
+          (gives.of objects object at);
+    })

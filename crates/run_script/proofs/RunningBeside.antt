@@ -13,6 +13,7 @@ use Rattle.chain_store.proofs.CallerLemmas.{got}
 use Rattle.script_text.specs.declared.script.Command.{Command}
 use Rattle.script_text.specs.declared.script.Script.{Script}
 use Rattle.script_text.specs.Fitting.{IsWithin}
+use Rattle.script_text.proofs.CallerLemmas.{colours_few}
 use Rattle.script_beside.specs.declared.dealt.DealtScript.{DealtScript}
 use Rattle.script_beside.specs.Dealt.{share_commands}
 use Rattle.report_text.specs.declared.report.Report.{Report}
@@ -86,7 +87,7 @@ module _ (script : Script) (dealt : DealtScript) (can : CanRun script dealt) (s 
   }
 
   few : script.shape.colours ≤ MAX_COLOURS
-  few = let colours = can.fits.shape.few_colours in omega (arith, colours)
+  few = colours_few script.version script.shape can.fits.shape
 
   pub can_serve : (n : ℕ) (x : Served) → slice_get before n ≡ Some x → CanServe s x
   can_serve n x at =

@@ -4,6 +4,7 @@ use Rattle.script_text.specs.declared.script.Script.{Script}
 use Rattle.script_text.specs.Grammar.{IsScript}
 use Rattle.script_text.specs.Laws.{RowsAreWithinLimits}
 use Rattle.script_text.proofs.CallerLemmas.{one_script, script_fits}
+use Rattle.script_text.proofs.CallerLemmas.{some_rows}
 use Rattle.script_beside.specs.declared.dealt.DealtScript.{DealtScript}
 use Rattle.script_beside.specs.Dealt.{IsDealt}
 use Rattle.report_text.specs.declared.report.Report.{Report}
@@ -17,7 +18,6 @@ use Rattle.run_script.specs.declared.asked.Task.TheVariants as tasks
 use Rattle.run_script.specs.Refusals.{IsTheScript}
 use Rattle.run_script.specs.Running.{CanRun}
 use Rattle.run_script.specs.TopCall.{IsRunOf}
-use Rattle.run_script.proofs.SomeRows.{some_rows}
 
 -- what was read from the words is what they ask for
 module _ (result words : Option Task) (same : result ≡ words) where

@@ -73,6 +73,7 @@ replies_shown replies c = record { name = c.1; replies = slice_index_or replies 
 -- colour.
 abbrev pub end_report : Script → Closed → List (List ReplyLine) → Report
 end_report script closed replies = record {
+  version = script.version;
   clients = map (replies_shown replies) (enumerate_from 0 script.clients);
   rows = flat_map (rows_shown (closing_nodes closed)) (enumerate_from 0 closed.regions);
   columns = flat_map (region_shown script.regions script.colours) closed.regions;

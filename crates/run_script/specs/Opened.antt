@@ -7,11 +7,11 @@ use Rattle.object_form.specs.Forms.{AreVersions}
 use Rattle.col_core.specs.Keeping.{Kept, updated}
 use Rattle.script_text.specs.Table.{is_of}
 use Rattle.script_text.specs.Fitting.{IsKindWithin, kinds_asked, HasWords}
-use Rattle.script_text.specs.Uses.{use_of}
+use Rattle.script_text.specs.Commands.{use_of}
 use Rattle.script_text.specs.declared.script.Kind.{Kind}
 use Rattle.script_text.specs.declared.script.Kind.TheVariants as kinds
 use Rattle.script_text.specs.declared.script.Object.{Object}
-use Rattle.script_text.specs.declared.script.What.{What}
+use Rattle.script_text.specs.declared.commands.What.{What}
 use Rattle.script_text.specs.declared.uses.Use.{Use}
 use Rattle.script_text.specs.declared.uses.Use.TheVariants.{OfLog, OfObject}
 use Rattle.log_client.specs.declared.client.Client.{Client}

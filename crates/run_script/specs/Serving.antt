@@ -1,14 +1,15 @@
 -- What it is to serve a client its commands, one after another.
-use Rattle.std.specs.Prelude.{◌≡◌, ◌⊎◌, IsTrue, ℕ, List, [], ◌∷◌, ◌++◌, length, Some, slice_get, slice_index_or}
+use Rattle.std.specs.Prelude.{◌≡◌, ◌⊎◌, false, IsTrue, ℕ, List, [], ◌∷◌, ◌++◌, length, Some, slice_get, slice_index_or}
 use Rattle.std.specs.List.{Contains}
 use Rattle.log_node.specs.Seen.{PlacedNode}
 use Rattle.col_core.specs.Keeping.{Kept}
 use Rattle.chain_store.specs.Opening.{size_of}
 use Rattle.script_text.specs.Items.{is_stop}
-use Rattle.script_text.specs.Words.{word_of}
+use Rattle.script_text.specs.Commands.{word_of}
+use Rattle.script_text.specs.Fitting.{is_tx}
 use Rattle.script_text.specs.declared.script.Kind.{Kind}
 use Rattle.script_text.specs.declared.script.Object.{Object}
-use Rattle.script_text.specs.declared.script.What.{What}
+use Rattle.script_text.specs.declared.commands.What.{What}
 use Rattle.script_text.specs.declared.script.Command.{Command}
 use Rattle.script_text.specs.declared.script.Script.{Script}
 use Rattle.report_text.specs.declared.report.Answer.{Answer}
@@ -100,10 +101,11 @@ pub record ServesLog (s : Store) (c d : Client) (what : What) (answer : Answer) 
   -- whatever the objects are
   pub of : (objects : List Object) → GivesOf s objects c d what answer nodes
 
--- to a command of whatever object of this kind was asked, by its number among the objects of a script
-abbrev pub GivesFor : Store → Client → Client → Kind → (ℕ → What) → Answer → Type 0
-GivesFor s c d kind asked answer =
-    (objects : List Object) (object : ℕ) → kind_in objects object ≡ Some kind → GivesOf s objects c d (asked object) answer []
+-- to a command of whatever object of this kind was asked, by its number among the objects of a script; no reads are kept of it
+pub record GivesFor (s : Store) (c d : Client) (kind : Kind) (asked : ℕ → What) (answer : Answer) : Type 0 where
+  pub no_reads : is_tx kind ≡ false
+  pub of : (objects : List Object) (object : ℕ) → kind_in objects object ≡ Some kind
+      → GivesOf s objects c d (asked object) answer []
 
 -- to a command of an object, by its number among these, which was opened as x and then is y: of reads the client keeps what it
 -- kept, but of this object what was found
@@ -112,10 +114,9 @@ ServesObject s objects c d object x y what answer =
     HasServed s objects c d what answer [] (KnowsRead c object x) (KeepsReadsBut object (versions_in y))
 
 -- the same of whatever object of its kind was asked
-abbrev pub GivesTo : Store → Client → Client → Opened → Opened → (ℕ → What) → Answer → Type 0
-GivesTo s c d x y asked answer =
-    (objects : List Object) (object : ℕ) → kind_in objects object ≡ Some (kind_opened x)
-    → ServesObject s objects c d object x y (asked object) answer
+pub record GivesTo (s : Store) (c d : Client) (x y : Opened) (asked : ℕ → What) (answer : Answer) : Type 0 where
+  pub of : (objects : List Object) (object : ℕ) → kind_in objects object ≡ Some (kind_opened x)
+      → ServesObject s objects c d object x y (asked object) answer
 
 -- to a command of a client that had opened these objects and then has those
 abbrev pub GivesAll : Store → List Object → Client → Client → List Opened → List Opened → What → Answer → List PlacedNode → Type 0

@@ -9,7 +9,7 @@ use Rattle.std.proofs.lemmas.List.{length-map, get_or-map, length-replicate, get
 use Rattle.std.proofs.lemmas.List.Elements.{filter-append, All-push, All-weaker, Contains-push, Contains-append_left}
 use Rattle.std.proofs.lemmas.List.Sums.{sum_by-append, count_by-le-length, length-filter}
 use Rattle.script_text.specs.declared.script.Command.{Command}
-use Rattle.script_beside.specs.Begins.{may_begin, begins_in, own, AreBegun, AreAdded, IsGreatest, IsMost}
+use Rattle.script_beside.specs.Begins.{may_take_row, begins_in, own, AreBegun, AreAdded, IsGreatest, IsMost}
 use Rattle.script_beside.specs.Lists.{AreOwn}
 use Rattle.script_beside.proofs.ListLemmas.{some_item}
 
@@ -38,7 +38,7 @@ none_begun clients counts is =
     }
 
 begins_both : (front back : List Command) → begins_in (front ++ back) ≡ begins_in front + begins_in back
-begins_both front back = sum_by-append (λ (c : Command). cond (may_begin c.what) 1 0) front back
+begins_both front back = sum_by-append (λ (c : Command). cond (may_take_row c.what) 1 0) front back
 
 -- the counts of more commands, added to those of the ones before them
 pub both_begun : (clients : ℕ) (first second : List Command) (before more after : List ℕ) → AreBegun clients first before
@@ -60,7 +60,7 @@ both_begun clients first second before more after one other added =
 -- no client has more of them than there are commands
 pub own_few : (n : ℕ) (commands : List Command) → begins_in (own n commands) ≤ length commands
 own_few n commands =
-    let some = count_by-le-length (λ (c : Command). may_begin c.what) (own n commands) in
+    let some = count_by-le-length (λ (c : Command). may_take_row c.what) (own n commands) in
     let mine = length-filter (λ (c : Command). c.client == n) commands in
     let all = count_by-le-length (λ (c : Command). c.client == n) commands in
     omega (arith, some, mine, all)

@@ -9,7 +9,7 @@ use Rattle.script_text.specs.declared.script.Script.{Script}
 use Rattle.script_text.specs.declared.item.Item.{Item}
 use Rattle.script_text.specs.declared.limits.TheConstants.{MAX_BYTES, MAX_LINES}
 use Rattle.script_text.specs.Pieces.{lines_of, is_ascii_line}
-use Rattle.script_text.specs.Items.{has_begun, regions_in, colours_in, clients_in, objects_in, last_said, commands, script_of}
+use Rattle.script_text.specs.Items.{version_in, has_begun, regions_in, colours_in, clients_in, objects_in, last_said, commands, script_of}
 use Rattle.script_text.specs.Grammar.{said_lines, Say, IsScript}
 use Rattle.script_beside.specs.Joining.{later, EndsALine, IsHeader, NoneStops}
 use Rattle.script_beside.proofs.JoiningLines.{lines_ended, said_joined, moved, said_moved}
@@ -122,6 +122,7 @@ carries k s0 one other more mine its idle begun =
     let same : script_of one ≡ script_of other = mine ∙ sym its in
     let none : commands one ≡ [] = ap (λ (t : Script). t.commands) mine ∙ idle in
     let nothing : commands other ≡ [] = ap (λ (t : Script). t.commands) its ∙ idle in record {
+      version = ap (λ (t : Script). t.version) same ∙ sym (ap (last_said 1) (asked_of version_in (λ c. refl) other more));
       regions = ap (λ (t : Script). t.regions) same ∙ sym (ap (last_said []) (asked_of regions_in (λ c. refl) other more));
       colours = ap (λ (t : Script). t.colours) same ∙ sym (ap (last_said []) (asked_of colours_in (λ c. refl) other more));
       clients = ap (λ (t : Script). t.clients) same ∙ sym (ap (λ (l : List (List ℕ × ℕ)). map (λ c. c.0) l) (asked_of clients_in (λ c. refl) other more));

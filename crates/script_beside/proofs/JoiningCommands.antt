@@ -8,7 +8,7 @@ use Rattle.std.proofs.lemmas.List.Folds.{list_any-append}
 use Rattle.std.proofs.lemmas.List.Sums.{fold-append}
 use Rattle.script_text.specs.declared.script.Object.{Object}
 use Rattle.script_text.specs.declared.script.Command.{Command}
-use Rattle.script_text.specs.declared.script.What.{What}
+use Rattle.script_text.specs.declared.commands.What.{What}
 use Rattle.script_text.specs.declared.uses.ReadUse.TheVariants.{Takes, UsesUp}
 use Rattle.script_text.specs.declared.uses.Use.{Use}
 use Rattle.script_text.specs.declared.uses.Use.TheVariants.{OfObject}
@@ -19,11 +19,11 @@ use Rattle.script_text.specs.declared.table.Field.TheVariants as fields
 use Rattle.script_text.specs.declared.table.Last.{Last}
 use Rattle.script_text.specs.declared.table.Last.TheVariants as lasts
 use Rattle.script_text.specs.declared.given.Given.{Given}
-use Rattle.script_text.specs.Uses.{use_of}
-use Rattle.script_text.specs.Table.{row_fields, last_of, own_fields, later_fields, nothing}
-use Rattle.script_text.specs.Words.{word_of, word_text}
+use Rattle.script_text.specs.Commands.{use_of, word_of}
+use Rattle.script_text.specs.Table.{row_fields, last_of, own_fields, later_fields, nothing, has_word}
+use Rattle.script_text.specs.Words.{word_text}
 use Rattle.script_text.specs.Pieces.{fields_of, name_of}
-use Rattle.script_text.specs.Items.{has_begun, regions_in, colours_in, clients_in, objects_in, last_said, region_names, colour_names, client_names, objects, commands, is_stop, has_stopped, held_by, holds_read, has_read}
+use Rattle.script_text.specs.Items.{version_in, version_of, has_begun, regions_in, colours_in, clients_in, objects_in, last_said, region_names, colour_names, client_names, objects, commands, is_stop, has_stopped, held_by, holds_read, has_read}
 use Rattle.script_text.specs.Grammar.{may_follow, are_new_numbers, is_one_of, Spells, SpellAll, ends_well, SpellsWhat, Says, Say}
 use Rattle.script_beside.specs.Joining.{later, NoneStops}
 use Rattle.script_beside.proofs.JoiningLines.{moved}
@@ -31,6 +31,7 @@ use Rattle.script_beside.proofs.JoiningItems.{asks, asked_of, commands_asked, be
 
 -- The one header is the other's, and behind the other stand these commands more before the one's, which stand so many lines further down.
 pub record Carries (k : ℕ) (more : List Command) (one other : List Item) : Type 0 where
+  pub version : version_of one ≡ version_of other
   pub regions : region_names one ≡ region_names other
   pub colours : colour_names one ≡ colour_names other
   pub clients : client_names one ≡ client_names other
@@ -167,6 +168,7 @@ both false b e f = e
 module _ (k : ℕ) (more : List Command) (none : NoneStops more) (one other : List Item) (like : Carries k more one other) where
   what_as : (client : ℕ) (args : List (List ℕ)) (what : What) → SpellsWhat one client args what → SpellsWhat other client args what
   what_as client args what s = record {
+    known = subst (λ (v : ℕ). IsTrue (has_word v (word_of what))) like.version s.known;
     given = s.given;
     spelled = all_as one other like.regions like.colours like.made (row_fields (word_of what)) args nothing s.given s.spelled;
     ends = ends_as one other client (still_read k more one other like client) (last_of (word_of what)) s.given s.ends;
@@ -194,6 +196,7 @@ module _ (k : ℕ) (more : List Command) (none : NoneStops more) (one other : Li
   one_more c =
       let mine = c ∷ [] in
       let its = later k c ∷ [] in record {
+        version = ap (last_said 1) (asked_of version_in (λ d. refl) one mine) ∙ like.version ∙ sym (ap (last_said 1) (asked_of version_in (λ d. refl) other its));
         regions = ap (last_said []) (asked_of regions_in (λ d. refl) one mine) ∙ like.regions ∙ sym (ap (last_said []) (asked_of regions_in (λ d. refl) other its));
         colours = ap (last_said []) (asked_of colours_in (λ d. refl) one mine) ∙ like.colours ∙ sym (ap (last_said []) (asked_of colours_in (λ d. refl) other its));
         clients =

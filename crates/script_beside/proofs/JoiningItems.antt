@@ -1,6 +1,6 @@
 -- The items of a script's lines: those of a header, and behind it commands alone.
 use Rattle.std.proofs.Common.{◌≡◌, ℕ, suc, Bool, true, false, List, [], ◌∷◌, ◌++◌, length, map, Option, Some, None, refl, sym, ap, subst, ◌∙◌, arith, append-nil, append_assoc}
-use Rattle.std.specs.Prelude.{◌&&◌, codes}
+use Rattle.std.specs.Prelude.{◌&&◌, codes, decimal}
 use Rattle.std.specs.List.{cons_option, filter_map, last_or}
 use Rattle.std.specs.Str.{bytes_eq}
 use Rattle.std.proofs.lemmas.List.Elements.{filter_map-append}
@@ -14,7 +14,7 @@ use Rattle.script_text.specs.declared.item.Stage.TheVariants as stages
 use Rattle.script_text.specs.declared.limits.TheConstants.{VERSION_1}
 use Rattle.script_text.specs.Table.{sort_text, sort_of}
 use Rattle.script_text.specs.Pieces.{first_in, is_among}
-use Rattle.script_text.specs.Items.{stage_after, stage_of, header_words, may_come, is_begun, has_begun, regions_in, colours_in, rows_in, clients_in, objects_in, commands_in, last_said, commands, script_of}
+use Rattle.script_text.specs.Items.{stage_after, stage_of, header_words, may_come, is_begun, has_begun, regions_in, colours_in, rows_in, clients_in, objects_in, commands_in, last_said, commands, script_of, version_in, version_of, may_begin}
 use Rattle.script_text.specs.Grammar.{may_follow, Says, Say}
 
 -- ---- lists of items
@@ -48,8 +48,9 @@ says_commands (c ∷ cs) = ap (λ (l : List Command). c ∷ l) (says_commands cs
 pub commands_asked : (u : List Item) (cs : List Command) → commands (u ++ asks cs) ≡ commands u ++ cs
 commands_asked u cs = filter_map-append commands_in u (asks cs) ∙ ap (λ l. commands u ++ l) (says_commands cs)
 
-abbrev script_from : List (List (List ℕ)) → List (List (List ℕ)) → List ℕ → List (List ℕ × ℕ) → List Object → List Command → Script
-script_from regions colours rows clients made asked = record {
+abbrev script_from : List ℕ → List (List (List ℕ)) → List (List (List ℕ)) → List ℕ → List (List ℕ × ℕ) → List Object → List Command → Script
+script_from versions regions colours rows clients made asked = record {
+  version = last_said 1 versions;
   shape = record {
     regions = length (last_said [] regions);
     colours = length (last_said [] colours);
@@ -66,13 +67,14 @@ script_from regions colours rows clients made asked = record {
 -- commands behind items are the script's commands, and change nothing else of it
 pub script_asked : (u : List Item) (cs : List Command) → script_of (u ++ asks cs) ≡ record (script_of u) { commands = commands u ++ cs }
 script_asked u cs =
+    let v = asked_of version_in (λ c. refl) u cs in
     let r = asked_of regions_in (λ c. refl) u cs in
     let k = asked_of colours_in (λ c. refl) u cs in
     let n = asked_of rows_in (λ c. refl) u cs in
     let l = asked_of clients_in (λ c. refl) u cs in
     let o = asked_of objects_in (λ c. refl) u cs in
     let a = commands_asked u cs in
-    λ i. script_from (r i) (k i) (n i) (l i) (o i) (a i)
+    λ i. script_from (v i) (r i) (k i) (n i) (l i) (o i) (a i)
 
 -- ---- lines one after another
 
@@ -106,7 +108,7 @@ unlike word more differ e =
     no (sym (alike ∙ differ))
 
 ends_header : (before : List Item) (n : ℕ) (item : Item) → Says before n (codes "begin" ∷ []) item → is_begun (stage_after (Some item)) ≡ true
-ends_header before n items.Version says = too_few (codes "begin") (codes "fuzzylog") (codes "1") [] says
+ends_header before n (items.Version version) says = too_few (codes "begin") (codes "fuzzylog") (decimal version) [] says
 ends_header before n (items.Regions names) says = unlike (codes "regions") names refl says
 ends_header before n (items.Colours names) says = unlike (codes "colours") names refl says
 ends_header before n (items.Rows rows) says = too_few (codes "begin") (codes "rows") says.0 [] says.2
@@ -144,11 +146,11 @@ and_left false b e = e
 -- no header line comes there
 none_comes : {A : Type 0} (before : List Item) (word : List ℕ) → has_begun before ≡ true → may_come before word ≡ true → A
 none_comes before word begun come =
-    let never : may_come before word ≡ false = ap (λ (s : Stage). is_among (header_words s) word) (at_commands (stage_of before) begun) in
+    let never : may_come before word ≡ false = ap (λ (s : Stage). may_begin (version_of before) s word) (at_commands (stage_of before) begun) in
     no (sym never ∙ come)
 
 asks_alone : (before : List Item) (item : Item) → has_begun before ≡ true → may_follow before item ≡ true → (c : Command) × (item ≡ items.Asks c)
-asks_alone before items.Version begun may = none_comes before (codes "fuzzylog") begun may
+asks_alone before (items.Version version) begun may = none_comes before (codes "fuzzylog") begun (and_left _ _ may)
 asks_alone before (items.Regions names) begun may = none_comes before (codes "regions") begun (and_left _ _ (and_left _ _ may))
 asks_alone before (items.Colours names) begun may = none_comes before (codes "colours") begun (and_left _ _ (and_left _ _ may))
 asks_alone before (items.Rows rows) begun may = none_comes before (codes "rows") begun (and_left _ _ may)

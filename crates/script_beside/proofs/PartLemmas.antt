@@ -66,7 +66,7 @@ numbered most n (line ∷ lines) le =
 asked_at : (most : ℕ) (before : List Item) (line : ℕ × List ℕ) (fields : List (List ℕ)) (item : Item) (more : List Command)
     → Says before line.0 fields item → line.0 ≤ most → All (λ (c : Command). c.line ≤ most) more
     → All (λ (c : Command). c.line ≤ most) (cons_option (commands_in item) more)
-asked_at most before line fields items.Version more says le all = all
+asked_at most before line fields (items.Version version) more says le all = all
 asked_at most before line fields (items.Regions names) more says le all = all
 asked_at most before line fields (items.Colours names) more says le all = all
 asked_at most before line fields (items.Rows number) more says le all = all

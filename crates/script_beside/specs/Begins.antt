@@ -2,24 +2,27 @@
 use Rattle.std.specs.Prelude.{◌≡◌, ◌⊎◌, Bool, true, false, ℕ, ◌+◌, ◌<◌, ◌≤◌, ◌==◌, nat_lt, List, length, slice_index}
 use Rattle.std.specs.List.{All, Contains, count_by, filter}
 use Rattle.log_node.specs.Sets.{members}
-use Rattle.script_text.specs.declared.script.What.{What}
-use Rattle.script_text.specs.declared.script.What.TheVariants as whats
+use Rattle.script_text.specs.declared.commands.What.{What}
 use Rattle.script_text.specs.declared.script.Command.{Command}
+use Rattle.script_text.specs.declared.uses.NodeOf.{NodeOf}
+use Rattle.script_text.specs.declared.uses.NodeOf.TheVariants.{NoNode, OneColour, Named, Several}
+use Rattle.script_text.specs.Commands.{node_of}
 
--- Whether a command may begin a row: an append to several colours does. A node of one key has one colour, its shard's. All
--- others that append to an object are taken to be among them, since only the object's colours tell.
-abbrev pub may_begin : What → Bool
-may_begin (whats.Append colours text) = nat_lt 1 (length (members colours))
-may_begin (whats.Stop steps colours text) = true
-may_begin (whats.PutAll object pairs) = true
-may_begin (whats.Commit object pairs) = true
-may_begin (whats.Enq object value) = true
-may_begin (whats.Deq object) = true
-may_begin _ = false
+-- Whether the append of a node may begin a row: an append to several colours does. A node that may have several is taken to
+-- be among them, since only its object's colours tell.
+abbrev pub node_begins : NodeOf → Bool
+node_begins NoNode = false
+node_begins OneColour = false
+node_begins (Named colours) = nat_lt 1 (length (members colours))
+node_begins Several = true
+
+-- whether a command may begin a row
+abbrev pub may_take_row : What → Bool
+may_take_row what = node_begins (node_of what)
 
 -- how many of the commands may begin a row
 abbrev pub begins_in : List Command → ℕ
-begins_in commands = count_by (λ (c : Command). may_begin c.what) commands
+begins_in commands = count_by (λ (c : Command). may_take_row c.what) commands
 
 -- the client's own of the commands, in their order
 abbrev pub own : ℕ → List Command → List Command

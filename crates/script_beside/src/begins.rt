@@ -2,23 +2,20 @@
 ghost use Rattle.std.specs.Prelude.{◌≡◌, ◌+◌, ◌<◌, ◌≤◌, ◌^◌, ℕ, length, map, slice_index, replicate, Vec, IfOk};
 ghost use Rattle.std.specs.Global.{Global as TheGlobal};
 ghost use Rattle.script_text.specs.declared.script.Command.{Command as Asked};
-ghost use Rattle.script_beside.specs.Begins.{may_begin, begins_in, AreAdded, IsGreatest};
+ghost use Rattle.script_beside.specs.Begins.{may_take_row, begins_in, AreAdded, IsGreatest};
 
-use script_text::{Command, What};
+use script_text::{Command, NodeOf, What};
 use std::alloc::{AllocError, Global};
 
 // Whether what a client asks may begin a row.
-fn may_begin(what: &What) -> bool
-    ensures { result ≡ may_begin what.now }
+fn may_take_row(what: &What) -> bool
+    ensures { result ≡ may_take_row what.now }
 {
-    match what {
-        What::Append { colours, .. } => colours.count() > 1,
-        What::Stop { .. }
-        | What::PutAll { .. }
-        | What::Commit { .. }
-        | What::Enq { .. }
-        | What::Deq { .. } => true,
-        _ => false,
+    match what.node_of() {
+        NodeOf::NoNode => false,
+        NodeOf::OneColour => false,
+        NodeOf::Named { colours } => colours.count() > 1,
+        NodeOf::Several => true,
     }
 }
 
@@ -28,7 +25,7 @@ fn begins_in(commands: &[Command]) -> usize
 {
     let mut count = 0;
     for command in commands {
-        if may_begin(&command.what) {
+        if may_take_row(&command.what) {
             count += 1;
         }
     }

@@ -119,21 +119,21 @@ columns_are script code w same =
 
 -- The report
 
-alike : (clients clients' : List ClientReport) (rows rows' : List RowReport) (columns columns' : List ColumnReport)
+alike : (version : ℕ) (clients clients' : List ClientReport) (rows rows' : List RowReport) (columns columns' : List ColumnReport)
     → clients ≡ clients' → rows ≡ rows' → columns ≡ columns'
-    → (let r : Report = record { clients = clients; rows = rows; columns = columns } in r)
-    ≡ record { clients = clients'; rows = rows'; columns = columns' }
-alike clients clients' rows rows' columns columns' c d e = cc
+    → (let r : Report = record { version = version; clients = clients; rows = rows; columns = columns } in r)
+    ≡ record { version = version; clients = clients'; rows = rows'; columns = columns' }
+alike version clients clients' rows rows' columns columns' c d e = cc
 
 pub report_is : (script : Script) (code : RunView) (clients : List ClientReport) (rows : List RowReport)
     (columns : List ColumnReport) → IsWhole code.world → code.world.shape ≡ script.shape
     → clients ≡ map (client_shown code.replies) (enumerate_from 0 script.clients)
     → rows ≡ flat_map (region_rows_shown (world_of code.world)) (range_with_len 0 code.world.shape.regions)
     → columns ≡ columns_shown script code.world.columns
-    → (let r : Report = record { clients = clients; rows = rows; columns = columns } in r)
+    → (let r : Report = record { version = script.version; clients = clients; rows = rows; columns = columns } in r)
     ≡ report_of script (state_of code)
 report_is script code clients rows columns w same clients_is rows_is columns_is =
     let r = report_of script (state_of code) in
-    alike clients r.clients rows r.rows columns r.columns clients_is
+    alike script.version clients r.clients rows r.rows columns r.columns clients_is
     (rows_is ∙ ap (λ (s : Shape). flat_map (region_rows_shown (world_of code.world)) (range_with_len 0 s.regions)) same)
     (columns_is ∙ columns_are script code.world w same)

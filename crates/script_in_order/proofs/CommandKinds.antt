@@ -1,29 +1,41 @@
 -- Commands, by what they ask for.
-use Rattle.std.proofs.Common.{◌≡◌, ℕ, Bool, true, false, List, [], Option, Some, None, refl, ap, sym, subst, ◌∙◌}
-use Rattle.std.specs.Prelude.{if◌then◌else◌}
-use Rattle.log_node.specs.declared.ids.Colours.{Colours}
-use Rattle.log_node.specs.declared.forms.Pair.{Pair}
+use Rattle.std.proofs.Common.{◌≡◌, ℕ, Bool, List, [], Result, Ok, Err, Option, Some, None, refl, ap, sym, subst, ◌∙◌}
+use Rattle.std.specs.Prelude.{IfOk, if◌then◌else◌}
+use Rattle.std.specs.declared.alloc.AllocError.{AllocError}
 use Rattle.log_node.specs.Seen.{PlacedNode}
 use Rattle.world_laws.specs.Worlds.{World}
 use Rattle.script_text.specs.declared.script.Object.{Object}
+use Rattle.script_text.specs.declared.commands.What.{What}
 use Rattle.script_text.specs.declared.script.Command.{Command}
-use Rattle.script_text.specs.declared.script.What.{What}
-use Rattle.script_text.specs.declared.script.What.TheVariants as whats
+use Rattle.script_text.specs.declared.commands.What.{What}
 use Rattle.report_text.specs.declared.report.Answer.{Answer}
 use Rattle.report_text.specs.declared.report.Answer.TheVariants as answers
 use Rattle.script_meaning.specs.States.{State, Grants, all_granted, answered}
 use Rattle.script_meaning.specs.Objects.{caller_in, refusing_home}
 use Rattle.script_meaning.specs.Meaning.{done_one, done_from}
-use Rattle.script_in_order.specs.Doing.{DoneBy, Does, DoesAtHome, folds_nodes, transaction_of, with_replies}
+use Rattle.script_in_order.specs.Doing.{DoneBy, Does, DoesAtHome, with_replies}
 
--- what a command does that was granted memory before it did anything, and that no home refuses
-pub does_what : (objects : List Object) (command : Command) (what : What) (w new : World) (answer : Answer)
-    (nodes : List PlacedNode) → command.what ≡ what
-    → DoneBy (λ grants state. done_one objects grants state command what) command w new answer nodes
-    → DoesAtHome objects command w new answer nodes
-does_what objects command what w new answer nodes is d =
-    subst (λ (x : What). DoneBy (λ grants state. done_one objects grants state command x) command w new answer nodes)
-    (sym is) d
+-- what a command does that asks for this, and that no home refuses
+module _ (objects : List Object) (command : Command) {what : What} (asks : command.what ≡ what) where
+  pub does_what : {w new : World} {answer : Answer} {nodes : List PlacedNode}
+      → DoneBy (λ grants state. done_one objects grants state command what) command w new answer nodes
+      → DoesAtHome objects command w new answer nodes
+  does_what {w} {new} {answer} {nodes} d =
+      subst (λ (x : What). DoneBy (λ grants state. done_one objects grants state command x) command w new answer nodes)
+      (sym asks) d
+
+  pub all_do : (r : Result Answer AllocError) (w new : World) (nodes : List PlacedNode)
+      → IfOk r (λ answer. DoneBy (λ grants state. done_one objects grants state command what) command w new answer nodes)
+      → IfOk r (λ answer. DoesAtHome objects command w new answer nodes)
+  all_do (Ok answer) w new nodes d = does_what d
+  all_do (Err e) w new nodes d = tt
+
+-- what shows no nodes
+pub shows_none : (objects : List Object) (command : Command) (w new : World) (r : Result Answer AllocError)
+    (nodes : List PlacedNode) → nodes ≡ [] → IfOk r (λ answer. DoesAtHome objects command w new answer [])
+    → IfOk r (λ answer. DoesAtHome objects command w new answer nodes)
+shows_none objects command w new r nodes none d =
+    subst (λ (l : List PlacedNode). IfOk r (λ answer. DoesAtHome objects command w new answer l)) (sym none) d
 
 -- a command that no home refuses
 pub does_at_home : (objects : List Object) (command : Command) (w new : World) (answer : Answer)
@@ -55,33 +67,3 @@ pub with_nodes : (command : Command) (meaning : Grants → State → State) (w n
     answer nodes
 with_nodes command meaning w new answer nodes none d =
     subst (λ (l : List PlacedNode). DoneBy meaning command w new answer l) (sym none) d
-
--- no command of another kind folds nothing
-pub other_kinds : (what : What) → folds_nodes what ≡ false
-    → ((c : Colours) (t : List ℕ) → what ≡ whats.Append c t → ⊥)
-    → ((n : ℕ) (c : Colours) (t : List ℕ) → what ≡ whats.Stop n c t → ⊥)
-    → ((c : ℕ) → what ≡ whats.Sync c → ⊥) → ((c : Colours) → what ≡ whats.Scan c → ⊥)
-    → ((r c : ℕ) → what ≡ whats.Pull r c → ⊥)
-    → ((c : ℕ) → what ≡ whats.Trim c → ⊥) → ((o : ℕ) (k v : List ℕ) → what ≡ whats.Put o k v → ⊥)
-    → ((o : ℕ) (k : List ℕ) → what ≡ whats.Del o k → ⊥) → ((o : ℕ) (ps : List Pair) → what ≡ whats.PutAll o ps → ⊥)
-    → ((o : ℕ) (v : List ℕ) → what ≡ whats.Enq o v → ⊥) → ⊥
-other_kinds (whats.Append colours text) b p q r k s t u v x y = p colours text refl
-other_kinds (whats.Stop steps colours text) b p q r k s t u v x y = q steps colours text refl
-other_kinds (whats.Sync colour) b p q r k s t u v x y = r colour refl
-other_kinds (whats.Scan colours) b p q r k s t u v x y = k colours refl
-other_kinds (whats.Pull region colour) b p q r k s t u v x y = s region colour refl
-other_kinds (whats.Trim colour) b p q r k s t u v x y = t colour refl
-other_kinds (whats.Put object key value) b p q r k s t u v x y = u object key value refl
-other_kinds (whats.Del object key) b p q r k s t u v x y = v object key refl
-other_kinds (whats.PutAll object pairs) b p q r k s t u v x y = x object pairs refl
-other_kinds (whats.Enq object value) b p q r k s t u v x y = y object value refl
-other_kinds _ b p q r k s t u v x y = let f : ⊥ = cc in f
-
--- no command of another kind folds nodes
-pub fold_kinds : (what : What) → transaction_of what ≡ None → folds_nodes what ≡ true
-    → ((o : ℕ) (k : List ℕ) → what ≡ whats.Get o k → ⊥)
-    → ((o : ℕ) (ks : List (List ℕ)) → what ≡ whats.GetAll o ks → ⊥) → ((o : ℕ) → what ≡ whats.Deq o → ⊥) → ⊥
-fold_kinds (whats.Get object key) n f p q r = p object key refl
-fold_kinds (whats.GetAll object keys) n f p q r = q object keys refl
-fold_kinds (whats.Deq object) n f p q r = r object refl
-fold_kinds _ n f p q r = let g : ⊥ = cc in g

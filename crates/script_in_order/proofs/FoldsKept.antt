@@ -1,11 +1,10 @@
 -- Folds stay right while the world goes on.
-use Rattle.std.proofs.Common.{◌≡◌, ℕ, zero, suc, ◌+◌, ◌<◌, ◌≤◌, List, [], ◌∷◌, ◌++◌, length, map, take, Vec, Global, Option, Some, None, get_or, set, length-set, refl, ap, sym, subst, ◌∙◌, inl, inr, ◌⊎◌, arith}
+use Rattle.std.proofs.Common.{◌≡◌, ℕ, zero, suc, ◌<◌, ◌≤◌, List, [], ◌∷◌, ◌++◌, length, map, take, Vec, Global, Option, Some, None, get_or, set, length-set, refl, ap, sym, subst, ◌∙◌, inl, inr, ◌⊎◌, arith}
 use Rattle.std.specs.Prelude.{◌≢◌, slice_get}
 use Rattle.std.specs.List.{Contains}
 use Rattle.std.specs.Option.{option_map}
 use Rattle.std.specs.Vec.{with_item}
 use Rattle.std.proofs.lemmas.Option.{slice_get-get_or}
-use Rattle.log_node.specs.declared.ids.Key.{Key}
 use Rattle.object_fold.specs.declared.causal_map.CausalMap.{CausalMap}
 use Rattle.object_fold.specs.declared.kept_line.KeptLine.{KeptLine}
 use Rattle.object_fold.specs.declared.queue.ValueQueue.{ValueQueue}

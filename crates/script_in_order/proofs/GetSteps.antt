@@ -45,14 +45,14 @@ use Rattle.script_in_order.specs.Doing.{DoneBy, Does, DoesAtHome, with_replies}
 use Rattle.script_in_order.specs.declared.folds.FirstNodes.{FirstNodes}
 use Rattle.script_in_order.specs.declared.stamped.Stamped.{Stamped}
 use Rattle.script_in_order.specs.Stamped.{ReadsStamped, end_in}
-use Rattle.script_in_order.specs.Folds.{AreFolded, ShardsWithin, IsMapAt, whole_line, nodes_at}
+use Rattle.script_in_order.specs.Folds.{AreFolded, FoldsStay, ShardsWithin, IsMapAt, whole_line, nodes_at}
 use Rattle.script_in_order.proofs.CommandKinds.{does_at_home}
 use Rattle.script_in_order.proofs.ObjectSteps.{kind_is}
 use Rattle.script_in_order.proofs.DequeueSteps.{unanswered}
 use Rattle.script_in_order.proofs.FoldsKept.{folds_stay, shards_within}
 use Rattle.script_in_order.proofs.StampedWholes.{Showing, read_given}
 
--- A COMMAND THAT FOLDS NOTHING
+-- WHAT IS FOLDED
 
 does_to : (objects : List Object) (command : Command) (w new : World) (answer : Answer) (nodes : List PlacedNode)
     → Does objects command w new answer nodes → RunsTo w new
@@ -61,15 +61,14 @@ does_to objects command w new answer nodes d =
     (done_to objects d.grants (with_replies w (unanswered w)) command)
 
 -- what is folded stays right
-pub folded_on : (objects : List Object) (command : Command) (w new : World) (all : List Fold)
-    (r : Result (Answer × List PlacedNode) AllocError) → IsReached w
+pub folded_on : (objects : List Object) (command : Command) (w new : World) (nodes : List PlacedNode)
+    (r : Result Answer AllocError) → IsReached w
     → refusing_home (caller_in w objects command.client) command.what ≡ None
-    → IfOk r (λ (g : Answer × List PlacedNode). DoesAtHome objects command w new g.0 g.1) → OnErr r (new ≡ w)
-    → AreFolded w objects all → AreFolded new objects all
-folded_on objects command w new all (Ok g) reached near ok err f =
+    → IfOk r (λ answer. DoesAtHome objects command w new answer nodes) → OnErr r (new ≡ w) → FoldsStay w new objects
+folded_on objects command w new nodes (Ok answer) reached near ok err all f =
     folds_stay w new reached
-    (does_to objects command w new g.0 g.1 (does_at_home objects command w new g.0 g.1 near ok)) objects all f
-folded_on objects command w new all (Err e) reached near ok err f =
+    (does_to objects command w new answer nodes (does_at_home objects command w new answer nodes near ok)) objects all f
+folded_on objects command w new nodes (Err e) reached near ok err all f =
     subst (λ (x : World). AreFolded x objects all) (sym err) f
 
 -- A GET

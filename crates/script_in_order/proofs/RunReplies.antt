@@ -13,11 +13,11 @@ use Rattle.world_laws.specs.Worlds.{World}
 use Rattle.world_code.specs.WorldView.{WorldView, world_of}
 use Rattle.script_text.specs.declared.script.Object.{Object}
 use Rattle.script_text.specs.declared.script.Command.{Command}
-use Rattle.script_text.specs.declared.script.What.{What}
+use Rattle.script_text.specs.declared.commands.What.{What}
 use Rattle.script_text.specs.declared.uses.ReadUse.TheVariants.{Takes, UsesUp}
 use Rattle.script_text.specs.declared.uses.Use.{Use}
 use Rattle.script_text.specs.declared.uses.Use.TheVariants.{OfObject}
-use Rattle.script_text.specs.Uses.{use_of}
+use Rattle.script_text.specs.Commands.{use_of}
 use Rattle.report_text.specs.declared.report.Answer.{Answer}
 use Rattle.report_text.specs.declared.report.Answer.TheVariants.{NoMemory}
 use Rattle.report_text.specs.declared.report.ReplyLine.{ReplyLine}

@@ -1,17 +1,16 @@
 -- What a command does to a world, and what it is answered.
-use Rattle.std.specs.Prelude.{◌≡◌, ℕ, ◌<◌, Bool, true, false, List, length, Option, Some, None}
+use Rattle.std.specs.Prelude.{◌≡◌, ℕ, ◌<◌, true, List, length, Option, Some, None}
 use Rattle.std.specs.List.{All}
 use Rattle.log_node.specs.Seen.{PlacedNode}
 use Rattle.log_node.specs.declared.node.Shape.{Shape}
 use Rattle.world_laws.specs.Worlds.{World}
 use Rattle.script_text.specs.declared.script.Command.{Command}
-use Rattle.script_text.specs.declared.script.What.{What}
-use Rattle.script_text.specs.declared.script.What.TheVariants as whats
+use Rattle.script_text.specs.declared.commands.What.{What}
 use Rattle.script_text.specs.declared.script.Object.{Object}
 use Rattle.script_text.specs.declared.uses.ReadUse.TheVariants.{Takes, UsesUp}
 use Rattle.script_text.specs.declared.uses.Use.{Use}
 use Rattle.script_text.specs.declared.uses.Use.TheVariants.{OfObject}
-use Rattle.script_text.specs.Uses.{use_of}
+use Rattle.script_text.specs.Commands.{use_of}
 use Rattle.script_text.specs.Fitting.{IsWithin, IsKindWithin, UsesObject}
 use Rattle.report_text.specs.declared.report.Answer.{Answer}
 use Rattle.script_meaning.specs.States.{State, Grants, answered}
@@ -39,15 +38,6 @@ Does objects command old new answer nodes =
 abbrev pub DoesAtHome : List Object → Command → World → World → Answer → List PlacedNode → Type 0
 DoesAtHome objects command old new answer nodes =
     DoneBy (λ grants state. done_one objects grants state command command.what) command old new answer nodes
-
--- the command folds nodes for its answer
-abbrev pub folds_nodes : What → Bool
-folds_nodes (whats.Get object key) = true
-folds_nodes (whats.GetAll object keys) = true
-folds_nodes (whats.Read object keys) = true
-folds_nodes (whats.Commit object pairs) = true
-folds_nodes (whats.Deq object) = true
-folds_nodes _ = false
 
 -- the object of a use that lets the last read of it go
 abbrev pub transacts : Use → Option ℕ

@@ -96,6 +96,10 @@ pub record AreFolded (w : World) (objects : List Object) (all : List Fold) : Typ
   pub each : (n : ℕ) (o : Object) (fold : Fold) → slice_get objects n ≡ Some o → slice_get all n ≡ Some fold
       → IsFoldOf w o.kind fold
 
+-- what is folded right in one world is so in the other
+abbrev pub FoldsStay : World → World → List Object → Type 0
+FoldsStay old new objects = (all : List Fold) → AreFolded old objects all → AreFolded new objects all
+
 -- of these colours no shard of the object is folded past its bound
 abbrev pub ShardsWithin : List Fold → ℕ → List ℕ → (ℕ → ℕ) → Type 0
 ShardsWithin all object colours bound =

@@ -6,7 +6,7 @@ use Rattle.log_node.specs.declared.forms.Version.{Version}
 use Rattle.script_text.specs.declared.script.Object.{Object}
 use Rattle.script_text.specs.declared.script.Command.{Command}
 use Rattle.script_text.specs.declared.script.Script.{Script}
-use Rattle.script_text.specs.Words.{word_of}
+use Rattle.script_text.specs.Commands.{word_of}
 use Rattle.log_node.specs.Seen.{PlacedNode}
 use Rattle.report_text.specs.declared.report.Answer.{Answer}
 use Rattle.report_text.specs.declared.report.ReplyLine.{ReplyLine}

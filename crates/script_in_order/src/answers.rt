@@ -1,15 +1,18 @@
 // The answer to one command, and the reply line that shows it.
-ghost use Rattle.std.specs.Prelude.{◌≡◌, [], false, IfOk, OnErr, MatchResult};
+ghost use Rattle.std.specs.Prelude.{◌≡◌, [], IfOk, OnErr, MatchResult, None};
 ghost use Rattle.report_text.specs.declared.report.Answer.TheVariants.{NoMemory};
 ghost use Rattle.world_code.specs.WorldView.{world_of};
-ghost use Rattle.script_meaning.specs.Appends.{appended, stopped};
-ghost use Rattle.script_meaning.specs.Moves.{synced};
-ghost use Rattle.script_in_order.specs.Doing.{IsFit, DoesAtHome, DoneBy, folds_nodes};
+ghost use Rattle.script_meaning.specs.Objects.{caller_in, refusing_home};
+ghost use Rattle.script_in_order.specs.Doing.{IsFit, DoesAtHome, transaction_of};
+ghost use Rattle.script_in_order.specs.Folds.{AreFolded, FoldsStay};
 ghost use Rattle.script_in_order.specs.Runs.{reply_of};
 
-use crate::appends::append;
+use crate::appends::append_asked;
+use crate::folds::Folds;
+use crate::gets::{get, get_keys};
 use crate::moves::{pull, trim};
 use crate::object_appends::{delete, enqueue, put, put_all};
+use crate::queues::dequeue;
 use crate::scans::scan;
 use crate::stops::stop;
 use crate::syncs::sync;
@@ -19,59 +22,52 @@ use script_text::{Command, Object, What};
 use std::alloc::{AllocError, Global};
 use world_code::World;
 
-/// What a command is answered that folds nothing and that no home refuses, and the nodes that it shows; `Err` means that it found no memory
-/// before it did anything.
+/// What a command is answered that is no read and no commit and that no home refuses; the nodes that it shows stand in `nodes`
+/// then. `Err` means that it found no memory before it did anything. What it folds is kept.
+#[tactic(auto, using(crate::proofs::CommandKinds::shows_none))]
 pub fn answer(
     alloc: Global,
     objects: &[Object],
     command: &Command,
     world: &mut World,
-) -> Result<(Answer, Items), AllocError>
-    requires other { folds_nodes command.now.what ≡ false }
+    folds: &mut Folds,
+    nodes: &mut Items,
+) -> Result<Answer, AllocError>
+    requires kind { transaction_of command.now.what ≡ None }
     requires fits { IsFit (world_of world.old) objects.now command.now.client command.now.what }
-    ensures ok { IfOk result (λ g. DoesAtHome objects.now command.now (world_of world.old) (world_of world.new) g.0 g.1) }
+    requires near { refusing_home (caller_in (world_of world.old) objects.now command.now.client) command.now.what ≡ None }
+    requires folded { AreFolded (world_of world.old) objects.now folds.old }
+    requires none { nodes.old ≡ [] }
+    ensures ok { IfOk result (λ answer. DoesAtHome objects.now command.now (world_of world.old) (world_of world.new) answer nodes.new) }
     ensures err { OnErr result (world_of world.new ≡ world_of world.old) }
+    ensures folded { FoldsStay (world_of world.old) (world_of world.new) objects.now
+        → AreFolded (world_of world.new) objects.now folds.new }
 {
     match &command.what {
-        What::Append { colours, text } => {
-            let answer = append(alloc, command, *colours, text, world)?;
-            Ok((answer, ListOf::new(alloc)))
-        }
+        What::Append { colours, text } => append_asked(
+            alloc, objects, command, *colours, text, world,
+        ),
         What::Stop {
             steps,
             colours,
             text,
-        } => {
-            let answer = stop(alloc, command, *steps, *colours, text, world)?;
-            Ok((answer, ListOf::new(alloc)))
-        }
-        What::Sync { colour } => sync(alloc, command, *colour, world),
-        What::Scan { colours } => scan(alloc, command, *colours, world),
-        What::Pull { region, colour } => {
-            let answer = pull(alloc, command, *region, *colour, world)?;
-            Ok((answer, ListOf::new(alloc)))
-        }
-        What::Trim { colour } => {
-            let answer = trim(command, *colour, world)?;
-            Ok((answer, ListOf::new(alloc)))
-        }
-        What::Put { object, key, value } => {
-            let answer = put(alloc, objects, command, *object, key, value, world)?;
-            Ok((answer, ListOf::new(alloc)))
-        }
-        What::Del { object, key } => {
-            let answer = delete(alloc, objects, command, *object, key, world)?;
-            Ok((answer, ListOf::new(alloc)))
-        }
-        What::PutAll { object, pairs } => {
-            let answer = put_all(alloc, objects, command, *object, pairs, world)?;
-            Ok((answer, ListOf::new(alloc)))
-        }
-        What::Enq { object, value } => {
-            let answer = enqueue(alloc, objects, command, *object, value, world)?;
-            Ok((answer, ListOf::new(alloc)))
-        }
-        _ => unreachable!(),
+        } => stop(alloc, objects, command, *steps, *colours, text, world),
+        What::Sync { colour } => sync(alloc, objects, command, *colour, world, nodes),
+        What::Scan { colours } => scan(alloc, objects, command, *colours, world, nodes),
+        What::Pull { region, colour } => pull(alloc, objects, command, *region, *colour, world),
+        What::Trim { colour } => trim(objects, command, *colour, world),
+        What::Put { object, key, value } => put(
+            alloc, objects, command, *object, key, value, world,
+        ),
+        What::Get { object, key } => get(alloc, objects, command, *object, key, world, folds),
+        What::Del { object, key } => delete(alloc, objects, command, *object, key, world),
+        What::PutAll { object, pairs } => put_all(alloc, objects, command, *object, pairs, world),
+        What::GetAll { object, keys } => get_keys(
+            alloc, objects, command, *object, keys, world, folds,
+        ),
+        What::Enq { object, value } => enqueue(alloc, objects, command, *object, value, world),
+        What::Deq { object } => dequeue(alloc, objects, command, *object, world, folds),
+        What::Read { .. } | What::Commit { .. } => unreachable!(),
     }
 }
 

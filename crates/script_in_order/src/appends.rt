@@ -7,14 +7,14 @@ ghost use Rattle.world_code.specs.WorldView.{world_of};
 ghost use Rattle.log_node.specs.Outcomes.{is_stamp_end_fence};
 ghost use Rattle.world_laws.specs.Worlds.{is_begun, next_id, row_of};
 ghost use Rattle.script_meaning.specs.Appends.{appended, appended_one, appended_several, ended_colour};
-ghost use Rattle.script_in_order.specs.Doing.{DoneBy};
+ghost use Rattle.script_in_order.specs.Doing.{DoneBy, DoesAtHome};
 ghost use Rattle.script_in_order.specs.Points.{AreFinal, EndsByOutcome};
 
 use crate::clears::{clear, clear_all};
 use crate::points::{only_member, places, position, with_positions};
 use log_node::{At, Colours, Id, Key, Mark, Outcome, Row, Text, Why};
 use report_text::{Answer, PointPiece, Points};
-use script_text::Command;
+use script_text::{Command, Object, What};
 use std::alloc::{AllocError, Global};
 use world_code::World;
 use world_laws::{can_complete, is_lawful, log_only_grows};
@@ -40,6 +40,25 @@ pub fn append(
     } else {
         append_several(alloc, command, colours, text, world)
     }
+}
+
+/// The same, as a command asks for it.
+pub fn append_asked(
+    alloc: Global,
+    objects: &[Object],
+    command: &Command,
+    colours: Colours,
+    text: &Text,
+    world: &mut World,
+) -> Result<Answer, AllocError>
+    requires asks { command.now.what ≡ What.Append colours text.now }
+    requires many { HasColours 1 colours }
+    requires caller { command.now.client < length world.old.shape.homes }
+    requires within { AreBelow world.old.shape.colours colours }
+    ensures ok { IfOk result (λ answer. DoesAtHome objects.now command.now (world_of world.old) (world_of world.new) answer []) }
+    ensures err { OnErr result (world_of world.new ≡ world_of world.old) }
+{
+    append(alloc, command, colours, text, world)
 }
 
 /// An append to one colour: its node enters, and its colour is cleared below its key.

@@ -9,7 +9,7 @@ ghost use Rattle.world_code.specs.WorldView.{world_of};
 ghost use Rattle.script_meaning.specs.States.{kind_in};
 ghost use Rattle.script_meaning.specs.Objects.{caller_in, refusing_home};
 ghost use Rattle.script_meaning.specs.Gets.{got, got_value, got_keys, key_answers, value_up_to};
-ghost use Rattle.script_in_order.specs.Doing.{DoneBy, AreKindsWithin};
+ghost use Rattle.script_in_order.specs.Doing.{DoneBy, DoesAtHome, AreKindsWithin};
 ghost use Rattle.script_in_order.specs.Folds.{whole_line, AreThere, AreFolded, ShardsWithin, IsMapAt};
 
 use crate::causal::get_values;
@@ -37,15 +37,14 @@ pub fn get(
     world: &mut World,
     folds: &mut Folds,
 ) -> Result<Answer, AllocError>
+    requires asks { command.now.what ≡ What.Get object key.now }
     requires caller { command.now.client < length world.old.shape.homes }
     requires kinds { AreKindsWithin world.old.shape objects.now }
     requires uses { UsesObject objects.now (What.Get object key.now) }
     requires near { refusing_home (caller_in (world_of world.old) objects.now command.now.client)
         (What.Get object key.now) ≡ None }
     requires folded { AreFolded (world_of world.old) objects.now folds.old }
-    ensures ok { IfOk result (λ answer. DoneBy
-        (λ grants state. got grants state command.now (kind_in objects.now object) key.now) command.now
-        (world_of world.old) (world_of world.new) answer []) }
+    ensures ok { IfOk result (λ answer. DoesAtHome objects.now command.now (world_of world.old) (world_of world.new) answer []) }
     ensures err { OnErr result (world_of world.new ≡ world_of world.old) }
     ensures folded { AreFolded (world_of world.new) objects.now folds.new }
 {
@@ -164,15 +163,14 @@ pub fn get_keys(
     world: &mut World,
     folds: &mut Folds,
 ) -> Result<Answer, AllocError>
+    requires asks { command.now.what ≡ What.GetAll object keys.now }
     requires caller { command.now.client < length world.old.shape.homes }
     requires kinds { AreKindsWithin world.old.shape objects.now }
     requires uses { UsesObject objects.now (What.GetAll object keys.now) }
     requires near { refusing_home (caller_in (world_of world.old) objects.now command.now.client)
         (What.GetAll object keys.now) ≡ None }
     requires folded { AreFolded (world_of world.old) objects.now folds.old }
-    ensures ok { IfOk result (λ answer. DoneBy
-        (λ grants state. got_keys objects.now grants state command.now object keys.now) command.now
-        (world_of world.old) (world_of world.new) answer []) }
+    ensures ok { IfOk result (λ answer. DoesAtHome objects.now command.now (world_of world.old) (world_of world.new) answer []) }
     ensures err { OnErr result (world_of world.new ≡ world_of world.old) }
     ensures folded { AreFolded (world_of world.new) objects.now folds.new }
 {

@@ -10,7 +10,6 @@ ghost use Rattle.script_in_order.specs.Folds.{AreFolded};
 
 use crate::answers::answer;
 use crate::clears::home;
-use crate::folding::{answer_by_fold, folds_nodes};
 use crate::folds::Folds;
 use log_node::{Items, ListOf};
 use report_text::Answer;
@@ -77,11 +76,10 @@ pub fn answer_at_home(
     world.agrees();
     match refusing_home(objects, command, world) {
         Some(home) => Ok((Answer::NotHome { home }, ListOf::new(alloc))),
-        None => if folds_nodes(&command.what) {
-            let answer = answer_by_fold(alloc, objects, command, world, folds)?;
-            Ok((answer, ListOf::new(alloc)))
-        } else {
-            answer(alloc, objects, command, world)
-        },
+        None => {
+            let mut nodes = ListOf::new(alloc);
+            let answer = answer(alloc, objects, command, world, folds, &mut nodes)?;
+            Ok((answer, nodes))
+        }
     }
 }

@@ -5,7 +5,6 @@ mod answers;
 mod appends;
 mod causal;
 mod clears;
-mod folding;
 mod folds;
 mod gets;
 mod homes;

@@ -4,13 +4,13 @@ ghost use Rattle.col_core.specs.History.{line};
 ghost use Rattle.world_laws.specs.Worlds.{held_of, base_after, home_of};
 ghost use Rattle.world_code.specs.WorldView.{world_of};
 ghost use Rattle.script_meaning.specs.Moves.{pulled, pulled_from, trimmed};
-ghost use Rattle.script_in_order.specs.Doing.{DoneBy};
+ghost use Rattle.script_in_order.specs.Doing.{DoneBy, DoesAtHome};
 ghost use Rattle.script_in_order.specs.Points.{event_or_look};
 
 use crate::clears::home;
 use log_node::{At, Counts};
 use report_text::Answer;
-use script_text::Command;
+use script_text::{Command, Object, What};
 use std::alloc::{AllocError, Global};
 use world_code::World;
 use world_laws::copies_are_true;
@@ -19,16 +19,17 @@ use world_laws::copies_are_true;
 /// client's own region. Where there is no memory for what is carried, the other region has given alone.
 pub fn pull(
     alloc: Global,
+    objects: &[Object],
     command: &Command,
     region: u8,
     colour: u8,
     world: &mut World,
 ) -> Result<Answer, AllocError>
+    requires asks { command.now.what ≡ What.Pull region colour }
     requires caller { command.now.client < length world.old.shape.homes }
     requires region { region < world.old.shape.regions }
     requires within { colour < world.old.shape.colours }
-    ensures ok { IfOk result (λ answer. DoneBy (λ grants state. pulled grants state command.now region colour)
-        command.now (world_of world.old) (world_of world.new) answer []) }
+    ensures ok { IfOk result (λ answer. DoesAtHome objects.now command.now (world_of world.old) (world_of world.new) answer []) }
     ensures err { OnErr result (world_of world.new ≡ world_of world.old) }
 {
     let own = home(world, command.client);
@@ -116,11 +117,16 @@ fn event_or_look(place: Option<u64>, events: u64) -> At
 }
 
 /// Trims a colour's column of the client's region up to what the client has played.
-pub fn trim(command: &Command, colour: u8, world: &mut World) -> Result<Answer, AllocError>
+pub fn trim(
+    objects: &[Object],
+    command: &Command,
+    colour: u8,
+    world: &mut World,
+) -> Result<Answer, AllocError>
+    requires asks { command.now.what ≡ What.Trim colour }
     requires caller { command.now.client < length world.old.shape.homes }
     requires within { colour < world.old.shape.colours }
-    ensures ok { IfOk result (λ answer. DoneBy (λ _ state. trimmed state command.now colour) command.now
-        (world_of world.old) (world_of world.new) answer []) }
+    ensures ok { IfOk result (λ answer. DoesAtHome objects.now command.now (world_of world.old) (world_of world.new) answer []) }
     ensures err { OnErr result (world_of world.new ≡ world_of world.old) }
 {
     let client = command.client;

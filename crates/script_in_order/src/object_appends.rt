@@ -8,7 +8,7 @@ ghost use Rattle.lawful_run.specs.Asks.{object_colours, keys_of_pairs, put_form}
 ghost use Rattle.world_code.specs.WorldView.{world_of};
 ghost use Rattle.script_meaning.specs.Appends.{appended};
 ghost use Rattle.script_meaning.specs.Objects.{shard_set, put_into, deleted_from, put_all_into, enqueued_in};
-ghost use Rattle.script_in_order.specs.Doing.{DoneBy, AreKindsWithin};
+ghost use Rattle.script_in_order.specs.Doing.{DoneBy, DoesAtHome, AreKindsWithin};
 
 use crate::appends::append;
 use log_node::{Colours, Form, ListOf, MAX_COLOURS, Pair, Pairs, Text};
@@ -137,12 +137,11 @@ pub fn put(
     value: &Text,
     world: &mut World,
 ) -> Result<Answer, AllocError>
+    requires asks { command.now.what ≡ What.Put object key.now value.now }
     requires caller { command.now.client < length world.old.shape.homes }
     requires kinds { AreKindsWithin world.old.shape objects.now }
     requires uses { UsesObject objects.now (What.Put object key.now value.now) }
-    ensures ok { IfOk result (λ answer. DoneBy
-        (λ grants state. put_into objects.now grants state command.now object key.now value.now) command.now
-        (world_of world.old) (world_of world.new) answer []) }
+    ensures ok { IfOk result (λ answer. DoesAtHome objects.now command.now (world_of world.old) (world_of world.new) answer []) }
     ensures err { OnErr result (world_of world.new ≡ world_of world.old) }
 {
     world.is_whole();
@@ -160,12 +159,11 @@ pub fn delete(
     key: &Text,
     world: &mut World,
 ) -> Result<Answer, AllocError>
+    requires asks { command.now.what ≡ What.Del object key.now }
     requires caller { command.now.client < length world.old.shape.homes }
     requires kinds { AreKindsWithin world.old.shape objects.now }
     requires uses { UsesObject objects.now (What.Del object key.now) }
-    ensures ok { IfOk result (λ answer. DoneBy
-        (λ grants state. deleted_from objects.now grants state command.now object key.now) command.now
-        (world_of world.old) (world_of world.new) answer []) }
+    ensures ok { IfOk result (λ answer. DoesAtHome objects.now command.now (world_of world.old) (world_of world.new) answer []) }
     ensures err { OnErr result (world_of world.new ≡ world_of world.old) }
 {
     world.is_whole();
@@ -185,12 +183,11 @@ pub fn put_all(
     pairs: &Pairs,
     world: &mut World,
 ) -> Result<Answer, AllocError>
+    requires asks { command.now.what ≡ What.PutAll object pairs.now }
     requires caller { command.now.client < length world.old.shape.homes }
     requires kinds { AreKindsWithin world.old.shape objects.now }
     requires uses { UsesObject objects.now (What.PutAll object pairs.now) }
-    ensures ok { IfOk result (λ answer. DoneBy
-        (λ grants state. put_all_into objects.now grants state command.now object pairs.now) command.now
-        (world_of world.old) (world_of world.new) answer []) }
+    ensures ok { IfOk result (λ answer. DoesAtHome objects.now command.now (world_of world.old) (world_of world.new) answer []) }
     ensures err { OnErr result (world_of world.new ≡ world_of world.old) }
 {
     world.is_whole();
@@ -211,12 +208,11 @@ pub fn enqueue(
     value: &Text,
     world: &mut World,
 ) -> Result<Answer, AllocError>
+    requires asks { command.now.what ≡ What.Enq object value.now }
     requires caller { command.now.client < length world.old.shape.homes }
     requires kinds { AreKindsWithin world.old.shape objects.now }
     requires uses { UsesObject objects.now (What.Enq object value.now) }
-    ensures ok { IfOk result (λ answer. DoneBy
-        (λ grants state. enqueued_in objects.now grants state command.now object value.now) command.now
-        (world_of world.old) (world_of world.new) answer []) }
+    ensures ok { IfOk result (λ answer. DoesAtHome objects.now command.now (world_of world.old) (world_of world.new) answer []) }
     ensures err { OnErr result (world_of world.new ≡ world_of world.old) }
 {
     world.is_whole();

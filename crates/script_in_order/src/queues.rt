@@ -9,7 +9,7 @@ ghost use Rattle.world_code.specs.WorldView.{world_of};
 ghost use Rattle.script_meaning.specs.Objects.{caller_in, refusing_home};
 ghost use Rattle.script_meaning.specs.Appends.{appended_one};
 ghost use Rattle.script_meaning.specs.Dequeues.{sync_now, dequeued_on, dequeued};
-ghost use Rattle.script_in_order.specs.Doing.{DoneBy, AreKindsWithin};
+ghost use Rattle.script_in_order.specs.Doing.{DoneBy, DoesAtHome, AreKindsWithin};
 ghost use Rattle.script_in_order.specs.Folds.{AreFolded, QueueWithin, IsQueueAt};
 ghost use Rattle.script_in_order.specs.Reading.{ReadsOwn};
 
@@ -137,14 +137,13 @@ pub fn dequeue(
     world: &mut World,
     folds: &mut Folds,
 ) -> Result<Answer, AllocError>
+    requires asks { command.now.what ≡ What.Deq object }
     requires caller { command.now.client < length world.old.shape.homes }
     requires kinds { AreKindsWithin world.old.shape objects.now }
     requires uses { UsesObject objects.now (What.Deq object) }
     requires near { refusing_home (caller_in (world_of world.old) objects.now command.now.client) (What.Deq object) ≡ None }
     requires folded { AreFolded (world_of world.old) objects.now folds.old }
-    ensures ok { IfOk result (λ answer. DoneBy
-        (λ grants state. dequeued objects.now grants state command.now object) command.now
-        (world_of world.old) (world_of world.new) answer []) }
+    ensures ok { IfOk result (λ answer. DoesAtHome objects.now command.now (world_of world.old) (world_of world.new) answer []) }
     ensures err { OnErr result (world_of world.new ≡ world_of world.old) }
     ensures folded { AreFolded (world_of world.new) objects.now folds.new }
 {

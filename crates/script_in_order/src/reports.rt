@@ -78,6 +78,7 @@ pub fn report(
     world.is_whole();
     let rows = row_reports(alloc, &world)?;
     Ok(Report {
+        version: script.version,
         clients: client_reports(alloc, &script.clients, replies)?,
         rows,
         columns: column_reports(alloc, script, world.into_columns())?,

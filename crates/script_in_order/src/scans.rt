@@ -1,5 +1,5 @@
 // Scans.
-ghost use Rattle.std.specs.Prelude.{◌≡◌, ◌≢◌, ◌<◌, None, IfOk, OnErr, length, map};
+ghost use Rattle.std.specs.Prelude.{◌≡◌, ◌≢◌, ◌<◌, [], None, IfOk, OnErr, length, map};
 ghost use Rattle.std.specs.List.{All};
 ghost use Rattle.log_node.specs.declared.ids.Key.{Key};
 ghost use Rattle.log_node.specs.Sets.{members};
@@ -7,12 +7,12 @@ ghost use Rattle.script_text.specs.Fitting.{AreBelow};
 ghost use Rattle.world_code.specs.WorldView.{world_of};
 ghost use Rattle.script_meaning.specs.Helping.{node_by_id};
 ghost use Rattle.script_meaning.specs.Stamped.{shown_key, keys_read, scanned};
-ghost use Rattle.script_in_order.specs.Doing.{DoneBy};
+ghost use Rattle.script_in_order.specs.Doing.{DoesAtHome};
 
 use crate::stamped::{Stamped, keys_read, stamped_read};
 use log_node::{Colours, Counts, Head, Item, Items, Key, ListOf};
 use report_text::Answer;
-use script_text::Command;
+use script_text::{Command, Object, What};
 use std::alloc::{AllocError, Global};
 use world_code::World;
 
@@ -67,37 +67,38 @@ fn items_read(
 /// no memory for its nodes it is done all the same.
 pub fn scan(
     alloc: Global,
+    objects: &[Object],
     command: &Command,
     colours: Colours,
     world: &mut World,
-) -> Result<(Answer, Items), AllocError>
+    nodes: &mut Items,
+) -> Result<Answer, AllocError>
+    requires asks { command.now.what ≡ What.Scan colours }
     requires caller { command.now.client < length world.old.shape.homes }
     requires within { AreBelow world.old.shape.colours colours }
-    ensures ok { IfOk result (λ g. DoneBy (λ grants state. scanned grants state command.now (members colours))
-        command.now (world_of world.old) (world_of world.new) g.0 g.1) }
+    requires none { nodes.old ≡ [] }
+    ensures ok { IfOk result (λ answer. DoesAtHome objects.now command.now (world_of world.old) (world_of world.new) answer nodes.new) }
     ensures err { OnErr result (world_of world.new ≡ world_of world.old) }
 {
     match stamped_read(alloc, world, command.client, colours)? {
-        Stamped::Unraised => Ok((Answer::NoMemory, ListOf::new(alloc))),
-        Stamped::Refused { colour, base } => {
-            Ok((Answer::Trimmed { colour, base }, ListOf::new(alloc)))
-        }
+        Stamped::Unraised => Ok(Answer::NoMemory),
+        Stamped::Refused { colour, base } => Ok(Answer::Trimmed { colour, base }),
         Stamped::Whole {
             stamp,
             raises,
             syncs,
         } => match items_read(alloc, world, command.client, stamp, colours) {
             Ok(items) => {
-                let nodes = items.len() as u64;
-                let answer = Answer::Scanned {
+                let count = items.len() as u64;
+                *nodes = items;
+                Ok(Answer::Scanned {
                     stamp,
-                    nodes,
+                    nodes: count,
                     raises,
                     syncs,
-                };
-                Ok((answer, items))
+                })
             }
-            Err(_) => Ok((Answer::NoMemory, ListOf::new(alloc))),
+            Err(_) => Ok(Answer::NoMemory),
         },
     }
 }

@@ -4,14 +4,14 @@ ghost use Rattle.world_laws.specs.Worlds.{may_play, base_after, home_of, home_hi
 ghost use Rattle.playback.specs.declared.player.Player.{Player};
 ghost use Rattle.world_code.specs.WorldView.{world_of};
 ghost use Rattle.script_meaning.specs.Moves.{synced};
-ghost use Rattle.script_in_order.specs.Doing.{DoneBy};
+ghost use Rattle.script_in_order.specs.Doing.{DoesAtHome};
 
 use crate::clears::home;
 use crate::moves::{base, played};
-use log_node::{Counts, Items, ListOf};
+use log_node::{Counts, Items};
 use playback::{PlayFault, Player, play};
 use report_text::{Answer, SyncPiece};
-use script_text::Command;
+use script_text::{Command, Object, What};
 use std::alloc::{AllocError, Global};
 use world_code::World;
 use world_laws::stays_within_cuts;
@@ -52,33 +52,34 @@ pub fn trimmed_base(world: &World, client: u8, colour: u8) -> Option<Counts>
 }
 
 /// Plays all nodes of a colour that the client has not played, up to the cut, in the order of play; refused where one
-/// of them is trimmed.
+/// of them is trimmed. The nodes are shown.
 pub fn sync(
     alloc: Global,
+    objects: &[Object],
     command: &Command,
     colour: u8,
     world: &mut World,
-) -> Result<(Answer, Items), AllocError>
+    nodes: &mut Items,
+) -> Result<Answer, AllocError>
+    requires asks { command.now.what ≡ What.Sync colour }
     requires caller { command.now.client < length world.old.shape.homes }
     requires within { colour < world.old.shape.colours }
-    ensures ok { IfOk result (λ g. DoneBy (λ _ state. synced state command.now colour) command.now
-        (world_of world.old) (world_of world.new) g.0 g.1) }
+    requires none { nodes.old ≡ [] }
+    ensures ok { IfOk result (λ answer. DoesAtHome objects.now command.now (world_of world.old) (world_of world.new) answer nodes.new) }
     ensures err { OnErr result (world_of world.new ≡ world_of world.old) }
 {
     stays_within_cuts();
     world.is_whole();
     // Tested before the look, which would share nodes that are then not played.
     if let Some(base) = trimmed_base(world, command.client, colour) {
-        return Ok((Answer::Trimmed { colour, base }, ListOf::new(alloc)));
+        return Ok(Answer::Trimmed { colour, base });
     }
     let view = world.look(alloc, command.client, colour)?;
     let mut player = player_of(world, command.client, view.region, colour);
     let events = view.events;
     match play(alloc, view, &mut player) {
         Err(PlayFault::NoMemory) => Err(AllocError),
-        Err(PlayFault::Trimmed { base }) => {
-            Ok((Answer::Trimmed { colour, base }, ListOf::new(alloc)))
-        }
+        Err(PlayFault::Trimmed { base }) => Ok(Answer::Trimmed { colour, base }),
         Ok(played) => {
             let sync = SyncPiece {
                 colour,
@@ -87,7 +88,8 @@ pub fn sync(
             };
             let plays = played.items.len() as u64;
             let _played = world.play(command.client, colour);
-            Ok((Answer::Synced { sync, plays }, played.items))
+            *nodes = played.items;
+            Ok(Answer::Synced { sync, plays })
         }
     }
 }

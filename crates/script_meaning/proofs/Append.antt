@@ -2,6 +2,7 @@
 pub mod AppendCases
 pub mod AppendFinal
 pub mod AppendOne
+pub mod AppendRuns
 pub mod AppendSeveral
 pub mod AppendsBehind
 pub mod BeginRow

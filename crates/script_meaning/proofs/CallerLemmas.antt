@@ -15,7 +15,8 @@ use Rattle.script_meaning.specs.States.{State, Grants, no_reads, StopsAreLast}
 use Rattle.script_meaning.specs.Meaning.{LeadTo, nothing, next, done}
 use Rattle.script_meaning.specs.Appends.{with_single, appended}
 use Rattle.script_meaning.specs.Telling.{ReadAnswer, appended_and_told}
-use Rattle.script_meaning.proofs.Run.GrantedCommands.{done_extends, append_extends, telling_extends, single_runs}
+use Rattle.script_meaning.proofs.Run.GrantedCommands.{append_extends, telling_extends, single_runs}
+use Rattle.script_meaning.proofs.Run.DoneCommands.{done_extends}
 use Rattle.script_meaning.proofs.Run.InvariantHolds.{runs_lead}
 pub use Rattle.script_meaning.proofs.World.Lines.{final_stays}
 pub use Rattle.script_meaning.proofs.World.Rows.{standing_as}

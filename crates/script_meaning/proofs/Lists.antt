@@ -1,14 +1,18 @@
--- Ranges, items that pass a test, and one item more at the end of a list.
-use Rattle.std.proofs.Common.{◌≡◌, ◌≢◌, ℕ, ◌<◌, List, [], ◌∷◌, ◌++◌, length, Bool, true, cond, refl, ap, sym, ◌∙◌, inl, inr, arith, eq-eqb, ne_eqb, append-nil}
+-- Ranges, items of which something holds, and one item more at the end of a list.
+use Rattle.std.proofs.Common.{◌≡◌, ◌≢◌, ℕ, ◌<◌, List, [], ◌∷◌, ◌++◌, length, Bool, true, cond, refl, ap, sym, subst, ◌∙◌, inl, inr, arith, eq-eqb, ne_eqb, append-nil}
 use Rattle.std.specs.Prelude.{◌==◌, map}
-use Rattle.std.specs.List.{filter, list_all}
+use Rattle.std.specs.List.{All, filter, list_all}
 use Rattle.std.proofs.lemmas.Bool.{and_from}
 use Rattle.std.proofs.lemmas.List.Elements.{filter-append}
-use Rattle.col_core.proofs.CallerLemmas.{both, In}
+use Rattle.col_core.proofs.CallerLemmas.{both, contains_in, In}
 use Rattle.script_text.specs.declared.script.Command.{Command}
 pub use Rattle.col_core.proofs.CallerLemmas.{range_has as range_in}
 pub use Rattle.col_core.proofs.CallerLemmas.{in_range}
 pub use Rattle.col_core.proofs.CallerLemmas.{in_map-back as in_map_back}
+
+-- what holds of all items holds of one
+pub all_at : {A : Type 0} (P : A → Type 0) (xs : List A) → All P xs → (x : A) → In x xs → P x
+all_at P xs all x i = let c = contains_in xs x i in subst P c.2 (all c.0 x c.1)
 
 pub some_in : (xs : List ℕ) → 1 < length xs → (x : ℕ) × In x xs
 some_in [] lt = absurd (let f : ⊥ = omega (arith, lt) in f)

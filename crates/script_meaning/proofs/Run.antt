@@ -1,4 +1,6 @@
 -- Whole runs.
+pub mod CommandRows
+pub mod DoneCommands
 pub mod ExactReports
 pub mod FitCommands
 pub mod GrantedCommands

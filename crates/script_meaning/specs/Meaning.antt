@@ -10,8 +10,8 @@ use Rattle.col_core.specs.History.{clock, entries, line}
 use Rattle.world_laws.specs.Worlds.{World, cut_after, base_after}
 use Rattle.world_laws.specs.Laws.{rows_of_region}
 use Rattle.script_text.specs.declared.script.Object.{Object}
-use Rattle.script_text.specs.declared.script.What.{What}
-use Rattle.script_text.specs.declared.script.What.TheVariants as whats
+use Rattle.script_text.specs.declared.commands.What.{What}
+use Rattle.script_text.specs.declared.commands.What.TheVariants as whats
 use Rattle.script_text.specs.declared.script.Command.{Command}
 use Rattle.script_text.specs.declared.script.Script.{Script}
 use Rattle.report_text.specs.declared.report.Answer.{Answer}
@@ -96,6 +96,7 @@ column_report script w region colour =
 -- region and colour.
 abbrev pub report_of : Script → State → Report
 report_of script state = record {
+  version = script.version;
   clients = map (λ (c : ℕ × List ℕ). record { name = c.1; replies = state.replies c.0 })
       (enumerate_from 0 script.clients);
   rows = flat_map (λ region. map (row_report region) (rows_of_region state.world region))

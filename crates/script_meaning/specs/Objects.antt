@@ -9,7 +9,7 @@ use Rattle.object_form.specs.Forms.{form_text}
 use Rattle.world_laws.specs.Worlds.{World, home_of}
 use Rattle.script_text.specs.declared.script.Object.{Object}
 use Rattle.script_text.specs.declared.script.Command.{Command}
-use Rattle.script_text.specs.declared.script.What.{What}
+use Rattle.script_text.specs.declared.commands.What.{What}
 use Rattle.lawful_run.specs.Callers.{Caller}
 use Rattle.lawful_run.specs.Asks.{kind_of_object, colours_of_object, home_asked, shards, keys_of_pairs, put_form}
 use Rattle.script_meaning.specs.States.{State, Grants}

@@ -11,11 +11,11 @@ use Rattle.col_core.specs.Keeping.{nothing_kept, updated}
 use Rattle.world_laws.specs.Worlds.{World, opened}
 use Rattle.script_text.specs.declared.script.Kind.{Kind}
 use Rattle.script_text.specs.declared.script.Object.{Object}
-use Rattle.script_text.specs.declared.script.What.{What}
+use Rattle.script_text.specs.declared.commands.What.{What}
 use Rattle.script_text.specs.declared.script.Command.{Command}
 use Rattle.script_text.specs.declared.script.Script.{Script}
 use Rattle.script_text.specs.Items.{is_stop}
-use Rattle.script_text.specs.Words.{word_of}
+use Rattle.script_text.specs.Commands.{word_of}
 use Rattle.report_text.specs.declared.report.Answer.{Answer}
 use Rattle.report_text.specs.declared.report.ReplyLine.{ReplyLine}
 use Rattle.lawful_run.specs.Refusals.{kept_before, kept_behind}

@@ -6,23 +6,24 @@ use Rattle.std.proofs.lemmas.Bool.{and_parts, not-true, not-false, lt-ltb, ltb-t
 use Rattle.std.proofs.lemmas.Slice.Eq.{bytes_eq-Decides}
 use Rattle.log_node.specs.declared.limits.TheConstants.{MAX_COLOURS}
 use Rattle.script_text.specs.declared.script.Reason.TheVariants as reasons
-use Rattle.script_text.specs.declared.script.Word.{Word}
-use Rattle.script_text.specs.declared.script.Word.TheVariants as words
-use Rattle.script_text.specs.declared.script.What.{What}
+use Rattle.script_text.specs.declared.commands.Word.{Word}
+use Rattle.script_text.specs.declared.commands.Word.TheVariants as words
+use Rattle.script_text.specs.declared.commands.What.{What}
 use Rattle.script_text.specs.declared.script.Command.{Command}
 use Rattle.script_text.specs.declared.table.Last.{Last}
 use Rattle.script_text.specs.declared.table.Last.TheVariants as lasts
-use Rattle.script_text.specs.declared.table.TheConstants.{WORDS}
+use Rattle.script_text.specs.declared.commands.TheConstants.{WORDS}
 use Rattle.script_text.specs.declared.given.Given.{Given}
 use Rattle.script_text.specs.declared.item.Item.{Item}
 use Rattle.script_text.specs.declared.known.Known.{Known}
 use Rattle.script_text.specs.declared.item.Item.TheVariants as items
 use Rattle.script_text.specs.declared.reads.HeldRead.{HeldRead}
 use Rattle.script_text.specs.Pieces.{name_of}
-use Rattle.script_text.specs.Items.{has_begun, client_names, has_stopped, commands}
+use Rattle.script_text.specs.Items.{version_of, has_begun, client_names, has_stopped, commands}
 use Rattle.script_text.specs.Reads.{holds}
-use Rattle.script_text.specs.Table.{word_at, row_fields, last_of, fits, nothing, what_of}
-use Rattle.script_text.specs.Words.{word_text, word_of}
+use Rattle.script_text.specs.Table.{has_word, word_at, row_fields, last_of, fits, nothing}
+use Rattle.script_text.specs.Commands.{what_of, word_of}
+use Rattle.script_text.specs.Words.{word_text}
 use Rattle.script_text.specs.Grammar.{SpellAll, SpellsWhat, ends_well, may_follow}
 use Rattle.script_text.specs.Known.{known_of}
 use Rattle.script_text.specs.Readings.{◌>>=◌, refuse, number_at}
@@ -38,12 +39,14 @@ use Rattle.script_text.proofs.KindLaws.{find_passes, all_ok, all_again}
 
 -- ---- words
 
-pub word_ok : (field : List ℕ) (word : Word) → word_at field ≡ Some word → field ≡ word_text word
-word_ok field word e = (bytes_eq-Decides field (word_text word)).0 (find_passes (λ w. bytes_eq field (word_text w)) WORDS word e)
+pub word_ok : (version : ℕ) (field : List ℕ) (word : Word) → word_at version field ≡ Some word → (field ≡ word_text word) × (has_word version word ≡ true)
+word_ok version field word e =
+    let p = and_parts (bytes_eq field (word_text word)) (has_word version word) (find_passes (λ w. bytes_eq field (word_text w) && has_word version w) WORDS word e) in
+    ((bytes_eq-Decides field (word_text word)).0 p.0, p.1)
 
-pub word_again : (word : Word) → word_at (word_text word) ≡ Some word
-word_again words.Append = refl
-word_again _ = refl
+pub word_again : (version : ℕ) (word : Word) → has_word version word ≡ true → word_at version (word_text word) ≡ Some word
+word_again version words.Append has = rw has refl
+word_again version _ has = rw has refl
 
 word_what : (word : Word) (given : Given) → word_of (what_of word given) ≡ word
 word_what words.Append given = refl
@@ -93,10 +96,10 @@ stop_small known client lasts.ReadHeld given ended few e h = absurd cc
 
 -- ---- by the word
 
-what_ok : (before : List Item) (client : ℕ) (word : Word) (args : List (List ℕ)) (what : What) → what_at (known_of before) client word args ≡ Ok what
+what_ok : (before : List Item) (client : ℕ) (word : Word) (args : List (List ℕ)) (what : What) → has_word (version_of before) word ≡ true → what_at (known_of before) client word args ≡ Ok what
     → SpellsWhat before client args what × (word_of what ≡ word)
 unfolding what_at
-what_ok before client word args what e =
+what_ok before client word args what has e =
     let row = row_fields word in
     let a = refused_ok (not (fits row args)) reasons.BadForm (given_at (known_of before) row args nothing >>= λ given. ended_well (known_of before) client (last_of word) given >>= λ ended. Ok (what_of word ended)) what e in
     let b = bind_ok (given_at (known_of before) row args nothing) (λ given. ended_well (known_of before) client (last_of word) given >>= λ ended. Ok (what_of word ended)) what a.1 in
@@ -105,6 +108,7 @@ what_ok before client word args what e =
     let same : what ≡ what_of word b.0 = sym (ok_is (what_of word c.0) what c.2) ∙ ap (what_of word) d.0 in
     let its : word_of what ≡ word = ap word_of same ∙ word_what word b.0 in (
       record {
+        known = subst (λ (w : Word). has_word (version_of before) w ≡ true) (sym its) has;
         given = b.0;
         spelled = subst (λ (w : Word). SpellAll before (row_fields w) args nothing b.0) (sym its) (all_ok before row args nothing b.0 (not-false (fits row args) a.0) b.1);
         ends = subst (λ (w : Word). ends_well before client (last_of w) b.0 ≡ true) (sym its) d.1;
@@ -122,26 +126,27 @@ what_read before client args what l s =
 
 -- ---- the line
 
-worded_ok : (before : List Item) (client : ℕ) (field : List ℕ) (args : List (List ℕ)) (found : Option Word) (what : What) → word_at field ≡ found → worded_at (known_of before) client found args ≡ Ok what
+worded_ok : (before : List Item) (client : ℕ) (field : List ℕ) (args : List (List ℕ)) (found : Option Word) (what : What) → word_at (version_of before) field ≡ found → worded_at (known_of before) client found args ≡ Ok what
     → SpellsWhat before client args what × (field ≡ word_text (word_of what))
 unfolding worded_at
 worded_ok before client field args None what f e = absurd cc
 worded_ok before client field args (Some word) what f e =
-    let a = what_ok before client word args what e in
-    (a.0, word_ok field word f ∙ ap word_text (sym a.1))
+    let w = word_ok (version_of before) field word f in
+    let a = what_ok before client word args what w.1 e in
+    (a.0, w.0 ∙ ap word_text (sym a.1))
 
 asked_ok : (before : List Item) (client : ℕ) (fields : List (List ℕ)) (what : What) → asked_at (known_of before) client fields ≡ Ok what
     → (args : List (List ℕ)) × (fields ≡ word_text (word_of what) ∷ args) × SpellsWhat before client args what
 unfolding asked_at
 asked_ok before client [] what e = absurd cc
 asked_ok before client (field ∷ args) what e =
-    let a = worded_ok before client field args (word_at field) what refl e in
+    let a = worded_ok before client field args (word_at (version_of before) field) what refl e in
     (args, ap (λ f. f ∷ args) a.1, a.0)
 
 asked_read : (before : List Item) (client : ℕ) (args : List (List ℕ)) (what : What) → IsLawful (known_of before) → SpellsWhat before client args what
     → asked_at (known_of before) client (word_text (word_of what) ∷ args) ≡ Ok what
 unfolding asked_at worded_at
-asked_read before client args what l a = rw (word_again (word_of what)) (what_read before client args what l a)
+asked_read before client args what l a = rw (word_again (version_of before) (word_of what) a.known) (what_read before client args what l a)
 
 caller_ok : (before : List Item) (name : List ℕ) (client : ℕ) → caller_at (known_of before) name ≡ Ok client
     → (client < length (client_names before)) × (name ≡ name_of (client_names before) client) × (has_stopped before client ≡ false)

@@ -4,11 +4,12 @@ use Rattle.std.proofs.lemmas.Bool.{ne_eqb}
 use Rattle.log_node.specs.declared.ids.Colours.{Colours}
 use Rattle.script_text.specs.declared.script.Reason.{Reason}
 use Rattle.script_text.specs.declared.script.Reason.TheVariants as reasons
-use Rattle.script_text.specs.declared.script.Word.TheVariants as words
-use Rattle.script_text.specs.declared.script.What.TheVariants as whats
+use Rattle.script_text.specs.declared.commands.Word.TheVariants as words
+use Rattle.script_text.specs.declared.commands.What.TheVariants as whats
 use Rattle.script_text.specs.declared.known.Known.{Known}
 use Rattle.script_text.specs.Pieces.{names_in}
-use Rattle.script_text.specs.Table.{nothing, what_of}
+use Rattle.script_text.specs.Table.{nothing}
+use Rattle.script_text.specs.Commands.{what_of}
 use Rattle.script_text.specs.Readings.{◌>>=◌, number_at, colours_set_at, text_at, with_one, with_two}
 use Rattle.script_text.specs.CommandReadings.{taken_at, given_at, ended_well, what_at, append_at, sync_at, trim_at, pull_at}
 

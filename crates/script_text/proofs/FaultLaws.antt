@@ -8,8 +8,8 @@ use Rattle.std.proofs.lemmas.List.{length-map}
 use Rattle.log_node.specs.Sets.{set_of}
 use Rattle.script_text.specs.declared.script.Reason.{Reason}
 use Rattle.script_text.specs.declared.script.Reason.TheVariants as reasons
-use Rattle.script_text.specs.declared.script.Word.{Word}
-use Rattle.script_text.specs.declared.script.Word.TheVariants as words
+use Rattle.script_text.specs.declared.commands.Word.{Word}
+use Rattle.script_text.specs.declared.commands.Word.TheVariants as words
 use Rattle.script_text.specs.declared.table.Sort.{Sort}
 use Rattle.script_text.specs.declared.table.Field.{Field}
 use Rattle.script_text.specs.declared.table.Field.TheVariants as fields
@@ -18,20 +18,21 @@ use Rattle.script_text.specs.declared.table.Last.TheVariants as lasts
 use Rattle.script_text.specs.declared.given.Given.{Given}
 use Rattle.script_text.specs.declared.item.Item.{Item}
 use Rattle.script_text.specs.declared.item.Item.TheVariants as items
-use Rattle.script_text.specs.declared.item.Stage.{Stage}
 use Rattle.script_text.specs.declared.item.Stage.TheVariants as stages
-use Rattle.script_text.specs.declared.limits.TheConstants.{VERSION_1}
+use Rattle.script_text.specs.declared.limits.Limits.{Limits}
 use Rattle.script_text.specs.declared.reads.HeldRead.{HeldRead}
 use Rattle.script_text.specs.Pieces.{is_between, is_among, is_number, number_value, number_of, name_of, names_in, first_in}
-use Rattle.script_text.specs.Items.{may_come, region_names, colour_names, client_names, objects, object_names, header_words, stage_of, has_stopped, has_read, commands}
+use Rattle.script_text.specs.Items.{version_of, may_come, limits_of, region_names, colour_names, client_names, objects, object_names, stage_of, has_stopped, has_read, commands}
 use Rattle.script_text.specs.Reads.{holds}
-use Rattle.script_text.specs.Table.{word_at, row_fields, last_of, own_fields, later_fields, fits, nothing, what_of, sort_fields, sort_at, kind_of}
-use Rattle.script_text.specs.Faults.{when, each_field, new_name, region_field, field_at, kind_tests, field_tests, last_tests, word_tests, command_tests, is_full, header_tests, object_tests}
+use Rattle.script_text.specs.Table.{word_at, row_fields, last_of, own_fields, later_fields, fits, nothing, sort_fields, sort_at, kind_of}
+use Rattle.script_text.specs.Commands.{what_of}
+use Rattle.script_text.specs.Faults.{when, each_field, new_name, region_field, field_at, kind_tests, field_tests, last_tests, word_tests, command_tests, is_full, has_too_many, header_tests, object_tests}
 use Rattle.script_text.specs.Known.{known_of}
 use Rattle.script_text.specs.Readings.{◌>>=◌, refuse, found_or, each_at, new_name_at, number_at, colours_set_at, text_at, pair_at, digits_at, object_at, with_one, with_two}
 use Rattle.script_text.specs.HeaderReadings.{regions_at, colour_line_at, rows_at, client_named_at, client_at, object_name_at, sorted_at, declared_at, headed_at, header_at}
 use Rattle.script_text.specs.CommandReadings.{taken_at, given_at, ended_well, what_at, worded_at, asked_at, caller_at, command_at}
 use Rattle.script_text.proofs.EachLemmas.{bind_ok, refused_ok, ok_is}
+use Rattle.script_text.proofs.VersionLemmas.{at_fuzzylog}
 use Rattle.script_text.proofs.NameLemmas.{found_ok}
 use Rattle.script_text.proofs.FieldLaws.{digits_ok, object_number}
 use Rattle.script_text.proofs.ReadLaws.{held_is}
@@ -42,30 +43,30 @@ use Rattle.script_text.proofs.KindLaws.{order_at, order_ok, put_number, put_colo
 
 -- ---- header lines
 
-regions_tests : (args : List (List ℕ)) → Tests (when (not (is_between 1 VERSION_1.regions (length args))) reasons.BadForm ∷ each_field new_name [] args) (regions_at args)
+regions_tests : (limits : Limits) (args : List (List ℕ)) → Tests (when (not (is_between 1 limits.regions (length args))) reasons.BadForm ∷ each_field new_name [] args) (regions_at limits args)
 unfolding regions_at
-regions_tests args =
-    tests_refuse (not (is_between 1 VERSION_1.regions (length args))) reasons.BadForm (each_field new_name [] args) (each_at new_name_at [] args >>= λ names. Ok (items.Regions names)) (λ _.
+regions_tests limits args =
+    tests_refuse (not (is_between 1 limits.regions (length args))) reasons.BadForm (each_field new_name [] args) (each_at new_name_at [] args >>= λ names. Ok (items.Regions names)) (λ _.
     tests_last (each_field new_name [] args) (each_at new_name_at [] args) (λ names. items.Regions names) (each_tests new_name new_name_at new_name_tests [] args))
 
-colour_line_tests : (args : List (List ℕ)) → Tests (when (not (is_between 1 VERSION_1.colours (length args))) reasons.BadForm ∷ each_field new_name [] args) (colour_line_at args)
+colour_line_tests : (limits : Limits) (args : List (List ℕ)) → Tests (when (not (is_between 1 limits.colours (length args))) reasons.BadForm ∷ each_field new_name [] args) (colour_line_at limits args)
 unfolding colour_line_at
-colour_line_tests args =
-    tests_refuse (not (is_between 1 VERSION_1.colours (length args))) reasons.BadForm (each_field new_name [] args) (each_at new_name_at [] args >>= λ names. Ok (items.Colours names)) (λ _.
+colour_line_tests limits args =
+    tests_refuse (not (is_between 1 limits.colours (length args))) reasons.BadForm (each_field new_name [] args) (each_at new_name_at [] args >>= λ names. Ok (items.Colours names)) (λ _.
     tests_last (each_field new_name [] args) (each_at new_name_at [] args) (λ names. items.Colours names) (each_tests new_name new_name_at new_name_tests [] args))
 
-rows_tests : (args : List (List ℕ)) → Tests (when (not (eqb (length args) 1)) reasons.BadForm ∷ when (not (is_number 10 (field_at args 0) && is_between 1 VERSION_1.rows (number_value (field_at args 0)))) reasons.BadNumber ∷ []) (with_one rows_at args)
+rows_tests : (limits : Limits) (args : List (List ℕ)) → Tests (when (not (eqb (length args) 1)) reasons.BadForm ∷ when (not (is_number 10 (field_at args 0) && is_between 1 limits.rows (number_value (field_at args 0)))) reasons.BadNumber ∷ []) (with_one (rows_at limits) args)
 unfolding rows_at
-rows_tests args =
-    one_tests (λ args. when (not (is_number 10 (field_at args 0) && is_between 1 VERSION_1.rows (number_value (field_at args 0)))) reasons.BadNumber ∷ []) rows_at (λ a.
-    tests_refuse (not (is_number 10 a && is_between 1 VERSION_1.rows (number_value a))) reasons.BadNumber [] (Ok (items.Rows (number_value a))) (λ _. tests_ok (items.Rows (number_value a)))) args
+rows_tests limits args =
+    one_tests (λ args. when (not (is_number 10 (field_at args 0) && is_between 1 limits.rows (number_value (field_at args 0)))) reasons.BadNumber ∷ []) (rows_at limits) (λ a.
+    tests_refuse (not (is_number 10 a && is_between 1 limits.rows (number_value a))) reasons.BadNumber [] (Ok (items.Rows (number_value a))) (λ _. tests_ok (items.Rows (number_value a)))) args
 
 client_tests : (before : List Item) (args : List (List ℕ))
-    → Tests (when (not (eqb (length args) 2)) reasons.BadForm ∷ when (leb VERSION_1.clients (length (client_names before))) reasons.BadForm ∷ new_name (client_names before) (field_at args 0) ++ region_field before (field_at args 1)) (with_two (client_at (known_of before)) args)
+    → Tests (when (not (eqb (length args) 2)) reasons.BadForm ∷ when (leb (limits_of before).clients (length (client_names before))) reasons.BadForm ∷ new_name (client_names before) (field_at args 0) ++ region_field before (field_at args 1)) (with_two (client_at (known_of before)) args)
 unfolding client_at client_named_at
 client_tests before args =
-    two_tests (λ args. when (leb VERSION_1.clients (length (client_names before))) reasons.BadForm ∷ new_name (client_names before) (field_at args 0) ++ region_field before (field_at args 1)) (client_at (known_of before)) (λ a b.
-    tests_refuse (leb VERSION_1.clients (length (client_names before))) reasons.BadForm (new_name (client_names before) a ++ region_field before b) (client_named_at (known_of before) a b) (λ _.
+    two_tests (λ args. when (leb (limits_of before).clients (length (client_names before))) reasons.BadForm ∷ new_name (client_names before) (field_at args 0) ++ region_field before (field_at args 1)) (client_at (known_of before)) (λ a b.
+    tests_refuse (leb (limits_of before).clients (length (client_names before))) reasons.BadForm (new_name (client_names before) a ++ region_field before b) (client_named_at (known_of before) a b) (λ _.
     tests_then (new_name (client_names before) a) (region_field before b) (new_name_at (client_names before) a) (λ name. number_at reasons.UnknownRegion (region_names before) b >>= λ home. Ok (items.Client name home)) (new_name_tests (client_names before) a) (λ name e.
     tests_last (region_field before b) (number_at reasons.UnknownRegion (region_names before) b) (λ home. items.Client name home) (number_tests reasons.UnknownRegion (region_names before) b)))) args
 
@@ -88,22 +89,14 @@ sorted_tests before sort (field ∷ args) =
     let row = sort_fields sort in
     let name = when (is_full before) reasons.BadForm ∷ new_name (object_names before) field in
     let later = field_tests before row args in
-    tests_refuse (not (fits row args)) reasons.BadForm (name ++ later) (object_name_at known field >>= λ name. given_at known row args nothing >>= λ g. Ok (declared name g)) (λ _.
+    let reading = object_name_at known field >>= λ name. given_at known row args nothing >>= λ g. Ok (declared name g) in
+    let many = has_too_many before args in
+    tests_refuse (not (fits row args)) reasons.BadForm (when many reasons.BadForm ∷ name ++ later) (refuse many reasons.BadForm reading) (λ _.
+    tests_refuse many reasons.BadForm (name ++ later) reading (λ _.
     tests_then name later (object_name_at known field) (λ name. given_at known row args nothing >>= λ g. Ok (declared name g)) (object_name_tests before field) (λ name e.
-    tests_last later (given_at known row args nothing) (declared name) (fields_faults before row args nothing))) where
+    tests_last later (given_at known row args nothing) (declared name) (fields_faults before row args nothing)))) where
       declared : List ℕ → Given → Item
       declared name g = items.Declared (record { name = name; kind = kind_of sort g })
-
--- the version may come only before all else
-no_version : (stage : Stage) → is_among (header_words stage) (codes "fuzzylog") ≡ true → stage ≡ stages.Nothing
-no_version stages.Nothing h = refl
-no_version stages.Version h = absurd cc
-no_version stages.Regions h = absurd cc
-no_version stages.Colours h = absurd cc
-no_version stages.Rows h = absurd cc
-no_version stages.Clients h = absurd cc
-no_version stages.Objects h = absurd cc
-no_version stages.Commands h = absurd cc
 
 declared_tests : (before : List Item) (found : Option Sort) (args : List (List ℕ)) → Tests (object_tests before found args) (declared_at (known_of before) found args)
 unfolding declared_at
@@ -114,20 +107,20 @@ headed_tests : (before : List Item) (word : List ℕ) (args : List (List ℕ)) �
 unfolding headed_at
 headed_tests before word args n0 =
     elim (cases_Bool (bytes_eq word (codes "regions"))) [
-      | inl same ↦ rw (n0, same) (regions_tests args)
+      | inl same ↦ rw (n0, same) (regions_tests (limits_of before) args)
       | inr n1 ↦
           elim (cases_Bool (bytes_eq word (codes "colours"))) [
-            | inl same ↦ rw (n0, n1, same) (colour_line_tests args)
+            | inl same ↦ rw (n0, n1, same) (colour_line_tests (limits_of before) args)
             | inr n2 ↦
                 elim (cases_Bool (bytes_eq word (codes "rows"))) [
-                  | inl same ↦ rw (n0, n1, n2, same) (rows_tests args)
+                  | inl same ↦ rw (n0, n1, n2, same) (rows_tests (limits_of before) args)
                   | inr n3 ↦
                       elim (cases_Bool (bytes_eq word (codes "client"))) [
                         | inl same ↦ rw (n0, n1, n2, n3, same) (client_tests before args)
                         | inr n4 ↦
                             elim (cases_Bool (bytes_eq word (codes "begin"))) [
                               | inl same ↦ rw (n0, n1, n2, n3, n4, same) (none_tests items.Begin args)
-                              | inr n5 ↦ rw (n0, n1, n2, n3, n4, n5) (declared_tests before (sort_at word) args)
+                              | inr n5 ↦ rw (n0, n1, n2, n3, n4, n5) (declared_tests before (sort_at (version_of before) word) args)
                             ]
                       ]
                 ]
@@ -138,7 +131,7 @@ headed_tests before word args n0 =
 not_version : (before : List Item) (word : List ℕ) → (stage_of before ≡ stages.Nothing → ⊥) → may_come before word ≡ true → bytes_eq word (codes "fuzzylog") ≡ false
 not_version before word started come =
     elim (cases_Bool (bytes_eq word (codes "fuzzylog"))) [
-      | inl same ↦ absurd (started (no_version (stage_of before) (rw (same_word word (codes "fuzzylog") same) at come)))
+      | inl same ↦ absurd (started (at_fuzzylog (version_of before) (stage_of before) (rw (same_word word (codes "fuzzylog") same) at come)))
       | inr apart ↦ apart
     ]
 
@@ -276,10 +269,10 @@ unfolding worded_at
 worded_tests before client None args = λ more. refl
 worded_tests before client (Some word) args = what_tests before client word args
 
-asked_tests : (before : List Item) (client : ℕ) (fields : List (List ℕ)) → Tests (word_tests before client (word_at (field_at fields 0)) (drop 1 fields)) (asked_at (known_of before) client fields)
+asked_tests : (before : List Item) (client : ℕ) (fields : List (List ℕ)) → Tests (word_tests before client (word_at (version_of before) (field_at fields 0)) (drop 1 fields)) (asked_at (known_of before) client fields)
 unfolding asked_at
 asked_tests before client [] = λ more. refl
-asked_tests before client (field ∷ args) = worded_tests before client (word_at field) args
+asked_tests before client (field ∷ args) = worded_tests before client (word_at (version_of before) field) args
 
 caller_on : (before : List Item) (found : Option ℕ)
     → Tests (when (not (is_found found)) reasons.UnknownClient ∷ when (has_stopped before (unwrap_or found 0)) reasons.ClientStopped ∷ [])
@@ -306,7 +299,7 @@ unfolding command_at
 command_line_tests before number name fields =
     let client = unwrap_or (number_of (client_names before) name) 0 in
     let first = when (not (is_among (client_names before) name)) reasons.UnknownClient ∷ when (has_stopped before client) reasons.ClientStopped ∷ [] in
-    tests_then first (word_tests before client (word_at (field_at fields 0)) (drop 1 fields)) (caller_at (known_of before) name)
+    tests_then first (word_tests before client (word_at (version_of before) (field_at fields 0)) (drop 1 fields)) (caller_at (known_of before) name)
     (λ client. asked_at (known_of before) client fields >>= λ what. Ok (items.Asks (record { line = number; client = client; what = what }))) (caller_tests before name) (λ caller e.
     let number_is = caller_number before name caller e in
-    rw number_is (tests_last (word_tests before caller (word_at (field_at fields 0)) (drop 1 fields)) (asked_at (known_of before) caller fields) (λ what. items.Asks (record { line = number; client = caller; what = what })) (asked_tests before caller fields)))
+    rw number_is (tests_last (word_tests before caller (word_at (version_of before) (field_at fields 0)) (drop 1 fields)) (asked_at (known_of before) caller fields) (λ what. items.Asks (record { line = number; client = caller; what = what })) (asked_tests before caller fields)))

@@ -10,25 +10,25 @@ use Rattle.log_node.specs.Sets.{has, members, set_of}
 use Rattle.log_node.proofs.CallerLemmas.{has-set_of}
 use Rattle.script_text.specs.declared.script.Kind.{Kind}
 use Rattle.script_text.specs.declared.script.Kind.TheVariants as kinds
-use Rattle.script_text.specs.declared.script.What.{What}
-use Rattle.script_text.specs.declared.script.Word.{Word}
-use Rattle.script_text.specs.declared.script.Word.TheVariants as words
+use Rattle.script_text.specs.declared.commands.What.{What}
+use Rattle.script_text.specs.declared.commands.Word.{Word}
+use Rattle.script_text.specs.declared.commands.Word.TheVariants as words
 use Rattle.script_text.specs.declared.table.Field.{Field}
 use Rattle.script_text.specs.declared.table.Field.TheVariants as fields
 use Rattle.script_text.specs.declared.given.Given.{Given}
-use Rattle.script_text.specs.declared.limits.TheConstants.{VERSION_1}
-use Rattle.script_text.specs.Table.{row_fields, last_of, own_fields, later_fields, nothing, what_of, sort_text, sort_of}
-use Rattle.script_text.specs.Words.{word_of}
+use Rattle.script_text.specs.Table.{row_fields, last_of, own_fields, later_fields, nothing, sort_text, sort_of}
+use Rattle.script_text.specs.Commands.{what_of, word_of}
 use Rattle.script_text.specs.declared.script.Command.{Command}
 use Rattle.script_text.specs.declared.item.Item.{Item}
 use Rattle.script_text.specs.declared.item.Item.TheVariants as items
 use Rattle.script_text.specs.declared.item.Stage.{Stage}
 use Rattle.script_text.specs.declared.item.Stage.TheVariants as stages
-use Rattle.script_text.specs.Pieces.{is_among, is_between}
-use Rattle.script_text.specs.Items.{stage_after, stage_of, header_words, may_come, is_begun, has_begun, regions_in, colours_in, clients_in, commands_in, last_said, region_names, colour_names, client_names, client_homes, commands}
+use Rattle.script_text.specs.Pieces.{is_between}
+use Rattle.script_text.specs.Versions.{is_version, limits_in}
+use Rattle.script_text.specs.Items.{stage_after, stage_of, may_begin, may_come, is_begun, has_begun, version_in, regions_in, colours_in, clients_in, commands_in, last_said, version_of, limits_of, region_names, colour_names, client_names, client_homes, commands}
 use Rattle.script_text.specs.Grammar.{may_follow, is_colour, is_region, are_colours, are_new_numbers, ends_well, Spells, SpellAll, SpellsWhat, Says}
 use Rattle.script_text.specs.Fitting.{AreBelow, HasColours, IsWithin}
-use Rattle.script_text.proofs.LimitLemmas.{limits_within}
+use Rattle.script_text.proofs.VersionLemmas.{limits_within, nothing_before}
 use Rattle.script_text.proofs.NameLemmas.{any_turned, below_all}
 use Rattle.script_text.proofs.SetLaws.{many_members, bits_few}
 
@@ -94,22 +94,38 @@ Early stages.Clients regions colours homes asked = (0 < regions) × (0 < colours
 Early stages.Objects regions colours homes asked = (0 < regions) × (0 < colours) × (0 < length homes) × (asked ≡ [])
 Early stages.Commands regions colours homes asked = (0 < regions) × (0 < colours) × (0 < length homes)
 
-pub record Fits (regions colours : ℕ) (homes : List ℕ) (asked : List Command) (stage : Stage) : Type 0 where
-  pub few_regions : regions ≤ VERSION_1.regions
-  pub few_colours : colours ≤ VERSION_1.colours
-  pub few_clients : length homes ≤ VERSION_1.clients
+pub record Fits (version regions colours : ℕ) (homes : List ℕ) (asked : List Command) (stage : Stage) : Type 0 where
+  pub of_version : is_version version ≡ true
+  pub few_regions : regions ≤ (limits_in version).regions
+  pub few_colours : colours ≤ (limits_in version).colours
+  pub few_clients : length homes ≤ (limits_in version).clients
   pub are_homes : All (λ home. home < regions) homes
   pub callers : All (λ (c : Command). c.client < length homes) asked
   pub within : All (λ (c : Command). IsWithin regions colours c.what) asked
   pub early : Early stage regions colours homes asked
 
 unfoldable pub Fit : List Item → Type 0
-Fit before = Fits (length (region_names before)) (length (colour_names before)) (client_homes before) (commands before) (stage_of before)
+Fit before = Fits (version_of before) (length (region_names before)) (length (colour_names before)) (client_homes before) (commands before) (stage_of before)
 
 -- nothing is said at first
 pub fit_nothing : Fit []
 unfolding Fit Early
 fit_nothing = record {
+  of_version = refl;
+  few_regions = omega arith;
+  few_colours = omega arith;
+  few_clients = omega arith;
+  are_homes = All-nil (λ home. home < 0);
+  callers = All-nil (λ (c : Command). c.client < 0);
+  within = All-nil (λ (c : Command). IsWithin 0 0 c.what);
+  early = (refl, refl);
+}
+
+-- nor by the version's line
+fit_version : (version : ℕ) → is_version version ≡ true → Fit (items.Version version ∷ [])
+unfolding Fit Early
+fit_version version is = record {
+  of_version = is;
   few_regions = omega arith;
   few_colours = omega arith;
   few_clients = omega arith;
@@ -120,11 +136,12 @@ fit_nothing = record {
 }
 
 -- where one more item changes what is said as told, the facts are of what is then said
-carried : (r r' c c' : ℕ) (h h' : List ℕ) (k k' : List Command) (s s' : Stage) → r ≡ r' → c ≡ c' → h ≡ h' → k ≡ k' → s ≡ s' → Fits r c h k s → Fits r' c' h' k' s'
-carried r r' c c' h h' k k' s s' er ec eh ek es f =
-    subst (λ (z : ℕ × ℕ × List ℕ × List Command × Stage). Fits z.0 z.1 z.2 z.3 z.4) (λ i. (er i, ec i, eh i, ek i, es i)) f
+carried : (v v' r r' c c' : ℕ) (h h' : List ℕ) (k k' : List Command) (s s' : Stage) → v ≡ v' → r ≡ r' → c ≡ c' → h ≡ h' → k ≡ k' → s ≡ s'
+    → Fits v r c h k s → Fits v' r' c' h' k' s'
+carried v v' r r' c c' h h' k k' s s' ev er ec eh ek es f =
+    subst (λ (z : ℕ × ℕ × ℕ × List ℕ × List Command × Stage). Fits z.0 z.1 z.2 z.3 z.4 z.5) (λ i. (ev i, er i, ec i, eh i, ek i, es i)) f
 
-module _ (before : List Item) (fit : Fits (length (region_names before)) (length (colour_names before)) (client_homes before) (commands before) (stage_of before)) where
+module _ (before : List Item) (fit : Fits (version_of before) (length (region_names before)) (length (colour_names before)) (client_homes before) (commands before) (stage_of before)) where
   R : ℕ
   R = length (region_names before)
 
@@ -133,6 +150,9 @@ module _ (before : List Item) (fit : Fits (length (region_names before)) (length
 
   stage-more : (item : Item) → stage_of (before ++ item ∷ []) ≡ stage_after (Some item)
   stage-more item = ap stage_after (last-more None before item)
+
+  same_version : (item : Item) → version_in item ≡ None → version_of before ≡ version_of (before ++ item ∷ [])
+  same_version item e = ap (λ (l : List ℕ). last_said 1 l) (sym (filter_map-more version_in before item e))
 
   same_regions : (item : Item) → regions_in item ≡ None → length (region_names before) ≡ length (region_names (before ++ item ∷ []))
   same_regions item e = ap (λ (l : List (List (List ℕ))). length (last_said [] l)) (sym (filter_map-more regions_in before item e))
@@ -147,80 +167,70 @@ module _ (before : List Item) (fit : Fits (length (region_names before)) (length
   same_commands item e = sym (filter_map-more commands_in before item e)
 
   -- an item that says none of these
-  passed : (item : Item) (stage : Stage) → regions_in item ≡ None → colours_in item ≡ None → clients_in item ≡ None → commands_in item ≡ None → stage_after (Some item) ≡ stage
+  passed : (item : Item) (stage : Stage) → version_in item ≡ None → regions_in item ≡ None → colours_in item ≡ None → clients_in item ≡ None → commands_in item ≡ None → stage_after (Some item) ≡ stage
       → Early stage (length (region_names before)) (length (colour_names before)) (client_homes before) (commands before) → Fit (before ++ item ∷ [])
   unfolding Fit
-  passed item stage r c h k s early = carried _ _ _ _ _ _ _ _ _ _ (same_regions item r) (same_colours item c) (same_homes item h) (same_commands item k) (sym (stage-more item ∙ s))
-      (record { few_regions = fit.few_regions; few_colours = fit.few_colours; few_clients = fit.few_clients; are_homes = fit.are_homes; callers = fit.callers; within = fit.within; early = early })
+  passed item stage v r c h k s early = carried _ _ _ _ _ _ _ _ _ _ _ _ (same_version item v) (same_regions item r) (same_colours item c) (same_homes item h) (same_commands item k) (sym (stage-more item ∙ s))
+      (record { of_version = fit.of_version; few_regions = fit.few_regions; few_colours = fit.few_colours; few_clients = fit.few_clients; are_homes = fit.are_homes; callers = fit.callers; within = fit.within; early = early })
 
 -- which stage a word may come at
 pub no : {A : Type 0} → false ≡ true → A
 no e = absurd (let f : ⊥ = cc in f)
 
-pub at_fuzzylog : (s : Stage) → is_among (header_words s) (codes "fuzzylog") ≡ true → s ≡ stages.Nothing
-at_fuzzylog stages.Nothing e = refl
-at_fuzzylog stages.Version e = no e
-at_fuzzylog stages.Regions e = no e
-at_fuzzylog stages.Colours e = no e
-at_fuzzylog stages.Rows e = no e
-at_fuzzylog stages.Clients e = no e
-at_fuzzylog stages.Objects e = no e
-at_fuzzylog stages.Commands e = no e
+pub at_regions : (version : ℕ) (s : Stage) → may_begin version s (codes "regions") ≡ true → s ≡ stages.Version
+at_regions version stages.Nothing e = no e
+at_regions version stages.Version e = refl
+at_regions version stages.Regions e = no e
+at_regions version stages.Colours e = no e
+at_regions version stages.Rows e = no e
+at_regions version stages.Clients e = no e
+at_regions version stages.Objects e = no e
+at_regions version stages.Commands e = no e
 
-pub at_regions : (s : Stage) → is_among (header_words s) (codes "regions") ≡ true → s ≡ stages.Version
-at_regions stages.Nothing e = no e
-at_regions stages.Version e = refl
-at_regions stages.Regions e = no e
-at_regions stages.Colours e = no e
-at_regions stages.Rows e = no e
-at_regions stages.Clients e = no e
-at_regions stages.Objects e = no e
-at_regions stages.Commands e = no e
+pub at_colours : (version : ℕ) (s : Stage) → may_begin version s (codes "colours") ≡ true → s ≡ stages.Regions
+at_colours version stages.Nothing e = no e
+at_colours version stages.Version e = no e
+at_colours version stages.Regions e = refl
+at_colours version stages.Colours e = no e
+at_colours version stages.Rows e = no e
+at_colours version stages.Clients e = no e
+at_colours version stages.Objects e = no e
+at_colours version stages.Commands e = no e
 
-pub at_colours : (s : Stage) → is_among (header_words s) (codes "colours") ≡ true → s ≡ stages.Regions
-at_colours stages.Nothing e = no e
-at_colours stages.Version e = no e
-at_colours stages.Regions e = refl
-at_colours stages.Colours e = no e
-at_colours stages.Rows e = no e
-at_colours stages.Clients e = no e
-at_colours stages.Objects e = no e
-at_colours stages.Commands e = no e
-
-pub at_rows : (s : Stage) → is_among (header_words s) (codes "rows") ≡ true → s ≡ stages.Colours
-at_rows stages.Nothing e = no e
-at_rows stages.Version e = no e
-at_rows stages.Regions e = no e
-at_rows stages.Colours e = refl
-at_rows stages.Rows e = no e
-at_rows stages.Clients e = no e
-at_rows stages.Objects e = no e
-at_rows stages.Commands e = no e
+pub at_rows : (version : ℕ) (s : Stage) → may_begin version s (codes "rows") ≡ true → s ≡ stages.Colours
+at_rows version stages.Nothing e = no e
+at_rows version stages.Version e = no e
+at_rows version stages.Regions e = no e
+at_rows version stages.Colours e = refl
+at_rows version stages.Rows e = no e
+at_rows version stages.Clients e = no e
+at_rows version stages.Objects e = no e
+at_rows version stages.Commands e = no e
 
 -- what is told of where clients are named
-at_client : (s : Stage) (r c : ℕ) (h : List ℕ) (k : List Command) → is_among (header_words s) (codes "client") ≡ true → Early s r c h k → (0 < r) × (0 < c) × (k ≡ [])
+at_client : (version : ℕ) (s : Stage) (r c : ℕ) (h : List ℕ) (k : List Command) → may_begin version s (codes "client") ≡ true → Early s r c h k → (0 < r) × (0 < c) × (k ≡ [])
 unfolding Early
-at_client stages.Nothing r c h k e f = no e
-at_client stages.Version r c h k e f = no e
-at_client stages.Regions r c h k e f = no e
-at_client stages.Colours r c h k e f = (f.0, f.1, f.3)
-at_client stages.Rows r c h k e f = (f.0, f.1, f.3)
-at_client stages.Clients r c h k e f = (f.0, f.1, f.3)
-at_client stages.Objects r c h k e f = no e
-at_client stages.Commands r c h k e f = no e
+at_client version stages.Nothing r c h k e f = no e
+at_client version stages.Version r c h k e f = no e
+at_client version stages.Regions r c h k e f = no e
+at_client version stages.Colours r c h k e f = (f.0, f.1, f.3)
+at_client version stages.Rows r c h k e f = (f.0, f.1, f.3)
+at_client version stages.Clients r c h k e f = (f.0, f.1, f.3)
+at_client version stages.Objects r c h k e f = no e
+at_client version stages.Commands r c h k e f = no e
 
 -- and of where objects are, and the header ends
-pub at_end : (word : List ℕ) → is_among (header_words stages.Nothing) word ≡ false → is_among (header_words stages.Version) word ≡ false → is_among (header_words stages.Regions) word ≡ false → is_among (header_words stages.Colours) word ≡ false → is_among (header_words stages.Rows) word ≡ false
-    → (s : Stage) (r c : ℕ) (h : List ℕ) (k : List Command) → is_among (header_words s) word ≡ true → Early s r c h k → (0 < r) × (0 < c) × (0 < length h) × (k ≡ [])
+pub at_end : (version : ℕ) (word : List ℕ) → may_begin version stages.Nothing word ≡ false → may_begin version stages.Version word ≡ false → may_begin version stages.Regions word ≡ false → may_begin version stages.Colours word ≡ false → may_begin version stages.Rows word ≡ false
+    → (s : Stage) (r c : ℕ) (h : List ℕ) (k : List Command) → may_begin version s word ≡ true → Early s r c h k → (0 < r) × (0 < c) × (0 < length h) × (k ≡ [])
 unfolding Early
-at_end word n0 n1 n2 n3 n4 stages.Nothing r c h k e f = no (sym n0 ∙ e)
-at_end word n0 n1 n2 n3 n4 stages.Version r c h k e f = no (sym n1 ∙ e)
-at_end word n0 n1 n2 n3 n4 stages.Regions r c h k e f = no (sym n2 ∙ e)
-at_end word n0 n1 n2 n3 n4 stages.Colours r c h k e f = no (sym n3 ∙ e)
-at_end word n0 n1 n2 n3 n4 stages.Rows r c h k e f = no (sym n4 ∙ e)
-at_end word n0 n1 n2 n3 n4 stages.Clients r c h k e f = f
-at_end word n0 n1 n2 n3 n4 stages.Objects r c h k e f = f
-at_end word n0 n1 n2 n3 n4 stages.Commands r c h k e f = no e
+at_end version word n0 n1 n2 n3 n4 stages.Nothing r c h k e f = no (sym n0 ∙ e)
+at_end version word n0 n1 n2 n3 n4 stages.Version r c h k e f = no (sym n1 ∙ e)
+at_end version word n0 n1 n2 n3 n4 stages.Regions r c h k e f = no (sym n2 ∙ e)
+at_end version word n0 n1 n2 n3 n4 stages.Colours r c h k e f = no (sym n3 ∙ e)
+at_end version word n0 n1 n2 n3 n4 stages.Rows r c h k e f = no (sym n4 ∙ e)
+at_end version word n0 n1 n2 n3 n4 stages.Clients r c h k e f = f
+at_end version word n0 n1 n2 n3 n4 stages.Objects r c h k e f = f
+at_end version word n0 n1 n2 n3 n4 stages.Commands r c h k e f = no e
 
 pub at_commands : (s : Stage) (r c : ℕ) (h : List ℕ) (k : List Command) → is_begun s ≡ true → Early s r c h k → (0 < r) × (0 < c) × (0 < length h)
 unfolding Early
@@ -324,7 +334,7 @@ is_within before client args what r c few s =
       none_given = record { low = set-below (length (colour_names before)) [] refl; many = omega arith; bits = omega arith }
 
 -- ONE MORE ITEM
-module _ (before : List Item) (fit : Fits (length (region_names before)) (length (colour_names before)) (client_homes before) (commands before) (stage_of before)) where
+module _ (before : List Item) (fit : Fits (version_of before) (length (region_names before)) (length (colour_names before)) (client_homes before) (commands before) (stage_of before)) where
   abbrev regions : ℕ
   regions = length (region_names before)
 
@@ -341,36 +351,36 @@ module _ (before : List Item) (fit : Fits (length (region_names before)) (length
   at_stage : (s : Stage) → stage_of before ≡ s → Early s regions colours homes asked
   at_stage s e = subst (λ (t : Stage). Early t regions colours homes asked) e fit.early
 
-  more_version : may_come before (codes "fuzzylog") ≡ true → Fit (before ++ items.Version ∷ [])
-  unfolding Early
-  more_version ok = passed before fit items.Version stages.Version refl refl refl refl refl (at_stage stages.Nothing (at_fuzzylog (stage_of before) ok))
+  more_version : (version : ℕ) → may_come before (codes "fuzzylog") ≡ true → is_version version ≡ true → Fit (before ++ items.Version version ∷ [])
+  more_version version ok is = subst (λ (b : List Item). Fit (b ++ items.Version version ∷ [])) (sym (nothing_before before ok)) (fit_version version is)
 
   more_rows : (number : ℕ) → may_come before (codes "rows") ≡ true → Fit (before ++ items.Rows number ∷ [])
   unfolding Early
-  more_rows number ok = passed before fit (items.Rows number) stages.Rows refl refl refl refl refl (at_stage stages.Colours (at_rows (stage_of before) ok))
+  more_rows number ok = passed before fit (items.Rows number) stages.Rows refl refl refl refl refl refl (at_stage stages.Colours (at_rows (version_of before) (stage_of before) ok))
 
   more_begin : may_come before (codes "begin") ≡ true → Fit (before ++ items.Begin ∷ [])
   unfolding Early
-  more_begin ok = let t = at_end (codes "begin") refl refl refl refl refl (stage_of before) regions colours homes asked ok fit.early in
-      passed before fit items.Begin stages.Commands refl refl refl refl refl (t.0, t.1, t.2)
+  more_begin ok = let t = at_end (version_of before) (codes "begin") refl refl refl refl refl (stage_of before) regions colours homes asked ok fit.early in
+      passed before fit items.Begin stages.Commands refl refl refl refl refl refl (t.0, t.1, t.2)
 
   more_object : (object : Rattle.script_text.specs.declared.script.Object.Object) → ((0 < regions) × (0 < colours) × (0 < length homes) × (asked ≡ [])) → Fit (before ++ items.Declared object ∷ [])
   unfolding Early
-  more_object object t = passed before fit (items.Declared object) stages.Objects refl refl refl refl refl t
+  more_object object t = passed before fit (items.Declared object) stages.Objects refl refl refl refl refl refl t
 
   none_all : {A : Type 0} (P : A → Type 0) (xs : List A) → xs ≡ [] → All P xs
   none_all P xs e = subst (λ l. All P l) (sym e) (All-nil P)
 
-  more_regions : (names : List (List ℕ)) → may_come before (codes "regions") ≡ true → is_between 1 VERSION_1.regions (length names) ≡ true → Fit (before ++ items.Regions names ∷ [])
+  more_regions : (names : List (List ℕ)) → may_come before (codes "regions") ≡ true → is_between 1 (limits_of before).regions (length names) ≡ true → Fit (before ++ items.Regions names ∷ [])
   unfolding Fit Early
   more_regions names ok few =
-      let early = at_stage stages.Version (at_regions (stage_of before) ok) in
+      let early = at_stage stages.Version (at_regions (version_of before) (stage_of before) ok) in
       let low : 1 ≤ length names = leb-true _ _ (and-left _ _ few) in
-      let high : length names ≤ VERSION_1.regions = leb-true _ _ (and-right _ _ few) in
-      carried (length names) _ _ _ _ _ _ _ stages.Regions _
+      let high : length names ≤ (limits_of before).regions = leb-true _ _ (and-right _ _ few) in
+      carried _ _ (length names) _ _ _ _ _ _ _ stages.Regions _ (same_version before fit (items.Regions names) refl)
       (ap length (sym (ap (last_said []) (filter_map-said regions_in before (items.Regions names) names refl) ∙ said-last [] (filter_map regions_in before) names)))
       (same_colours before fit (items.Regions names) refl) (same_homes before fit (items.Regions names) refl) (same_commands before fit (items.Regions names) refl) (sym (stage-more before fit (items.Regions names)))
       (record {
+        of_version = fit.of_version;
         few_regions = high;
         few_colours = fit.few_colours;
         few_clients = fit.few_clients;
@@ -380,16 +390,17 @@ module _ (before : List Item) (fit : Fits (length (region_names before)) (length
         early = (low, early.0, early.1);
       })
 
-  more_colours : (names : List (List ℕ)) → may_come before (codes "colours") ≡ true → is_between 1 VERSION_1.colours (length names) ≡ true → Fit (before ++ items.Colours names ∷ [])
+  more_colours : (names : List (List ℕ)) → may_come before (codes "colours") ≡ true → is_between 1 (limits_of before).colours (length names) ≡ true → Fit (before ++ items.Colours names ∷ [])
   unfolding Fit Early
   more_colours names ok few =
-      let early = at_stage stages.Regions (at_colours (stage_of before) ok) in
+      let early = at_stage stages.Regions (at_colours (version_of before) (stage_of before) ok) in
       let low : 1 ≤ length names = leb-true _ _ (and-left _ _ few) in
-      let high : length names ≤ VERSION_1.colours = leb-true _ _ (and-right _ _ few) in
-      carried _ _ (length names) _ _ _ _ _ stages.Colours _ (same_regions before fit (items.Colours names) refl)
+      let high : length names ≤ (limits_of before).colours = leb-true _ _ (and-right _ _ few) in
+      carried _ _ _ _ (length names) _ _ _ _ _ stages.Colours _ (same_version before fit (items.Colours names) refl) (same_regions before fit (items.Colours names) refl)
       (ap length (sym (ap (last_said []) (filter_map-said colours_in before (items.Colours names) names refl) ∙ said-last [] (filter_map colours_in before) names)))
       (same_homes before fit (items.Colours names) refl) (same_commands before fit (items.Colours names) refl) (sym (stage-more before fit (items.Colours names)))
       (record {
+        of_version = fit.of_version;
         few_regions = fit.few_regions;
         few_colours = high;
         few_clients = fit.few_clients;
@@ -402,17 +413,18 @@ module _ (before : List Item) (fit : Fits (length (region_names before)) (length
   as_many : length (client_names before) ≡ length homes
   as_many = length-map (filter_map clients_in before) (λ (c : List ℕ × ℕ). c.0) ∙ sym (length-map (filter_map clients_in before) (λ (c : List ℕ × ℕ). c.1))
 
-  more_client : (name : List ℕ) (home : ℕ) → may_come before (codes "client") ≡ true → nat_lt (length (client_names before)) VERSION_1.clients ≡ true → is_region before home ≡ true → Fit (before ++ items.Client name home ∷ [])
+  more_client : (name : List ℕ) (home : ℕ) → may_come before (codes "client") ≡ true → nat_lt (length (client_names before)) (limits_of before).clients ≡ true → is_region before home ≡ true → Fit (before ++ items.Client name home ∷ [])
   unfolding Fit Early
   more_client name home ok few its_home =
-      let early = at_client (stage_of before) regions colours homes asked ok fit.early in
+      let early = at_client (version_of before) (stage_of before) regions colours homes asked ok fit.early in
       let room = ltb-true _ _ few in
       let many = length-append homes (home ∷ []) in
       let e = as_many in
-      carried _ _ _ _ (homes ++ home ∷ []) _ _ _ stages.Clients _ (same_regions before fit (items.Client name home) refl) (same_colours before fit (items.Client name home) refl)
+      carried _ _ _ _ _ _ (homes ++ home ∷ []) _ _ _ stages.Clients _ (same_version before fit (items.Client name home) refl) (same_regions before fit (items.Client name home) refl) (same_colours before fit (items.Client name home) refl)
       (sym (ap (λ (l : List (List ℕ × ℕ)). map (λ c. c.1) l) (filter_map-said clients_in before (items.Client name home) (name, home) refl) ∙ map-append (λ (c : List ℕ × ℕ). c.1) (filter_map clients_in before) ((name, home) ∷ [])))
       (same_commands before fit (items.Client name home) refl) (sym (stage-more before fit (items.Client name home)))
       (record {
+        of_version = fit.of_version;
         few_regions = fit.few_regions;
         few_colours = fit.few_colours;
         few_clients = omega arith;
@@ -429,10 +441,11 @@ module _ (before : List Item) (fit : Fits (length (region_names before)) (length
       let early = at_commands (stage_of before) regions colours homes asked begun fit.early in
       let its = ltb-true _ _ caller in
       let e = as_many in
-      let few : colours ≤ MAX_COLOURS = omega (arith, fit.few_colours, limits_within.colours) in
-      carried _ _ _ _ _ _ (asked ++ command ∷ []) _ stages.Commands _ (same_regions before fit (items.Asks command) refl) (same_colours before fit (items.Asks command) refl) (same_homes before fit (items.Asks command) refl)
+      let few : colours ≤ MAX_COLOURS = omega (arith, fit.few_colours, (limits_within (version_of before)).colours) in
+      carried _ _ _ _ _ _ _ _ (asked ++ command ∷ []) _ stages.Commands _ (same_version before fit (items.Asks command) refl) (same_regions before fit (items.Asks command) refl) (same_colours before fit (items.Asks command) refl) (same_homes before fit (items.Asks command) refl)
       (sym (filter_map-said commands_in before (items.Asks command) command refl)) (sym (stage-more before fit (items.Asks command)))
       (record {
+        of_version = fit.of_version;
         few_regions = fit.few_regions;
         few_colours = fit.few_colours;
         few_clients = fit.few_clients;
@@ -443,15 +456,15 @@ module _ (before : List Item) (fit : Fits (length (region_names before)) (length
       })
 
   pub more_item : (number : ℕ) (fields : List (List ℕ)) (item : Item) → Says before number fields item → may_follow before item ≡ true → Fit (before ++ item ∷ [])
-  more_item number fields items.Version says ok = more_version ok
+  more_item number fields (items.Version version) says ok = more_version version (and-left _ _ ok) (and-right _ _ ok)
   more_item number fields (items.Regions names) says ok = more_regions names (and-left _ _ (and-left _ _ ok)) (and-right _ _ (and-left _ _ ok))
   more_item number fields (items.Colours names) says ok = more_colours names (and-left _ _ (and-left _ _ ok)) (and-right _ _ (and-left _ _ ok))
   more_item number fields (items.Rows rows) says ok = more_rows rows (and-left _ _ ok)
   more_item number fields (items.Client name home) says ok = let abc = and-left _ _ ok in let ab = and-left _ _ abc in more_client name home (and-left _ _ ab) (and-right _ _ ab) (and-right _ _ ok)
   more_item number fields (items.Declared object) says ok = more_object object (by_kind object.kind (and-left _ _ (and-left _ _ ok))) where
     by_kind : (kind : Kind) → may_come before (sort_text (sort_of kind)) ≡ true → (0 < regions) × (0 < colours) × (0 < length homes) × (asked ≡ [])
-    by_kind (kinds.Map _ _) come = at_end (codes "map") refl refl refl refl refl (stage_of before) regions colours homes asked come fit.early
-    by_kind kind come = at_end (sort_text (sort_of kind)) refl refl refl refl refl (stage_of before) regions colours homes asked come fit.early
+    by_kind (kinds.Map _ _) come = at_end (version_of before) (codes "map") refl refl refl refl refl (stage_of before) regions colours homes asked come fit.early
+    by_kind kind come = at_end (version_of before) (sort_text (sort_of kind)) refl refl refl refl refl (stage_of before) regions colours homes asked come fit.early
   more_item number fields items.Begin says ok = more_begin ok
   more_item number fields (items.Asks command) says ok =
       let ab = and-left _ _ ok in more_command command says.1 (and-left _ _ ab) (and-right _ _ ab) says.2

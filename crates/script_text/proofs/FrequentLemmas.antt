@@ -1,16 +1,16 @@
 -- Appends, syncs, pulls and trims, cut at their first spaces, are read as their lines are.
-use Rattle.std.proofs.Common.{◌≡◌, ◌≢◌, ℕ, zero, suc, ◌<◌, ◌++◌, true, false, eqb, List, [], ◌∷◌, length, get_or, Option, Some, None, Result, Ok, Err, refl, ◌∙◌, arith}
+use Rattle.std.proofs.Common.{◌≡◌, ◌≢◌, ℕ, zero, suc, ◌<◌, ◌≤◌, ◌++◌, true, false, eqb, List, [], ◌∷◌, length, get_or, Option, Some, None, Result, Ok, Err, refl, ◌∙◌, arith}
 use Rattle.std.specs.List.{list_all}
-use Rattle.std.proofs.lemmas.Bool.{and_parts, ne_eqb}
+use Rattle.std.proofs.lemmas.Bool.{and_parts, le-leb, ne_eqb}
 use Rattle.std.specs.declared.alloc.AllocError.{AllocError}
 use Rattle.std.specs.Borrow.{Bor}
 use Rattle.std.specs.Option.{IfSome, MatchOption}
 use Rattle.std.specs.Result.{IfOk}
 use Rattle.log_node.specs.declared.ids.Colours.{Colours}
-use Rattle.script_text.specs.declared.script.What.{What}
-use Rattle.script_text.specs.declared.script.What.TheVariants as whats
+use Rattle.script_text.specs.declared.commands.What.{What}
+use Rattle.script_text.specs.declared.commands.What.TheVariants as whats
 use Rattle.script_text.specs.declared.script.Reason.TheVariants as reasons
-use Rattle.script_text.specs.declared.script.Word.TheVariants as words
+use Rattle.script_text.specs.declared.commands.Word.TheVariants as words
 use Rattle.script_text.specs.declared.item.Item.TheVariants as items
 use Rattle.script_text.specs.declared.known.Known.{Known}
 use Rattle.script_text.specs.Pieces.{fields_of, names_in, is_ascii_line, is_between, is_text}
@@ -86,62 +86,62 @@ pull_read known args name field region colour fields front there read =
     let whole = cut_whole field front in
     rw (fields, whole.0, there, read) refl
 
-append_asked : (known : Known) (args : List ℕ) (what : What) → IsWellCut args → with_two (append_at known) (fields_of args) ≡ Ok what
+append_asked : (known : Known) → 1 ≤ known.script.version → (args : List ℕ) (what : What) → IsWellCut args → with_two (append_at known) (fields_of args) ≡ Ok what
     → IsAsked known (97 ∷ 112 ∷ 112 ∷ 101 ∷ 110 ∷ 100 ∷ 32 ∷ args) what
 unfolding asked_at worded_at
-append_asked known args what full read = record {
+append_asked known some args what full read = record {
   whole = record { ascii = full.ascii; full = full.full };
-  asks = λ client. append_is known client (fields_of args) ∙ read;
+  asks = λ client. rw (le-leb 1 known.script.version some) (append_is known client (fields_of args) ∙ read);
 }
 
-sync_asked : (known : Known) (field : List ℕ) (what : What) → IsWellCut field → with_one (sync_at known) (fields_of field) ≡ Ok what
+sync_asked : (known : Known) → 1 ≤ known.script.version → (field : List ℕ) (what : What) → IsWellCut field → with_one (sync_at known) (fields_of field) ≡ Ok what
     → IsAsked known (115 ∷ 121 ∷ 110 ∷ 99 ∷ 32 ∷ field) what
 unfolding asked_at worded_at
-sync_asked known field what full read = record {
+sync_asked known some field what full read = record {
   whole = record { ascii = full.ascii; full = full.full };
-  asks = λ client. sync_is known client (fields_of field) ∙ read;
+  asks = λ client. rw (le-leb 1 known.script.version some) (sync_is known client (fields_of field) ∙ read);
 }
 
-trim_asked : (known : Known) (field : List ℕ) (what : What) → IsWellCut field → with_one (trim_at known) (fields_of field) ≡ Ok what
+trim_asked : (known : Known) → 1 ≤ known.script.version → (field : List ℕ) (what : What) → IsWellCut field → with_one (trim_at known) (fields_of field) ≡ Ok what
     → IsAsked known (116 ∷ 114 ∷ 105 ∷ 109 ∷ 32 ∷ field) what
 unfolding asked_at worded_at
-trim_asked known field what full read = record {
+trim_asked known some field what full read = record {
   whole = record { ascii = full.ascii; full = full.full };
-  asks = λ client. trim_is known client (fields_of field) ∙ read;
+  asks = λ client. rw (le-leb 1 known.script.version some) (trim_is known client (fields_of field) ∙ read);
 }
 
-pull_asked : (known : Known) (args : List ℕ) (what : What) → IsWellCut args → with_two (pull_at known) (fields_of args) ≡ Ok what
+pull_asked : (known : Known) → 1 ≤ known.script.version → (args : List ℕ) (what : What) → IsWellCut args → with_two (pull_at known) (fields_of args) ≡ Ok what
     → IsAsked known (112 ∷ 117 ∷ 108 ∷ 108 ∷ 32 ∷ args) what
 unfolding asked_at worded_at
-pull_asked known args what full read = record {
+pull_asked known some args what full read = record {
   whole = record { ascii = full.ascii; full = full.full };
-  asks = λ client. pull_is known client (fields_of args) ∙ read;
+  asks = λ client. rw (le-leb 1 known.script.version some) (pull_is known client (fields_of args) ∙ read);
 }
 
-pub found_append : (known : Known) (bytes args : List ℕ) (found : Result (Option What) AllocError) → bytes ≡ word_text words.Append ++ 32 ∷ args
+pub found_append : (known : Known) → 1 ≤ known.script.version → (bytes args : List ℕ) (found : Result (Option What) AllocError) → bytes ≡ word_text words.Append ++ 32 ∷ args
     → IfOk found (λ f. IfSome f (λ what. IsWellCut args)) → IfOk found (λ f. IfSome f (λ what. with_two (append_at known) (fields_of args) ≡ Ok what))
     → IfOk found (λ f. IfSome f (λ what. IsAsked known bytes what))
-found_append known bytes args (Ok (Some what)) cut full read = rw cut (append_asked known args what full read)
-found_append known bytes args (Ok None) cut full read = tt
-found_append known bytes args (Err e) cut full read = tt
+found_append known some bytes args (Ok (Some what)) cut full read = rw cut (append_asked known some args what full read)
+found_append known some bytes args (Ok None) cut full read = tt
+found_append known some bytes args (Err e) cut full read = tt
 
-pub found_sync : (known : Known) (bytes field : List ℕ) (found : Option What) → bytes ≡ word_text words.Sync ++ 32 ∷ field
+pub found_sync : (known : Known) → 1 ≤ known.script.version → (bytes field : List ℕ) (found : Option What) → bytes ≡ word_text words.Sync ++ 32 ∷ field
     → IfSome found (λ what. IsWellCut field) → IfSome found (λ what. with_one (sync_at known) (fields_of field) ≡ Ok what)
     → IfSome found (λ what. IsAsked known bytes what)
-found_sync known bytes field (Some what) cut full read = rw cut (sync_asked known field what full read)
-found_sync known bytes field None cut full read = tt
+found_sync known some bytes field (Some what) cut full read = rw cut (sync_asked known some field what full read)
+found_sync known some bytes field None cut full read = tt
 
-pub found_trim : (known : Known) (bytes field : List ℕ) (found : Option What) → bytes ≡ word_text words.Trim ++ 32 ∷ field
+pub found_trim : (known : Known) → 1 ≤ known.script.version → (bytes field : List ℕ) (found : Option What) → bytes ≡ word_text words.Trim ++ 32 ∷ field
     → IfSome found (λ what. IsWellCut field) → IfSome found (λ what. with_one (trim_at known) (fields_of field) ≡ Ok what)
     → IfSome found (λ what. IsAsked known bytes what)
-found_trim known bytes field (Some what) cut full read = rw cut (trim_asked known field what full read)
-found_trim known bytes field None cut full read = tt
+found_trim known some bytes field (Some what) cut full read = rw cut (trim_asked known some field what full read)
+found_trim known some bytes field None cut full read = tt
 
-pub found_pull : (known : Known) (bytes args : List ℕ) (found : Option What) → bytes ≡ word_text words.Pull ++ 32 ∷ args
+pub found_pull : (known : Known) → 1 ≤ known.script.version → (bytes args : List ℕ) (found : Option What) → bytes ≡ word_text words.Pull ++ 32 ∷ args
     → IfSome found (λ what. IsWellCut args) → IfSome found (λ what. with_two (pull_at known) (fields_of args) ≡ Ok what)
     → IfSome found (λ what. IsAsked known bytes what)
-found_pull known bytes args (Some what) cut full read = rw cut (pull_asked known args what full read)
-found_pull known bytes args None cut full read = tt
+found_pull known some bytes args (Some what) cut full read = rw cut (pull_asked known some args what full read)
+found_pull known some bytes args None cut full read = tt
 
 -- ---- the line
 

@@ -2,8 +2,9 @@
 use Rattle.std.proofs.Common.{◌≡◌, ℕ, ◌+◌, Bool, true, false, not, ◌&&◌, ◌||◌, eqb, inl, inr, List, [], ◌∷◌, ◌++◌, Option, Some, None, Result, Ok, Err, refl, sym, ap, subst, ◌∙◌, codes, arith}
 use Rattle.std.specs.Prelude.{if◌then◌else◌}
 use Rattle.std.specs.List.{slice_split, join_with_byte}
+use Rattle.std.specs.Fmt.{decimal}
 use Rattle.std.specs.Str.{bytes_eq}
-use Rattle.std.proofs.lemmas.Bool.{cases_Bool, not-false, eqb-true, eqb-false}
+use Rattle.std.proofs.lemmas.Bool.{cases_Bool, and_parts, or_cases, not-false, eqb-true, eqb-false}
 use Rattle.std.proofs.lemmas.List.{append-nil}
 use Rattle.std.proofs.lemmas.List.Splits.{join_with_byte-slice_split}
 use Rattle.std.proofs.lemmas.Slice.Eq.{bytes_eq-Decides}
@@ -16,8 +17,9 @@ use Rattle.script_text.specs.declared.item.Item.TheVariants as items
 use Rattle.script_text.specs.declared.item.Stage.{Stage}
 use Rattle.script_text.specs.declared.item.Stage.TheVariants as stages
 use Rattle.script_text.specs.declared.known.Known.{Known}
-use Rattle.script_text.specs.Pieces.{fields_of, is_ascii_line, is_among}
-use Rattle.script_text.specs.Items.{is_begun, has_begun, header_words, may_come, stage_of, stage_after}
+use Rattle.script_text.specs.Pieces.{fields_of, is_ascii_line}
+use Rattle.script_text.specs.Versions.{is_version, is_version_line}
+use Rattle.script_text.specs.Items.{is_begun, has_begun, may_begin, may_come, stage_of, version_of}
 use Rattle.script_text.specs.Grammar.{is_passed_over}
 use Rattle.script_text.specs.Table.{sort_text, sort_of}
 use Rattle.script_text.specs.Faults.{when, first_of, command_tests, header_tests, fields_tests, fault_of}
@@ -27,6 +29,7 @@ use Rattle.script_text.specs.HeaderReadings.{version_at, headed_at, header_at}
 use Rattle.script_text.specs.CommandReadings.{command_at}
 use Rattle.script_text.specs.LineReadings.{item_at, full_item_at, said_at, line_at}
 use Rattle.script_text.proofs.EachLemmas.{refused_ok, bind_ok, ok_is}
+use Rattle.script_text.proofs.VersionLemmas.{which_version, text_1, text_2, something}
 use Rattle.script_text.proofs.KnownLaws.{IsLawful, known_push, lawful_push}
 use Rattle.script_text.specs.Laws.{Follows, Tells}
 use Rattle.script_text.proofs.HeaderLaws.{header_ok, version_read, regions_read, colours_read, rows_read, client_read, declared_is, declared_read, begin_read}
@@ -56,23 +59,23 @@ unfolding item_at
 on_command before number word fields e = rw e refl
 
 -- a header word may come only before the header's end
-stage_open : (stage : Stage) (word : List ℕ) → is_among (header_words stage) word ≡ true → is_begun stage ≡ false
-stage_open stages.Nothing word h = refl
-stage_open stages.Version word h = refl
-stage_open stages.Regions word h = refl
-stage_open stages.Colours word h = refl
-stage_open stages.Rows word h = refl
-stage_open stages.Clients word h = refl
-stage_open stages.Objects word h = refl
-stage_open stages.Commands word h = absurd cc
+stage_open : (version : ℕ) (stage : Stage) (word : List ℕ) → may_begin version stage word ≡ true → is_begun stage ≡ false
+stage_open version stages.Nothing word h = refl
+stage_open version stages.Version word h = refl
+stage_open version stages.Regions word h = refl
+stage_open version stages.Colours word h = refl
+stage_open version stages.Rows word h = refl
+stage_open version stages.Clients word h = refl
+stage_open version stages.Objects word h = refl
+stage_open version stages.Commands word h = absurd cc
 
 by_header : (before : List Item) (number : ℕ) (word : List ℕ) (fields : List (List ℕ)) (item : Item) → (may_come before word ≡ true) × (header_at (known_of before) word fields ≡ Ok item)
     → item_at (known_of before) number (word ∷ fields) ≡ Ok item
-by_header before number word fields item r = on_header before number word fields (stage_open (stage_of before) word r.0) ∙ r.1
+by_header before number word fields item r = on_header before number word fields (stage_open (version_of before) (stage_of before) word r.0) ∙ r.1
 
 word_read : (before : List Item) (number : ℕ) (word : List ℕ) (fields : List (List ℕ)) (item : Item) → IsLawful (known_of before) → Follows before number (word ∷ fields) item
     → item_at (known_of before) number (word ∷ fields) ≡ Ok item
-word_read before number word fields items.Version l f = by_header before number word fields items.Version (version_read before number word fields f)
+word_read before number word fields (items.Version version) l f = by_header before number word fields (items.Version version) (version_read before number word fields version f)
 word_read before number word fields (items.Regions names) l f = by_header before number word fields (items.Regions names) (regions_read before number word fields names f)
 word_read before number word fields (items.Colours names) l f = by_header before number word fields (items.Colours names) (colours_read before number word fields names f)
 word_read before number word fields (items.Rows rows) l f = by_header before number word fields (items.Rows rows) (rows_read before number word fields rows f)
@@ -105,17 +108,25 @@ pub record IsPlace (before : List Item) (number : ℕ) : Type 0 where
   pub first : number ≡ 1 → before ≡ []
   pub later : (number ≡ 1 → ⊥) → stage_of before ≡ stages.Nothing → ⊥
 
--- what the version's line is
-version_line : (line : List ℕ) → fields_of line ≡ codes "fuzzylog" ∷ codes "1" ∷ [] → line ≡ codes "fuzzylog 1"
-version_line line e = sym (join_with_byte-slice_split 32 line) ∙ ap (join_with_byte 32) e
+-- what a version's line is
+version_text : (version : ℕ) → is_version version ≡ true → is_version_line (join_with_byte 32 (codes "fuzzylog" ∷ decimal version ∷ [])) ≡ true
+version_text version is =
+    elim (which_version version is) [
+      | inl one ↦ rw (one, text_1) refl
+      | inr two ↦ rw (two, text_2) refl
+    ]
+
+version_line : (line : List ℕ) (version : ℕ) → is_version version ≡ true → fields_of line ≡ codes "fuzzylog" ∷ decimal version ∷ [] → is_version_line line ≡ true
+version_line line version is e =
+    subst (λ l. is_version_line l ≡ true) (ap (join_with_byte 32) (sym e) ∙ join_with_byte-slice_split 32 line) (version_text version is)
 
 -- nothing else may come first
 first_kind : (kind : Kind) → may_come [] (sort_text (sort_of kind)) ≡ true → ⊥
 first_kind (kinds.Map home ns) h = cc
 first_kind _ h = cc
 
-only_version : (number : ℕ) (line : List ℕ) (item : Item) → Follows [] number (fields_of line) item → line ≡ codes "fuzzylog 1"
-only_version number line items.Version f = version_line line f.says
+only_version : (number : ℕ) (line : List ℕ) (item : Item) → Follows [] number (fields_of line) item → is_version_line line ≡ true
+only_version number line (items.Version version) f = version_line line version (and_parts (may_come [] (codes "fuzzylog")) (is_version version) f.may).1 f.says
 only_version number line (items.Regions names) f = absurd (let h = f.may in cc)
 only_version number line (items.Colours names) f = absurd (let h = f.may in cc)
 only_version number line (items.Rows rows) f = absurd (let h = f.may in cc)
@@ -141,7 +152,7 @@ said_ok before number line said e =
 pub line_ok : (before : List Item) (number : ℕ) (line : List ℕ) (said : Option Item) → line_at (known_of before) number line ≡ Ok said → (is_ascii_line line ≡ true) × Tells before number line said
 unfolding line_at
 line_ok before number line said e =
-    let other = eqb number 1 && not (bytes_eq line (codes "fuzzylog 1")) in
+    let other = eqb number 1 && not (is_version_line line) in
     let a = refused_ok (not (is_ascii_line line)) reasons.NotAscii (refuse other reasons.BadVersion (said_at (known_of before) number line)) said e in
     let b = refused_ok other reasons.BadVersion (said_at (known_of before) number line) said a.1 in
     (not-false (is_ascii_line line) a.0, said_ok before number line said b.1)
@@ -153,12 +164,12 @@ said_read before number line (Some item) l t =
     rw (t.0, says_full before number (fields_of line) item l t.1, item_read before number line item l t.1) refl
 
 -- a line that tells something at line 1 is the version's
-tells_version : (number : ℕ) (line : List ℕ) (said : Option Item) → number ≡ 1 → Tells [] number line said → bytes_eq line (codes "fuzzylog 1") ≡ true
+tells_version : (number : ℕ) (line : List ℕ) (said : Option Item) → number ≡ 1 → Tells [] number line said → is_version_line line ≡ true
 tells_version number line None e t = let h = rw e at t in absurd cc
-tells_version number line (Some item) e t = (bytes_eq-Decides line (codes "fuzzylog 1")).1 (only_version number line item t.1)
+tells_version number line (Some item) e t = only_version number line item t.1
 
-is_version : (before : List Item) (number : ℕ) (line : List ℕ) (said : Option Item) → IsPlace before number → Tells before number line said → (eqb number 1 && not (bytes_eq line (codes "fuzzylog 1"))) ≡ false
-is_version before number line said p t =
+names_version : (before : List Item) (number : ℕ) (line : List ℕ) (said : Option Item) → IsPlace before number → Tells before number line said → (eqb number 1 && not (is_version_line line)) ≡ false
+names_version before number line said p t =
     elim (cases_Bool (eqb number 1)) [
       | inl e ↦
           let one = eqb-true number 1 e in
@@ -170,7 +181,7 @@ is_version before number line said p t =
 pub line_read : (before : List Item) (number : ℕ) (line : List ℕ) (said : Option Item) → IsLawful (known_of before) → IsPlace before number → is_ascii_line line ≡ true → Tells before number line said
     → line_at (known_of before) number line ≡ Ok said
 unfolding line_at
-line_read before number line said l p ascii t = rw (ascii, is_version before number line said p t, said_read before number line said l t) refl
+line_read before number line said l p ascii t = rw (ascii, names_version before number line said p t, said_read before number line said l t) refl
 
 -- ---- the first fault of a line
 
@@ -194,9 +205,14 @@ fields_fault before number word fields started =
       | inr header ↦ rw (header, on_header before number word fields header) (header_line_tests before word fields started)
     ])
 
-first_said : said_at (known_of []) 1 (codes "fuzzylog 1") ≡ Ok (Some items.Version)
+-- line 1 says the version that it names
+first_said : (line : List ℕ) → is_version_line line ≡ true → (item : Item) × (said_at (known_of []) 1 line ≡ Ok (Some item))
 unfolding said_at full_item_at item_at header_at headed_at version_at
-first_said = refl
+first_said line is =
+    elim (or_cases (bytes_eq line (codes "fuzzylog 1")) (bytes_eq line (codes "fuzzylog 2")) is) [
+      | inl one ↦ (items.Version 1, rw ((bytes_eq-Decides line (codes "fuzzylog 1")).0 one) refl)
+      | inr two ↦ (items.Version 2, rw ((bytes_eq-Decides line (codes "fuzzylog 2")).0 two) refl)
+    ]
 
 said_over : (known : Known) (number : ℕ) (line : List ℕ) → is_passed_over (number, line) ≡ true → said_at known number line ≡ Ok None
 unfolding said_at
@@ -221,15 +237,15 @@ line_fields before number line started =
       some_item : Item → Option Item
       some_item item = Some item
 
-said_fault : (before : List Item) (number : ℕ) (line : List ℕ) → IsPlace before number → (eqb number 1 && not (bytes_eq line (codes "fuzzylog 1"))) ≡ false
+said_fault : (before : List Item) (number : ℕ) (line : List ℕ) → IsPlace before number → (eqb number 1 && not (is_version_line line)) ≡ false
     → Tests (if eqb number 1 || is_passed_over (number, line) then [] else fields_tests before (fields_of line)) (said_at (known_of before) number line)
 said_fault before number line p version =
     choose_tests (eqb number 1) (is_passed_over (number, line)) (fields_tests before (fields_of line)) (said_at (known_of before) number line)
     (λ e.
     let one = eqb-true number 1 e in
     let h = rw e at version in
-    let same = (bytes_eq-Decides line (codes "fuzzylog 1")).0 (not-false (bytes_eq line (codes "fuzzylog 1")) h) in
-    let read : said_at (known_of before) number line ≡ Ok (Some items.Version) = rw (one, p.first one, same) first_said in
+    let first = first_said line (not-false (is_version_line line) h) in
+    let read : said_at (known_of before) number line ≡ Ok (Some first.0) = rw (one, p.first one) first.1 in
     rw read (λ more. refl))
     (λ e over. rw (said_over (known_of before) number line over) (λ more. refl))
     (λ e passes. rw (said_full (known_of before) number line passes) (line_fields before number line (p.later (eqb-false number 1 e))))
@@ -239,7 +255,7 @@ pub line_fault : (before : List Item) (number : ℕ) (line : List ℕ) → IsPla
     → fault_of before number line ≡ reason_of (refuse (eqb number 20001) reasons.TooManyLines (line_at (known_of before) number line))
 unfolding line_at
 line_fault before number line p =
-    let other = eqb number 1 && not (bytes_eq line (codes "fuzzylog 1")) in
+    let other = eqb number 1 && not (is_version_line line) in
     let rest = if eqb number 1 || is_passed_over (number, line) then [] else fields_tests before (fields_of line) in
     let rest_said = said_at (known_of before) number line in
     reason_is (when (eqb number 20001) reasons.TooManyLines ∷ when (not (is_ascii_line line)) reasons.NotAscii ∷ when other reasons.BadVersion ∷ rest)
@@ -261,16 +277,6 @@ known_said before (Some item) = known_push before item
 pub lawful_said : (before : List Item) (number : ℕ) (line : List ℕ) (said : Option Item) → IsLawful (known_of before) → Tells before number line said → IsLawful (known_of (said_with before said))
 lawful_said before number line None l t = l
 lawful_said before number line (Some item) l t = lawful_push before item l t.1.may
-
-pub something : (item : Item) → stage_after (Some item) ≡ stages.Nothing → ⊥
-something items.Version e = cc
-something (items.Regions names) e = cc
-something (items.Colours names) e = cc
-something (items.Rows rows) e = cc
-something (items.Client name home) e = cc
-something (items.Declared object) e = cc
-something items.Begin e = cc
-something (items.Asks command) e = cc
 
 pub place_start : IsPlace [] 1
 place_start = record { first = λ e. refl; later = λ other. absurd (other refl) }

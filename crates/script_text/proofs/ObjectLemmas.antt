@@ -1,17 +1,13 @@
 -- The objects that a script declares, and the commands that use them.
-use Rattle.std.proofs.Common.{◌≡◌, ℕ, ◌<◌, Bool, true, false, List, [], ◌∷◌, ◌++◌, length, Option, Some, None, refl, ap, sym, subst, ◌∙◌, leb-true, ltb-true}
-use Rattle.std.specs.Prelude.{IsTrue, codes, slice_get}
+use Rattle.std.proofs.Common.{◌≡◌, ℕ, ◌<◌, Bool, true, false, List, [], ◌∷◌, ◌++◌, length, Some, None, refl, ap, sym, subst, ◌∙◌, leb-true, ltb-true}
+use Rattle.std.specs.Prelude.{IsTrue, codes}
 use Rattle.std.specs.List.{All, list_all}
 use Rattle.std.proofs.lemmas.List.Elements.{All-nil}
 use Rattle.script_text.specs.declared.script.Kind.{Kind}
 use Rattle.script_text.specs.declared.script.Kind.TheVariants as kinds
 use Rattle.script_text.specs.declared.script.Object.{Object}
-use Rattle.script_text.specs.declared.script.What.{What}
-use Rattle.script_text.specs.declared.script.Word.{Word}
-use Rattle.script_text.specs.declared.script.Word.TheVariants as words
+use Rattle.script_text.specs.declared.commands.What.{What}
 use Rattle.script_text.specs.declared.script.Command.{Command}
-use Rattle.script_text.specs.declared.table.Kinds.{Kinds}
-use Rattle.script_text.specs.declared.table.TheConstants.{MAP, ANY_MAP, TX, QUEUE}
 use Rattle.script_text.specs.declared.table.Sort.{Sort}
 use Rattle.script_text.specs.declared.table.Sort.TheVariants as sorts
 use Rattle.script_text.specs.declared.given.Given.{Given}
@@ -19,13 +15,14 @@ use Rattle.script_text.specs.declared.item.Item.{Item}
 use Rattle.script_text.specs.declared.item.Item.TheVariants as items
 use Rattle.script_text.specs.declared.item.Stage.{Stage}
 use Rattle.script_text.specs.declared.item.Stage.TheVariants as stages
-use Rattle.script_text.specs.Table.{row_fields, is_of, nothing, what_of, sort_fields, sort_text, sort_of, kind_of}
-use Rattle.script_text.specs.Words.{word_of}
-use Rattle.script_text.specs.Pieces.{is_among}
-use Rattle.script_text.specs.Items.{stage_after, stage_of, header_words, may_come, regions_in, colours_in, objects_in, commands_in, last_said, region_names, colour_names, client_homes, objects, commands}
-use Rattle.script_text.specs.Grammar.{may_follow, is_colour, are_colours, is_one_of, SpellAll, SpellsKind, SpellsWhat, Says}
-use Rattle.script_text.specs.Fitting.{AreObjectColours, IsKindWithin, HasObject, UsesObject}
-use Rattle.script_text.proofs.FittingLemmas.{Fit, and-left, and-right, All-cons, filter_map-more, filter_map-said, last-more, one-more, no, at_fuzzylog, at_regions, at_colours, at_rows, at_end}
+use Rattle.script_text.specs.Table.{nothing, sort_fields, sort_text, sort_of, kind_of}
+use Rattle.script_text.specs.Commands.{word_of}
+use Rattle.script_text.specs.Items.{stage_after, stage_of, may_begin, may_come, version_of, regions_in, colours_in, objects_in, commands_in, last_said, region_names, colour_names, client_homes, objects, commands}
+use Rattle.script_text.specs.Grammar.{may_follow, is_colour, are_colours, SpellAll, SpellsKind, SpellsWhat, Says}
+use Rattle.script_text.specs.Fitting.{AreObjectColours, IsKindWithin, UsesObject}
+use Rattle.script_text.proofs.CommandRows.{uses_of}
+use Rattle.script_text.proofs.VersionLemmas.{at_fuzzylog}
+use Rattle.script_text.proofs.FittingLemmas.{Fit, and-left, and-right, All-cons, filter_map-more, filter_map-said, last-more, one-more, no, at_regions, at_colours, at_rows, at_end}
 
 -- no object is declared before this stage
 abbrev pub Bare : Stage → List Object → Type 0
@@ -90,55 +87,6 @@ kind_is before args sorts.Queue given s =
     subst (λ (g : Given). IsKindWithin (length (region_names before)) (length (colour_names before)) (kind_of sorts.Queue g))
     (sym whole) (ltb-true _ _ s.1.2, ltb-true _ _ s.2.1.2)
 
--- WHAT A COMMAND USES
-
-has_object : (of : Kinds) (made : List Object) (object : ℕ) → IsTrue (is_one_of of (slice_get made object))
-    → HasObject made object (is_of of)
-has_object of made object ok = pick (slice_get made object) refl ok where
-  pick : (o : Option Object) → slice_get made object ≡ o → is_one_of of o ≡ true → HasObject made object (is_of of)
-  pick None e f = no f
-  pick (Some o) e f = record { found = o; there = e; kind = f }
-
-uses_of : (before : List Item) (args : List (List ℕ)) (word : Word) (given : Given)
-    → SpellAll before (row_fields word) args nothing given → UsesObject (objects before) (what_of word given)
-uses_of before args words.Put given s =
-    let whole = s.2.2.2.1 ∙ (s.2.2.1.3 ∙ ap (λ (g : Given). record g { value = s.2.2.1.0 })
-    (s.2.1.3 ∙ ap (λ (g : Given). record g { key = s.2.1.0 }) s.1.3)) in
-    subst (λ (g : Given). UsesObject (objects before) (what_of words.Put g)) (sym whole)
-    (has_object ANY_MAP (objects before) s.1.0 s.1.2, (s.2.1.2, s.2.2.1.2))
-uses_of before args words.Get given s =
-    let whole = s.2.2.1 ∙ (s.2.1.3 ∙ ap (λ (g : Given). record g { key = s.2.1.0 }) s.1.3) in
-    subst (λ (g : Given). UsesObject (objects before) (what_of words.Get g)) (sym whole)
-    (has_object ANY_MAP (objects before) s.1.0 s.1.2, s.2.1.2)
-uses_of before args words.Del given s =
-    let whole = s.2.2.1 ∙ (s.2.1.3 ∙ ap (λ (g : Given). record g { key = s.2.1.0 }) s.1.3) in
-    subst (λ (g : Given). UsesObject (objects before) (what_of words.Del g)) (sym whole)
-    (has_object MAP (objects before) s.1.0 s.1.2, s.2.1.2)
-uses_of before args words.PutAll given s =
-    let whole = s.2.2.1 ∙ (s.2.1.2 ∙ ap (λ (g : Given). record g { pairs = _ }) s.1.3) in
-    subst (λ (g : Given). UsesObject (objects before) (what_of words.PutAll g)) (sym whole)
-    (has_object MAP (objects before) s.1.0 s.1.2, s.2.1.1)
-uses_of before args words.GetAll given s =
-    let whole = s.2.2.1 ∙ (s.2.1.1 ∙ ap (λ (g : Given). record g { keys = _ }) s.1.3) in
-    subst (λ (g : Given). UsesObject (objects before) (what_of words.GetAll g)) (sym whole)
-    (has_object MAP (objects before) s.1.0 s.1.2, s.2.1.0)
-uses_of before args words.Read given s =
-    let whole = s.2.2.1 ∙ (s.2.1.1 ∙ ap (λ (g : Given). record g { keys = _ }) s.1.3) in
-    subst (λ (g : Given). UsesObject (objects before) (what_of words.Read g)) (sym whole)
-    (has_object TX (objects before) s.1.0 s.1.2, s.2.1.0)
-uses_of before args words.Commit given s =
-    let whole = s.2.2.1 ∙ (s.2.1.2 ∙ ap (λ (g : Given). record g { pairs = _ }) s.1.3) in
-    subst (λ (g : Given). UsesObject (objects before) (what_of words.Commit g)) (sym whole)
-    (has_object TX (objects before) s.1.0 s.1.2, s.2.1.1)
-uses_of before args words.Enq given s =
-    let whole = s.2.2.1 ∙ (s.2.1.3 ∙ ap (λ (g : Given). record g { value = s.2.1.0 }) s.1.3) in
-    subst (λ (g : Given). UsesObject (objects before) (what_of words.Enq g)) (sym whole)
-    (has_object QUEUE (objects before) s.1.0 s.1.2, s.2.1.2)
-uses_of before args words.Deq given s =
-    subst (λ (g : Given). UsesObject (objects before) (what_of words.Deq g)) (sym (s.2.1 ∙ s.1.3))
-    (has_object QUEUE (objects before) s.1.0 s.1.2, tt)
-uses_of before args _ given s = tt
-
 -- ONE MORE ITEM
 
 -- where one more item changes what is said as told, the facts are of what is then said
@@ -152,12 +100,12 @@ none_all : {A : Type 0} (P : A → Type 0) (xs : List A) → xs ≡ [] → All P
 none_all P xs e = subst (λ l. All P l) (sym e) (All-nil P)
 
 -- no object is declared where clients are named
-bare_client : (s : Stage) (made : List Object) → is_among (header_words s) (codes "client") ≡ true → Bare s made
+bare_client : (version : ℕ) (s : Stage) (made : List Object) → may_begin version s (codes "client") ≡ true → Bare s made
     → made ≡ []
-bare_client stages.Colours made e b = b
-bare_client stages.Rows made e b = b
-bare_client stages.Clients made e b = b
-bare_client _ made e b = no e
+bare_client version stages.Colours made e b = b
+bare_client version stages.Rows made e b = b
+bare_client version stages.Clients made e b = b
+bare_client version _ made e b = no e
 
 module _ (before : List Item) (fit : Fit before) (named : Names before) where
   abbrev regions : ℕ
@@ -199,7 +147,7 @@ module _ (before : List Item) (fit : Fit before) (named : Names before) where
   more_regions : (names : List (List ℕ)) → may_come before (codes "regions") ≡ true
       → Names (before ++ items.Regions names ∷ [])
   more_regions names ok =
-      let bare : objects before ≡ [] = bare_at stages.Version (at_regions (stage_of before) ok) in
+      let bare : objects before ≡ [] = bare_at stages.Version (at_regions (version_of before) (stage_of before) ok) in
       let item = items.Regions names in
       carried (length (region_names (before ++ item ∷ []))) _ _ _ _ _ _ _ stages.Regions _ refl
       (same_colours item refl) (same_objects item refl) (same_commands item refl) (stage_more item)
@@ -213,7 +161,7 @@ module _ (before : List Item) (fit : Fit before) (named : Names before) where
   more_colours : (names : List (List ℕ)) → may_come before (codes "colours") ≡ true
       → Names (before ++ items.Colours names ∷ [])
   more_colours names ok =
-      let bare : objects before ≡ [] = bare_at stages.Regions (at_colours (stage_of before) ok) in
+      let bare : objects before ≡ [] = bare_at stages.Regions (at_colours (version_of before) (stage_of before) ok) in
       let item = items.Colours names in
       carried _ _ (length (colour_names (before ++ item ∷ []))) _ _ _ _ _ stages.Colours _ (same_regions item refl)
       refl (same_objects item refl) (same_commands item refl) (stage_more item)
@@ -255,13 +203,13 @@ module _ (before : List Item) (fit : Fit before) (named : Names before) where
       })
 
   -- no command is there where objects are
-  none_asked : (word : List ℕ) → is_among (header_words stages.Nothing) word ≡ false
-      → is_among (header_words stages.Version) word ≡ false → is_among (header_words stages.Regions) word ≡ false
-      → is_among (header_words stages.Colours) word ≡ false → is_among (header_words stages.Rows) word ≡ false
+  none_asked : (word : List ℕ) → may_begin (version_of before) stages.Nothing word ≡ false
+      → may_begin (version_of before) stages.Version word ≡ false → may_begin (version_of before) stages.Regions word ≡ false
+      → may_begin (version_of before) stages.Colours word ≡ false → may_begin (version_of before) stages.Rows word ≡ false
       → may_come before word ≡ true → commands before ≡ []
   unfolding Fit
   none_asked word n0 n1 n2 n3 n4 ok =
-      (at_end word n0 n1 n2 n3 n4 (stage_of before) regions colours (client_homes before) (commands before) ok
+      (at_end (version_of before) word n0 n1 n2 n3 n4 (stage_of before) regions colours (client_homes before) (commands before) ok
       fit.early).3
 
   by_kind : (kind : Kind) → may_come before (sort_text (sort_of kind)) ≡ true → commands before ≡ []
@@ -270,16 +218,17 @@ module _ (before : List Item) (fit : Fit before) (named : Names before) where
 
   pub more_named : (number : ℕ) (fields : List (List ℕ)) (item : Item) → Says before number fields item
       → may_follow before item ≡ true → Names (before ++ item ∷ [])
-  more_named number fields items.Version says ok =
-      passed items.Version refl refl refl refl (bare_at stages.Nothing (at_fuzzylog (stage_of before) ok))
+  more_named number fields (items.Version version) says ok =
+      passed (items.Version version) refl refl refl refl
+      (bare_at stages.Nothing (at_fuzzylog (version_of before) (stage_of before) (and-left _ _ ok)))
   more_named number fields (items.Regions names) says ok = more_regions names (and-left _ _ (and-left _ _ ok))
   more_named number fields (items.Colours names) says ok = more_colours names (and-left _ _ (and-left _ _ ok))
   more_named number fields (items.Rows rows) says ok =
       passed (items.Rows rows) refl refl refl refl
-      (bare_at stages.Colours (at_rows (stage_of before) (and-left _ _ ok)))
+      (bare_at stages.Colours (at_rows (version_of before) (stage_of before) (and-left _ _ ok)))
   more_named number fields (items.Client name home) says ok =
       passed (items.Client name home) refl refl refl refl
-      (bare_client (stage_of before) (objects before)
+      (bare_client (version_of before) (stage_of before) (objects before)
       (and-left _ _ (and-left _ _ (and-left _ _ ok))) named.bare)
   more_named number fields (items.Declared object) says ok =
       more_object object says.0 (by_kind object.kind (and-left _ _ (and-left _ _ ok))) says.1

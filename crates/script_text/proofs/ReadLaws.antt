@@ -3,13 +3,13 @@ use Rattle.std.proofs.Common.{◌≡◌, ℕ, inl, inr, Bool, true, false, not, 
 use Rattle.std.specs.List.{list_any, filter, fold}
 use Rattle.std.proofs.lemmas.Bool.{cases_Bool, and_parts, eqb-true, eqb-false, ne_eqb, eq-eqb}
 use Rattle.std.proofs.lemmas.List.Folds.{list_any-append}
-use Rattle.script_text.specs.declared.script.What.{What}
+use Rattle.script_text.specs.declared.commands.What.{What}
 use Rattle.script_text.specs.declared.script.Command.{Command}
 use Rattle.script_text.specs.declared.reads.HeldRead.{HeldRead}
 use Rattle.script_text.specs.declared.uses.ReadUse.TheVariants.{Takes, UsesUp}
 use Rattle.script_text.specs.declared.uses.Use.{Use}
 use Rattle.script_text.specs.declared.uses.Use.TheVariants.{OfObject}
-use Rattle.script_text.specs.Uses.{use_of}
+use Rattle.script_text.specs.Commands.{use_of}
 use Rattle.script_text.specs.Reads.{same_read, holds, with_read, without_read, reads_by, reads_after, held_after}
 use Rattle.script_text.specs.Items.{held_by, holds_read}
 use Rattle.log_node.proofs.CallerLemmas.{or_false}

@@ -55,6 +55,7 @@ fitting said lines fit names begun are =
     let here = said_few (λ line. not (is_passed_over line)) (enumerate_from 1 lines) in
     let numbered = length-enumerate_from 1 lines in
     let few = are.few in record {
+      version = fit.of_version;
       shape = record {
         a_region = early.0;
         few_regions = fit.few_regions;

@@ -1,13 +1,11 @@
 -- A line has no fault exactly where it is sound.
-use Rattle.std.proofs.Common.{◌≡◌, ℕ, ◌+◌, ◌<◌, false, eqb, List, [], ◌∷◌, ◌++◌, length, Option, Some, None, Result, Ok, Err, refl, sym, ap, subst, ◌∙◌, ◌↔◌, append_assoc, arith}
-use Rattle.std.specs.List.{last_or, enumerate_from}
+use Rattle.std.proofs.Common.{◌≡◌, ℕ, ◌+◌, ◌<◌, false, eqb, List, [], ◌∷◌, ◌++◌, length, Option, None, Result, Ok, Err, refl, sym, ap, subst, ◌∙◌, ◌↔◌, append_assoc, arith}
+use Rattle.std.specs.List.{enumerate_from}
 use Rattle.std.proofs.lemmas.Bool.{ne_eqb}
 use Rattle.std.proofs.lemmas.List.{append-nil}
 use Rattle.script_text.specs.declared.item.Item.{Item}
-use Rattle.script_text.specs.declared.item.Stage.TheVariants as stages
 use Rattle.script_text.specs.declared.script.Reason.{Reason}
 use Rattle.script_text.specs.declared.script.Reason.TheVariants as reasons
-use Rattle.script_text.specs.Items.{stage_after}
 use Rattle.script_text.specs.Grammar.{said_lines, Say, AreLines}
 use Rattle.script_text.specs.Faults.{fault_of}
 use Rattle.script_text.specs.Laws.{IsSound}
@@ -15,7 +13,8 @@ use Rattle.script_text.specs.Known.{known_of}
 use Rattle.script_text.specs.Readings.{refuse}
 use Rattle.script_text.specs.LineReadings.{line_at}
 use Rattle.script_text.proofs.KnownLaws.{IsLawful, lawful_start, lawful_push}
-use Rattle.script_text.proofs.LineLaws.{IsPlace, line_ok, line_read, line_fault, reason_of, something}
+use Rattle.script_text.proofs.VersionLemmas.{something_last}
+use Rattle.script_text.proofs.LineLaws.{IsPlace, line_ok, line_read, line_fault, reason_of}
 
 -- lines that say items keep what is known lawful
 say_lawful : (before : List Item) (lines : List (ℕ × List ℕ)) (later : List Item) → IsLawful (known_of before) → Say before lines later → IsLawful (known_of (before ++ later))
@@ -24,10 +23,6 @@ say_lawful before [] (item ∷ later) l s = absurd s
 say_lawful before (line ∷ lines) [] l s = absurd s
 say_lawful before (line ∷ lines) (item ∷ later) l s =
     subst (λ b. IsLawful (known_of b)) (append_assoc before (item ∷ []) later) (say_lawful (before ++ item ∷ []) lines later (lawful_push before item l s.1) s.2)
-
-something_last : (item : Item) (later : List Item) → stage_after (last_or (Some item) later) ≡ stages.Nothing → ⊥
-something_last item [] e = something item e
-something_last item (next ∷ later) e = something_last next later e
 
 -- the place after lines that say items
 place_after : (lines : List (List ℕ)) (said : List Item) → Say [] (said_lines (enumerate_from 1 lines)) said → IsPlace said (length lines + 1)

@@ -1,8 +1,8 @@
 -- What a command line gives.
 use Rattle.std.specs.Prelude.{ℕ, ◌+◌, ◌*◌, ◌==◌, nat_lt, not, List, [], ◌∷◌, Option, Some, None, Result, Ok, Err}
 use Rattle.std.specs.List.{list_any}
-use Rattle.script_text.specs.declared.script.What.{What}
-use Rattle.script_text.specs.declared.script.What.TheVariants as whats
+use Rattle.script_text.specs.declared.commands.What.{What}
+use Rattle.script_text.specs.declared.commands.What.TheVariants as whats
 use Rattle.script_text.specs.declared.script.Reason.{Reason}
 use Rattle.script_text.specs.declared.script.Reason.TheVariants as reasons
 use Rattle.script_text.specs.declared.item.Item.{Item}
@@ -13,11 +13,12 @@ use Rattle.script_text.specs.declared.table.Field.{Field}
 use Rattle.script_text.specs.declared.table.Field.TheVariants as fields
 use Rattle.script_text.specs.declared.table.Last.{Last}
 use Rattle.script_text.specs.declared.table.Last.TheVariants as lasts
-use Rattle.script_text.specs.declared.script.Word.{Word}
+use Rattle.script_text.specs.declared.commands.Word.{Word}
 use Rattle.script_text.specs.declared.limits.TheConstants.{STEPS_DIGITS}
 use Rattle.script_text.specs.Pieces.{first_in, names_in}
 use Rattle.script_text.specs.Reads.{holds}
-use Rattle.script_text.specs.Table.{word_at, row_fields, last_of, own_fields, later_fields, fits, nothing, what_of}
+use Rattle.script_text.specs.Table.{word_at, row_fields, last_of, own_fields, later_fields, fits, nothing}
+use Rattle.script_text.specs.Commands.{what_of}
 use Rattle.script_text.specs.Readings.{◌>>=◌, refuse, number_at, each_at, colours_at, colours_set_at, text_at, value_at, key_at, pair_at, digits_at, object_at}
 
 -- what is given after the fields of one kind
@@ -85,7 +86,7 @@ worded_at known client (Some word) args = what_at known client word args
 -- what the fields behind a client's name ask for
 unfoldable pub asked_at : Known → ℕ → List (List ℕ) → Result What Reason
 asked_at known client [] = Err reasons.UnknownCommand
-asked_at known client (field ∷ args) = worded_at known client (word_at field) args
+asked_at known client (field ∷ args) = worded_at known client (word_at known.script.version field) args
 
 -- the client that a command line names
 unfoldable pub caller_at : Known → List ℕ → Result ℕ Reason

@@ -1,5 +1,5 @@
 -- What holds of the numbers in a script: each names something, and the shape keeps its limits.
-use Rattle.std.specs.Prelude.{◌≡◌, Bool, IsTrue, ℕ, ◌+◌, ◌*◌, ◌<◌, ◌≤◌, ◌^◌, List, ◌∷◌, length, Some, slice_get}
+use Rattle.std.specs.Prelude.{◌≡◌, Bool, IsTrue, ℕ, ◌+◌, ◌*◌, ◌<◌, ◌≤◌, ◌^◌, List, [], ◌∷◌, length, Some, slice_get}
 use Rattle.std.specs.List.{All}
 use Rattle.log_node.specs.declared.node.Shape.{Shape}
 use Rattle.log_node.specs.declared.ids.Colours.{Colours}
@@ -8,31 +8,32 @@ use Rattle.log_node.specs.Sets.{members}
 use Rattle.script_text.specs.declared.script.Kind.{Kind}
 use Rattle.script_text.specs.declared.script.Kind.TheVariants as kinds
 use Rattle.script_text.specs.declared.script.Object.{Object}
-use Rattle.script_text.specs.declared.script.What.{What}
-use Rattle.script_text.specs.declared.script.What.TheVariants as whats
+use Rattle.script_text.specs.declared.commands.What.{What}
+use Rattle.script_text.specs.declared.commands.What.TheVariants as whats
 use Rattle.script_text.specs.declared.script.Command.{Command}
 use Rattle.script_text.specs.declared.script.Script.{Script}
-use Rattle.script_text.specs.declared.limits.TheConstants.{VERSION_1}
+use Rattle.script_text.specs.declared.limits.Limits.{Limits}
 use Rattle.script_text.specs.declared.table.Field.{Field}
 use Rattle.script_text.specs.declared.table.Field.TheVariants as fields
 use Rattle.script_text.specs.declared.table.Kinds.{Kinds}
 use Rattle.script_text.specs.declared.table.TheConstants.{NONE, MAP, ANY_MAP, TX, QUEUE}
-use Rattle.script_text.specs.Words.{word_of}
+use Rattle.script_text.specs.Contents.{Said, SaysKey, SaysValue, SaysPair, SaysKeys, SaysPairs}
+use Rattle.script_text.specs.Commands.{word_of, use_of, content_of}
 use Rattle.script_text.specs.Table.{row_fields, is_of}
 use Rattle.script_text.specs.declared.uses.Use.{Use}
 use Rattle.script_text.specs.declared.uses.Use.TheVariants.{OfLog, OfObject}
-use Rattle.script_text.specs.Uses.{use_of}
 use Rattle.script_text.specs.Pieces.{is_key}
+use Rattle.script_text.specs.Versions.{is_version, limits_in}
 use Rattle.script_text.specs.Grammar.{are_keys, are_pairs}
 
--- a region, a colour and a client at least, and no more than the version allows; each client is in a region
-pub record IsShape (shape : Shape) : Type 0 where
+-- a region, a colour and a client at least, and no more than these limits allow; each client is in a region
+pub record IsShape (limits : Limits) (shape : Shape) : Type 0 where
   pub a_region : 0 < shape.regions
-  pub few_regions : shape.regions ≤ VERSION_1.regions
+  pub few_regions : shape.regions ≤ limits.regions
   pub a_colour : 0 < shape.colours
-  pub few_colours : shape.colours ≤ VERSION_1.colours
+  pub few_colours : shape.colours ≤ limits.colours
   pub a_client : 0 < length shape.homes
-  pub few_clients : length shape.homes ≤ VERSION_1.clients
+  pub few_clients : length shape.homes ≤ limits.clients
   pub homes : All (λ home. home < shape.regions) shape.homes
 
 -- the colours of a set are below this number
@@ -99,17 +100,25 @@ kinds_first _ = NONE
 abbrev pub kinds_asked : What → Kinds
 kinds_asked what = kinds_first (row_fields (word_of what))
 
+-- how many keys or pairs a command may have, by the fields behind its word
+abbrev pub most_keys : List Field → ℕ
+most_keys [] = 0
+most_keys (fields.Keys most ∷ _) = most
+most_keys (fields.Pairs most ∷ _) = most
+most_keys (_ ∷ later) = most_keys later
+
+-- keys and values may be such, and of several keys there are at most so many
+abbrev pub AreWords : ℕ → Said → Type 0
+AreWords most (SaysKey key) = IsTrue (is_key key)
+AreWords most (SaysValue value) = IsTrue (is_key value)
+AreWords most (SaysPair key value) = IsTrue (is_key key) × IsTrue (is_key value)
+AreWords most (SaysKeys keys) = IsTrue (are_keys most keys)
+AreWords most (SaysPairs pairs) = IsTrue (are_pairs most pairs)
+AreWords most _ = Unit {0}
+
 -- the keys and values of a command may be
 abbrev pub HasWords : What → Type 0
-HasWords (whats.Put object key value) = IsTrue (is_key key) × IsTrue (is_key value)
-HasWords (whats.Get object key) = IsTrue (is_key key)
-HasWords (whats.Del object key) = IsTrue (is_key key)
-HasWords (whats.PutAll object pairs) = IsTrue (are_pairs 4 pairs)
-HasWords (whats.GetAll object keys) = IsTrue (are_keys 4 keys)
-HasWords (whats.Read object keys) = IsTrue (are_keys 2 keys)
-HasWords (whats.Commit object pairs) = IsTrue (are_pairs 2 pairs)
-HasWords (whats.Enq object value) = IsTrue (is_key value)
-HasWords _ = Unit {0}
+HasWords what = AreWords (most_keys (row_fields (word_of what))) (content_of what)
 
 -- a command of an object names one of a kind that has the command
 abbrev pub UsesOne : List Object → What → Use → Type 0
@@ -120,9 +129,10 @@ UsesOne objects what (OfObject object read) = HasObject objects object (is_of (k
 abbrev pub UsesObject : List Object → What → Type 0
 UsesObject objects what = UsesOne objects what (use_of what)
 
--- the shape keeps its limits, there is a name for each of its numbers, and each number in the script names something
+-- there is its version, the shape keeps that version's limits, there is a name for each of its numbers, and each number in the script names something
 pub record IsFitting (script : Script) : Type 0 where
-  pub shape : IsShape script.shape
+  pub version : IsTrue (is_version script.version)
+  pub shape : IsShape (limits_in script.version) script.shape
   pub regions : length script.regions ≡ script.shape.regions
   pub colours : length script.colours ≡ script.shape.colours
   pub clients : length script.clients ≡ length script.shape.homes

@@ -1,9 +1,10 @@
 -- What the lines of a script say one by one, and what they say together.
 use Rattle.std.specs.Prelude.{Bool, true, false, ℕ, ◌==◌, not, ◌&&◌, ◌||◌, List, [], ◌∷◌, length, map, Option, Some, None, codes, if◌then◌else◌}
+use Rattle.std.specs.Option.{is_some}
 use Rattle.std.specs.List.{filter_map, list_any, fold, last_or}
 use Rattle.script_text.specs.declared.script.Object.{Object}
 use Rattle.script_text.specs.declared.script.Command.{Command}
-use Rattle.script_text.specs.declared.script.What.{What}
+use Rattle.script_text.specs.declared.commands.What.{What}
 use Rattle.script_text.specs.declared.script.Script.{Script}
 use Rattle.script_text.specs.declared.uses.ReadUse.TheVariants.{Takes, UsesUp}
 use Rattle.script_text.specs.declared.uses.Use.{Use}
@@ -15,12 +16,14 @@ use Rattle.script_text.specs.declared.item.Stage.TheVariants as stages
 use Rattle.script_text.specs.declared.limits.Limits.{Limits}
 use Rattle.script_text.specs.declared.limits.TheConstants.{VERSION_1}
 use Rattle.script_text.specs.Pieces.{is_among}
-use Rattle.script_text.specs.Uses.{use_of}
+use Rattle.script_text.specs.Table.{sort_at}
+use Rattle.script_text.specs.Versions.{limits_in}
+use Rattle.script_text.specs.Commands.{use_of}
 
 -- what lines end with whose last item is this
 abbrev pub stage_after : Option Item → Stage
 stage_after None = stages.Nothing
-stage_after (Some items.Version) = stages.Version
+stage_after (Some (items.Version _)) = stages.Version
 stage_after (Some (items.Regions _)) = stages.Regions
 stage_after (Some (items.Colours _)) = stages.Colours
 stage_after (Some (items.Rows _)) = stages.Rows
@@ -33,20 +36,26 @@ stage_after (Some (items.Asks _)) = stages.Commands
 abbrev pub stage_of : List Item → Stage
 stage_of before = stage_after (last_or None before)
 
--- which words a header line may begin with
+-- which words a header line may begin with, but for those of objects
 abbrev pub header_words : Stage → List (List ℕ)
 header_words stages.Nothing = codes "fuzzylog" ∷ []
 header_words stages.Version = codes "regions" ∷ []
 header_words stages.Regions = codes "colours" ∷ []
 header_words stages.Colours = codes "rows" ∷ codes "client" ∷ []
 header_words stages.Rows = codes "client" ∷ []
-header_words stages.Clients = codes "client" ∷ codes "map" ∷ codes "tx" ∷ codes "causal" ∷ codes "queue" ∷ codes "begin" ∷ []
-header_words stages.Objects = codes "map" ∷ codes "tx" ∷ codes "causal" ∷ codes "queue" ∷ codes "begin" ∷ []
+header_words stages.Clients = codes "client" ∷ codes "begin" ∷ []
+header_words stages.Objects = codes "begin" ∷ []
 header_words stages.Commands = []
 
--- the word may begin a header line here
-abbrev pub may_come : List Item → List ℕ → Bool
-may_come before word = is_among (header_words (stage_of before)) word
+-- whether objects may be declared
+abbrev pub may_declare : Stage → Bool
+may_declare stages.Clients = true
+may_declare stages.Objects = true
+may_declare _ = false
+
+-- the word may begin a header line: it is one of those, or that of an object's line which the version has
+abbrev pub may_begin : ℕ → Stage → List ℕ → Bool
+may_begin version stage word = is_among (header_words stage) word || (may_declare stage && is_some (sort_at version word))
 
 -- the header has ended
 abbrev pub is_begun : Stage → Bool
@@ -56,6 +65,11 @@ is_begun _ = false
 -- the same of the lines so far
 abbrev pub has_begun : List Item → Bool
 has_begun before = is_begun (stage_of before)
+
+-- the version, if the line names it
+abbrev pub version_in : Item → Option ℕ
+version_in (items.Version version) = Some version
+version_in _ = None
 
 -- the names of the regions, if the line says them
 abbrev pub regions_in : Item → Option (List (List ℕ))
@@ -67,8 +81,9 @@ abbrev pub colours_in : Item → Option (List (List ℕ))
 colours_in (items.Colours names) = Some names
 colours_in _ = None
 
--- the number of rows, if the line says it
+-- the number of rows, if the line says it, or names the version, which has a number for where none is said
 abbrev pub rows_in : Item → Option ℕ
+rows_in (items.Version version) = Some (limits_in version).unsaid_rows
 rows_in (items.Rows number) = Some number
 rows_in _ = None
 
@@ -100,13 +115,21 @@ region_names before = last_said [] (filter_map regions_in before)
 abbrev pub colour_names : List Item → List (List ℕ)
 colour_names before = last_said [] (filter_map colours_in before)
 
--- the limits of the version that the lines name, of which there is one
+-- the version that the lines name, and 1 before one is named
+abbrev pub version_of : List Item → ℕ
+version_of before = last_said 1 (filter_map version_in before)
+
+-- the word may begin a header line here
+abbrev pub may_come : List Item → List ℕ → Bool
+may_come before word = may_begin (version_of before) (stage_of before) word
+
+-- the limits of that version
 abbrev pub limits_of : List Item → Limits
-limits_of before = VERSION_1
+limits_of before = limits_in (version_of before)
 
 -- how many rows each client has
 abbrev pub row_number : List Item → ℕ
-row_number before = last_said (limits_of before).unsaid_rows (filter_map rows_in before)
+row_number before = last_said VERSION_1.unsaid_rows (filter_map rows_in before)
 
 -- the names of the clients, by number
 abbrev pub client_names : List Item → List (List ℕ)
@@ -131,6 +154,7 @@ commands before = filter_map commands_in before
 -- the script that the items say together
 abbrev pub script_of : List Item → Script
 script_of said = record {
+  version = version_of said;
   shape = record {
     regions = length (region_names said);
     colours = length (colour_names said);

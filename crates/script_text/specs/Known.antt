@@ -3,12 +3,13 @@ use Rattle.std.specs.Prelude.{◌≡◌, false, ◌≤◌, ℕ, List, [], ◌∷
 use Rattle.std.specs.List.{filter_map}
 use Rattle.log_node.specs.declared.limits.TheConstants.{MAX_REGIONS, MAX_COLOURS, MAX_CLIENTS}
 use Rattle.script_text.specs.declared.script.Command.{Command}
-use Rattle.script_text.specs.declared.script.What.{What}
+use Rattle.script_text.specs.declared.commands.What.{What}
 use Rattle.script_text.specs.declared.script.Script.{Script}
 use Rattle.script_text.specs.declared.item.Item.{Item}
 use Rattle.script_text.specs.declared.item.Item.TheVariants as items
 use Rattle.script_text.specs.declared.known.Known.{Known}
 use Rattle.script_text.specs.declared.reads.HeldRead.{HeldRead}
+use Rattle.script_text.specs.Versions.{limits_in}
 use Rattle.script_text.specs.Items.{stage_of, stage_after, script_of, commands, is_stop}
 use Rattle.script_text.specs.Reads.{reads_after, held_after}
 
@@ -27,7 +28,8 @@ known_of before = record {
 
 -- the script with one more item
 abbrev pub with_item : Script → Item → Script
-with_item script items.Version = script
+with_item script (items.Version version) =
+    record script { version = version; shape = record script.shape { rows = (limits_in version).unsaid_rows } }
 with_item script (items.Regions names) = record script { regions = names; shape = record script.shape { regions = length names } }
 with_item script (items.Colours names) = record script { colours = names; shape = record script.shape { colours = length names } }
 with_item script (items.Rows number) = record script { shape = record script.shape { rows = number } }
@@ -66,8 +68,9 @@ pub record IsPlain (what : What) : Type 0 where
   pub goes-on : is_stop what ≡ false
   pub reads-none : (held : List HeldRead) (client : ℕ) → reads_after held client what ≡ held
 
--- names are few enough for the log, and to be numbered by a byte
+-- there is a version, and names are few enough for the log, and to be numbered by a byte
 pub record IsSmall (known : Known) : Type 0 where
+  pub version : 1 ≤ known.script.version
   pub regions : length known.script.regions ≤ MAX_REGIONS
   pub colours : length known.script.colours ≤ MAX_COLOURS
   pub clients : length known.script.clients ≤ MAX_CLIENTS

@@ -2,8 +2,8 @@
 use Rattle.std.specs.Prelude.{◌≤◌, IsTrue, IsFalse, ℕ, List, Option, Some, None}
 use Rattle.script_text.specs.declared.item.Item.{Item}
 use Rattle.script_text.specs.declared.script.Script.{Script}
-use Rattle.script_text.specs.declared.limits.TheConstants.{VERSION_1}
 use Rattle.script_text.specs.Pieces.{fields_of, is_ascii_line}
+use Rattle.script_text.specs.Versions.{limits_in}
 use Rattle.script_text.specs.Grammar.{is_passed_over, Says, may_follow, IsScript}
 
 -- the line says the item, which may follow
@@ -24,4 +24,4 @@ pub record IsSound (before : List Item) (number : ℕ) (line : List ℕ) : Type 
 
 -- What is read as a script has at most as many rows for each client as its version allows.
 abbrev pub RowsAreWithinLimits : Type 0
-RowsAreWithinLimits = (bytes : List ℕ) (script : Script) → IsScript bytes script → script.shape.rows ≤ VERSION_1.rows
+RowsAreWithinLimits = (bytes : List ℕ) (script : Script) → IsScript bytes script → script.shape.rows ≤ (limits_in script.version).rows

@@ -1,8 +1,7 @@
 -- What a line gives, and what the bytes give line after line.
-use Rattle.std.specs.Prelude.{◌≡◌, ℕ, ◌+◌, ◌==◌, nat_lt, nat_le, true, false, not, ◌&&◌, List, [], ◌∷◌, length, Option, Some, None, Result, Ok, Err, codes, if◌then◌else◌}
+use Rattle.std.specs.Prelude.{◌≡◌, ℕ, ◌+◌, ◌==◌, nat_lt, nat_le, true, false, not, ◌&&◌, List, [], ◌∷◌, length, Option, Some, None, Result, Ok, Err, if◌then◌else◌}
 use Rattle.std.specs.List.{list_any}
-use Rattle.std.specs.Str.{bytes_eq}
-use Rattle.script_text.specs.declared.script.What.{What}
+use Rattle.script_text.specs.declared.commands.What.{What}
 use Rattle.script_text.specs.declared.script.Script.{Script}
 use Rattle.script_text.specs.declared.script.Reason.{Reason}
 use Rattle.script_text.specs.declared.script.Reason.TheVariants as reasons
@@ -14,6 +13,7 @@ use Rattle.script_text.specs.declared.reading.ScriptFault.{ScriptFault}
 use Rattle.script_text.specs.declared.reading.ScriptFault.TheVariants as script_faults
 use Rattle.script_text.specs.declared.limits.TheConstants.{MAX_BYTES, MAX_LINES}
 use Rattle.script_text.specs.Pieces.{lines_of, fields_of, is_ascii_line}
+use Rattle.script_text.specs.Versions.{is_version_line}
 use Rattle.script_text.specs.Items.{is_begun}
 use Rattle.script_text.specs.Grammar.{is_passed_over}
 use Rattle.script_text.specs.Known.{known_with, known_of}
@@ -51,7 +51,7 @@ pub record IsAsked (known : Known) (bytes : List ℕ) (what : What) : Type 0 whe
 -- what a line of ASCII gives; line 1 is the version's
 unfoldable pub line_at : Known → ℕ → List ℕ → Result (Option Item) Reason
 line_at known number line =
-    refuse (not (is_ascii_line line)) reasons.NotAscii (refuse ((number == 1) && not (bytes_eq line (codes "fuzzylog 1"))) reasons.BadVersion (said_at known number line))
+    refuse (not (is_ascii_line line)) reasons.NotAscii (refuse ((number == 1) && not (is_version_line line)) reasons.BadVersion (said_at known number line))
 
 -- a refusal has its line's number
 abbrev pub then_at : {A B : Type 0} → ℕ → Result A Reason → (A → Result B (ℕ × Reason)) → Result B (ℕ × Reason)

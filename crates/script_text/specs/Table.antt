@@ -2,21 +2,20 @@
 use Rattle.std.specs.Prelude.{ℕ, Bool, ◌==◌, nat_le, ◌&&◌, List, [], ◌∷◌, length, take, drop, Option, Some, None}
 use Rattle.std.specs.List.{find}
 use Rattle.std.specs.Str.{bytes_eq}
-use Rattle.script_text.specs.declared.script.Word.{Word}
-use Rattle.script_text.specs.declared.script.Word.TheVariants as words
-use Rattle.script_text.specs.declared.script.What.{What}
-use Rattle.script_text.specs.declared.script.What.TheVariants as whats
+use Rattle.script_text.specs.declared.commands.Word.{Word}
 use Rattle.script_text.specs.declared.script.Kind.{Kind}
 use Rattle.script_text.specs.declared.script.Kind.TheVariants as kinds
 use Rattle.script_text.specs.declared.table.Field.{Field}
 use Rattle.script_text.specs.declared.table.Field.TheVariants as fields
 use Rattle.script_text.specs.declared.table.Kinds.{Kinds}
 use Rattle.script_text.specs.declared.table.Last.{Last}
-use Rattle.script_text.specs.declared.table.TheConstants.{WORDS, MAP_LINE, TX_LINE, CAUSAL_LINE, QUEUE_LINE, SORTS}
+use Rattle.script_text.specs.declared.commands.TheConstants.{WORDS}
+use Rattle.script_text.specs.declared.table.TheConstants.{MAP_LINE, TX_LINE, CAUSAL_LINE, QUEUE_LINE, SORTS}
 use Rattle.script_text.specs.declared.table.Sort.{Sort}
 use Rattle.script_text.specs.declared.table.Sort.TheVariants as sorts
 use Rattle.script_text.specs.declared.given.Given.{Given}
-use Rattle.script_text.specs.Words.{row_of, word_text}
+use Rattle.script_text.specs.Commands.{row_of}
+use Rattle.script_text.specs.Words.{word_text}
 
 -- the fields behind a word
 abbrev pub row_fields : Word → List Field
@@ -26,9 +25,17 @@ row_fields word = (row_of word).2.now
 abbrev pub last_of : Word → Last
 last_of word = (row_of word).3
 
--- the command with this word
-abbrev pub word_at : List ℕ → Option Word
-word_at field = find (λ word. bytes_eq field (word_text word)) WORDS
+-- the first version that has the word
+abbrev pub since_of : Word → ℕ
+since_of word = (row_of word).4
+
+-- the version has the word
+abbrev pub has_word : ℕ → Word → Bool
+has_word version word = nat_le (since_of word) version
+
+-- the command with this word, in this version
+abbrev pub word_at : ℕ → List ℕ → Option Word
+word_at version field = find (λ word. bytes_eq field (word_text word) && has_word version word) WORDS
 
 -- the kinds of object that have a command
 abbrev pub is_of : Kinds → Kind → Bool
@@ -102,29 +109,11 @@ nothing = record {
   order = [];
 }
 
--- what a command asks for, by what its fields give
-abbrev pub what_of : Word → Given → What
-what_of words.Append g = whats.Append g.colours g.text
-what_of words.Stop g = whats.Stop g.number g.colours g.text
-what_of words.Sync g = whats.Sync g.colour
-what_of words.Scan g = whats.Scan g.colours
-what_of words.Pull g = whats.Pull g.region g.colour
-what_of words.Trim g = whats.Trim g.colour
-what_of words.Put g = whats.Put g.object g.key g.value
-what_of words.Get g = whats.Get g.object g.key
-what_of words.Del g = whats.Del g.object g.key
-what_of words.PutAll g = whats.PutAll g.object g.pairs
-what_of words.GetAll g = whats.GetAll g.object g.keys
-what_of words.Read g = whats.Read g.object g.keys
-what_of words.Commit g = whats.Commit g.object g.pairs
-what_of words.Enq g = whats.Enq g.object g.value
-what_of words.Deq g = whats.Deq g.object
-
 -- ---- the lines of objects
 
--- the word of an object's line, and the fields after the object's name
+-- the word of an object's line, the fields after the object's name, and the first version that has the line
 abbrev pub SortRow : Type 0
-SortRow = (record { now : List ℕ }) × (record { now : List Field })
+SortRow = (record { now : List ℕ }) × (record { now : List Field }) × ℕ
 
 -- the row of each sort of object
 abbrev pub sort_row : Sort → SortRow
@@ -141,9 +130,17 @@ sort_text sort = (sort_row sort).0.now
 abbrev pub sort_fields : Sort → List Field
 sort_fields sort = (sort_row sort).1.now
 
--- what a line with this word declares
-abbrev pub sort_at : List ℕ → Option Sort
-sort_at word = find (λ sort. bytes_eq word (sort_text sort)) SORTS
+-- the first version that has the line
+abbrev pub sort_since : Sort → ℕ
+sort_since sort = (sort_row sort).2
+
+-- the version has the line
+abbrev pub has_sort : ℕ → Sort → Bool
+has_sort version sort = nat_le (sort_since sort) version
+
+-- what a line with this word declares, in this version
+abbrev pub sort_at : ℕ → List ℕ → Option Sort
+sort_at version word = find (λ sort. bytes_eq word (sort_text sort) && has_sort version sort) SORTS
 
 -- the sort of an object
 abbrev pub sort_of : Kind → Sort

@@ -6,13 +6,14 @@ ghost use Rattle.script_text.specs.Known.{IsSmall};
 ghost use Rattle.script_text.specs.Readings.{Gives, Takes, fields_in};
 ghost use Rattle.script_text.specs.CommandReadings.{ended_well, what_at, worded_at, asked_at, caller_at, command_at};
 
+use crate::commands::{What, Word};
 use crate::fault::Fault;
 use crate::given::Given;
 use crate::item::Item;
 use crate::known::Known;
 use crate::names::number_at;
 use crate::reads::HeldRead;
-use crate::script::{Command, Reason, What, Word};
+use crate::script::{Command, Reason};
 use crate::table::{Last, fits};
 use std::alloc::Global;
 
@@ -54,7 +55,7 @@ fn by_row(
     requires { IsSmall known.now }
     ensures { Gives result (what_at known.now client word (fields_in args.now)) }
 {
-    let (_, _, fields, last) = word.row();
+    let (_, _, fields, last, _) = word.row();
     if !fits(fields, args) {
         return Err(Fault::Refused(Reason::BadForm));
     }
@@ -70,7 +71,7 @@ fn asked(alloc: Global, known: &Known, client: u8, fields: &[&[u8]]) -> Result<W
 {
     match fields {
         [] => Err(Fault::Refused(Reason::UnknownCommand)),
-        [field, args @ ..] => match Word::of_bytes(field) {
+        [field, args @ ..] => match Word::of_bytes(known.script.version, field) {
             Some(word) => by_row(alloc, known, client, word, args),
             None => Err(Fault::Refused(Reason::UnknownCommand)),
         },

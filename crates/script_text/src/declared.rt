@@ -10,7 +10,7 @@ use crate::fault::Fault;
 use crate::given::Given;
 use crate::item::Item;
 use crate::known::Known;
-use crate::limits::VERSION_1;
+use crate::limits::limits_in;
 use crate::pieces::is_name;
 use crate::script::{Object, Reason};
 use crate::table::{Sort, fits};
@@ -28,7 +28,7 @@ fn is_object(objects: &[Object], name: &[u8]) -> bool
 fn object_name(alloc: Global, known: &Known, field: &[u8]) -> Result<Text, Fault>
     ensures { Gives result (object_name_at known.now field.now) }
 {
-    if known.script.objects.len() >= VERSION_1.objects {
+    if known.script.objects.len() >= limits_in(known.script.version).objects {
         return Err(Fault::Refused(Reason::BadForm));
     }
     if !is_name(field) {
@@ -49,8 +49,12 @@ fn sorted(alloc: Global, known: &Known, sort: Sort, args: &[&[u8]]) -> Result<It
     let [field, args @ ..] = args else {
         return Err(Fault::Refused(Reason::BadForm));
     };
-    let (_, fields) = sort.row();
+    let (_, fields, _) = sort.row();
     if !fits(fields, args) {
+        return Err(Fault::Refused(Reason::BadForm));
+    }
+    // One field more than there may be colours: the home's.
+    if args.len() > limits_in(known.script.version).colours + 1 {
         return Err(Fault::Refused(Reason::BadForm));
     }
     let name = object_name(alloc, known, field)?;
@@ -70,9 +74,9 @@ pub fn declared_line(
     args: &[&[u8]],
 ) -> Result<Item, Fault>
     requires { IsSmall known.now }
-    ensures { Gives result (declared_at known.now (sort_at word.now) (fields_in args.now)) }
+    ensures { Gives result (declared_at known.now (sort_at known.now.script.version word.now) (fields_in args.now)) }
 {
-    match Sort::of_bytes(word) {
+    match Sort::of_bytes(known.script.version, word) {
         Some(sort) => sorted(alloc, known, sort, args),
         None => Err(Fault::Refused(Reason::BadHeader)),
     }

@@ -11,12 +11,13 @@ ghost use Rattle.script_text.specs.CommandReadings.{append_at, pull_at, sync_at,
 ghost use Rattle.script_text.specs.LineReadings.{IsWellCut, IsAsked, line_at};
 
 use crate::command::caller;
+use crate::commands::{What, Word};
 use crate::item::Stage;
 use crate::known::Known;
 use crate::line::is_passed_over;
 use crate::names::colour_set;
 use crate::pieces::{behind, is_text, visible_front};
-use crate::script::{Command, What, Word};
+use crate::script::Command;
 use log_node::Text;
 use std::alloc::{AllocError, Global};
 

@@ -1,9 +1,8 @@
 // What the fields after a command's word give.
 ghost use Rattle.std.specs.Prelude.{◌≡◌, ◌≤◌, IfOk};
 ghost use Rattle.log_node.specs.declared.limits.TheConstants.{MAX_COLOURS};
-ghost use Rattle.script_text.specs.declared.script.Word.TheVariants as words;
 ghost use Rattle.script_text.specs.Known.{IsSmall};
-ghost use Rattle.script_text.specs.Table.{nothing, what_of, kind_of};
+ghost use Rattle.script_text.specs.Table.{nothing, kind_of};
 ghost use Rattle.script_text.specs.Readings.{Gives, Takes, fields_in};
 ghost use Rattle.script_text.specs.Pieces.{first_in};
 ghost use Rattle.script_text.specs.CommandReadings.{taken_at, given_at};
@@ -13,7 +12,7 @@ use crate::keys::{key_at, keys_at, pairs_at, steps_at, value_at};
 use crate::known::Known;
 use crate::names::{colour_numbers, colour_set, text_at};
 use crate::objects::object_at;
-use crate::script::{Kind, What, Word};
+use crate::script::Kind;
 use crate::table::{Field, Sort};
 use log_node::{ColourList, Colours, Keys, ListOf, Pairs, Text};
 use std::alloc::Global;
@@ -142,73 +141,6 @@ impl Given {
         let mut given = Given::new(alloc);
         given.take_all(alloc, known, fields, args)?;
         Ok(given)
-    }
-
-    /// What a command asks for, by what its fields gave.
-    pub fn into_what(self, word: Word) -> What
-        requires { word ≡ words.Stop → self.number ≤ 255 }
-        ensures { result ≡ what_of word self }
-    {
-        let given = self;
-        let object = given.object;
-        match word {
-            Word::Append => What::Append {
-                colours: given.colours,
-                text: given.text,
-            },
-            Word::Stop => What::Stop {
-                steps: given.number as u8,
-                colours: given.colours,
-                text: given.text,
-            },
-            Word::Sync => What::Sync {
-                colour: given.colour,
-            },
-            Word::Scan => What::Scan {
-                colours: given.colours,
-            },
-            Word::Pull => What::Pull {
-                region: given.region,
-                colour: given.colour,
-            },
-            Word::Trim => What::Trim {
-                colour: given.colour,
-            },
-            Word::Put => What::Put {
-                object,
-                key: given.key,
-                value: given.value,
-            },
-            Word::Get => What::Get {
-                object,
-                key: given.key,
-            },
-            Word::Del => What::Del {
-                object,
-                key: given.key,
-            },
-            Word::PutAll => What::PutAll {
-                object,
-                pairs: given.pairs,
-            },
-            Word::GetAll => What::GetAll {
-                object,
-                keys: given.keys,
-            },
-            Word::Read => What::Read {
-                object,
-                keys: given.keys,
-            },
-            Word::Commit => What::Commit {
-                object,
-                pairs: given.pairs,
-            },
-            Word::Enq => What::Enq {
-                object,
-                value: given.value,
-            },
-            Word::Deq => What::Deq { object },
-        }
     }
 
     /// What an object is, by what the fields after its name gave.

@@ -5,7 +5,7 @@ use log_node::{Names, Text};
 /// What one line says that is not passed over.
 #[derive(Drop)]
 pub enum Item {
-    Version,
+    Version { version: u8 },
     Regions { names: Names },
     Colours { names: Names },
     Rows { number: u32 },

@@ -5,12 +5,13 @@ ghost use Rattle.script_text.specs.declared.item.Item.TheVariants.{Asks};
 ghost use Rattle.script_text.specs.Known.{known_of, known_after, known_with, IsSmall, IsPlain};
 ghost use Rattle.script_text.specs.Readings.{Gives, number_at};
 
+use crate::commands::What;
 use crate::fault::Fault;
 use crate::item::{Item, Stage};
-use crate::limits::VERSION_1;
+use crate::limits::{VERSION_1, limits_in};
 use crate::names::number_at;
 use crate::reads::HeldReads;
-use crate::script::{Command, Reason, Script, What};
+use crate::script::{Command, Reason, Script};
 use log_node::{ListOf, Shape};
 use std::alloc::{AllocError, Global};
 
@@ -33,6 +34,7 @@ impl Known {
         Ok(Known {
             stage: Stage::Nothing,
             script: Script {
+                version: 1,
                 shape: Shape {
                     regions: 0,
                     colours: 0,
@@ -72,7 +74,11 @@ impl Known {
         ensures { OnOk result (self.new ≡ known_after self.old item) }
     {
         match item {
-            Item::Version => self.stage = Stage::Version,
+            Item::Version { version } => {
+                self.stage = Stage::Version;
+                self.script.version = version;
+                self.script.shape.rows = limits_in(version).unsaid_rows;
+            }
             Item::Regions { names } => {
                 self.stage = Stage::Regions;
                 self.script.shape.regions = names.len() as u8;

@@ -1,4 +1,6 @@
 // How large a script may be, and what is in it.
+ghost use Rattle.std.specs.Prelude.{◌≡◌};
+ghost use Rattle.script_text.specs.Versions.{limits_in, AreWithin};
 
 /// What differs between the versions of a script's text: the most names of each kind, the most rows that a client may
 /// be given, and how many it has where the script does not say.
@@ -21,6 +23,24 @@ pub const VERSION_1: Limits = Limits {
     rows: 4096,
     unsaid_rows: 4096,
 };
+
+/// The limits of version 2.
+pub const VERSION_2: Limits = Limits {
+    regions: 4,
+    colours: 64,
+    clients: 64,
+    objects: 64,
+    rows: 1024,
+    unsaid_rows: 256,
+};
+
+/// The limits of a version.
+pub fn limits_in(version: u8) -> Limits
+    ensures limits { result ≡ limits_in version }
+    ensures within { AreWithin result }
+{
+    if version == 2 { VERSION_2 } else { VERSION_1 }
+}
 
 /// The most bytes that a script may have.
 pub const MAX_BYTES: usize = 1_048_576;

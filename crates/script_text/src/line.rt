@@ -1,6 +1,7 @@
 // A line of a script, and what its fields say.
 ghost use Rattle.std.specs.Prelude.{◌≡◌, ◌==◌, false, length};
 ghost use Rattle.std.specs.List.{list_any};
+ghost use Rattle.script_text.specs.Versions.{is_version_line};
 ghost use Rattle.script_text.specs.Grammar.{is_passed_over};
 ghost use Rattle.script_text.specs.Known.{IsSmall};
 ghost use Rattle.script_text.specs.Readings.{Gives, fields_in};
@@ -27,6 +28,13 @@ pub fn is_passed_over(number: u32, line: &[u8]) -> bool
         [] => true,
         [first, ..] => *first == b'#',
     }
+}
+
+/// A line that names a version, as line 1 has to.
+fn is_version_line(line: &[u8]) -> bool
+    ensures { result ≡ is_version_line line.now }
+{
+    line == b"fuzzylog 1".as_slice() || line == b"fuzzylog 2".as_slice()
 }
 
 fn has_empty(fields: &[&[u8]]) -> bool
@@ -73,7 +81,7 @@ fn said_line(alloc: Global, known: &Known, number: u32, line: &[u8]) -> Result<O
     if !cut_line(&mut fields, line)? {
         return Err(Fault::Refused(Reason::NotAscii));
     }
-    if number == 1 && line != b"fuzzylog 1".as_slice() {
+    if number == 1 && !is_version_line(line) {
         return Err(Fault::Refused(Reason::BadVersion));
     }
     let item = full_item_of(alloc, known, number, fields.as_slice())?;

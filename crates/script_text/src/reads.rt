@@ -2,7 +2,7 @@
 ghost use Rattle.std.specs.Prelude.{◌≡◌, [], OnOk};
 ghost use Rattle.script_text.specs.Reads.{same_read, holds, with_read, without_read, reads_after};
 
-use crate::script::What;
+use crate::commands::What;
 use crate::uses::{ReadUse, Use};
 use std::alloc::{AllocError, Global};
 use std::marker::Model;

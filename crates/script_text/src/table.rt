@@ -1,15 +1,12 @@
-// The table of commands: for each word one row.
-//
-// A new command without an object is a variant of `What` and of `Word`, a row here and its place in `WORDS`, and its line in
-// `row_of`, `what_of`, `word_of` and `use_of`; the checker names each of these. A new kind of field has its line in `Spells`,
-// `kind_tests`, `taken_at` and `Given::take`.
+// What the rows of commands and of objects' lines are made of: kinds of object, kinds of field, and what is tested then. The rows of commands
+// stand in `commands.rt`. A new kind of field has its line in `Spells`, `kind_tests`, `taken_at` and `Given::take`.
 ghost use Rattle.std.specs.Prelude.{◌≡◌, ◌≤◌, length};
-ghost use Rattle.script_text.specs.Table.{sort_text, sort_fields, sort_at, row_fields, last_of, word_at, at_most, own_fields, later_fields, has, fits};
-ghost use Rattle.script_text.specs.Words.{word_text, word_of};
+ghost use Rattle.script_text.specs.Table.{sort_text, sort_fields, sort_since, has_sort, sort_at, has_word, word_at, at_most, own_fields, later_fields, has, fits};
+ghost use Rattle.script_text.specs.Words.{word_text};
 ghost use Rattle.script_text.specs.Readings.{fields_in};
 
-use crate::limits::VERSION_1;
-use crate::script::{What, Word};
+use crate::commands::{WORDS, Word};
+use crate::limits::VERSION_2;
 
 /// The kinds of object that have a command.
 #[derive(Clone, Copy, Debug, PartialEq, Eq)]
@@ -51,8 +48,8 @@ pub enum Last {
     ReadHeld,
 }
 
-/// A word, its text, the fields after it from left to right, and what is tested then.
-pub type Row = (Word, &'static [u8], &'static [Field], Last);
+/// A word, its text, the fields after it from left to right, what is tested then, and the first version that has the word.
+pub type Row = (Word, &'static [u8], &'static [Field], Last, u8);
 
 pub const NONE: Kinds = Kinds {
     map: false,
@@ -75,129 +72,7 @@ pub const QUEUE: Kinds = Kinds {
     ..NONE
 };
 
-const OF_ANY_MAP: Field = Field::Object { kinds: ANY_MAP };
-
-const OF_MAP: Field = Field::Object { kinds: MAP };
-
-const OF_TX: Field = Field::Object { kinds: TX };
-
-const OF_QUEUE: Field = Field::Object { kinds: QUEUE };
-
-pub const APPEND: Row = (
-    Word::Append,
-    b"append",
-    &[Field::Cols, Field::Text],
-    Last::Nothing,
-);
-
-pub const STOP: Row = (
-    Word::Stop,
-    b"stop",
-    &[Field::Steps, Field::Cols, Field::Text],
-    Last::StopFits,
-);
-
-pub const SYNC: Row = (Word::Sync, b"sync", &[Field::Colour], Last::Nothing);
-
-pub const SCAN: Row = (Word::Scan, b"scan", &[Field::Cols], Last::Nothing);
-
-pub const PULL: Row = (
-    Word::Pull,
-    b"pull",
-    &[Field::Region, Field::Colour],
-    Last::Nothing,
-);
-
-pub const TRIM: Row = (Word::Trim, b"trim", &[Field::Colour], Last::Nothing);
-
-pub const PUT: Row = (
-    Word::Put,
-    b"put",
-    &[OF_ANY_MAP, Field::Key, Field::Value],
-    Last::Nothing,
-);
-
-pub const GET: Row = (Word::Get, b"get", &[OF_ANY_MAP, Field::Key], Last::Nothing);
-
-pub const DEL: Row = (Word::Del, b"del", &[OF_MAP, Field::Key], Last::Nothing);
-
-pub const PUTALL: Row = (
-    Word::PutAll,
-    b"putall",
-    &[OF_MAP, Field::Pairs { most: 4 }],
-    Last::Nothing,
-);
-
-pub const GETALL: Row = (
-    Word::GetAll,
-    b"getall",
-    &[OF_MAP, Field::Keys { most: 4 }],
-    Last::Nothing,
-);
-
-pub const READ: Row = (
-    Word::Read,
-    b"read",
-    &[OF_TX, Field::Keys { most: 2 }],
-    Last::Nothing,
-);
-
-pub const COMMIT: Row = (
-    Word::Commit,
-    b"commit",
-    &[OF_TX, Field::Pairs { most: 2 }],
-    Last::ReadHeld,
-);
-
-pub const ENQ: Row = (Word::Enq, b"enq", &[OF_QUEUE, Field::Value], Last::Nothing);
-
-pub const DEQ: Row = (Word::Deq, b"deq", &[OF_QUEUE], Last::Nothing);
-
-/// All words.
-pub const WORDS: [Word; 15] = [
-    Word::Append,
-    Word::Stop,
-    Word::Sync,
-    Word::Scan,
-    Word::Pull,
-    Word::Trim,
-    Word::Put,
-    Word::Get,
-    Word::Del,
-    Word::PutAll,
-    Word::GetAll,
-    Word::Read,
-    Word::Commit,
-    Word::Enq,
-    Word::Deq,
-];
-
 impl Word {
-    /// The word's row.
-    pub fn row(self) -> Row
-        ensures text { result.1.now ≡ word_text self }
-        ensures fields { result.2.now ≡ row_fields self }
-        ensures last { result.3 ≡ last_of self }
-    {
-        match self {
-            Word::Append => APPEND,
-            Word::Stop => STOP,
-            Word::Sync => SYNC,
-            Word::Scan => SCAN,
-            Word::Pull => PULL,
-            Word::Trim => TRIM,
-            Word::Put => PUT,
-            Word::Get => GET,
-            Word::Del => DEL,
-            Word::PutAll => PUTALL,
-            Word::GetAll => GETALL,
-            Word::Read => READ,
-            Word::Commit => COMMIT,
-            Word::Enq => ENQ,
-            Word::Deq => DEQ,
-        }
-    }
-
     /// The word itself.
     pub fn as_bytes(self) -> &'static [u8]
         ensures { result.now ≡ word_text self }
@@ -205,11 +80,21 @@ impl Word {
         self.row().1
     }
 
-    /// The command with this word.
-    pub fn of_bytes(field: &[u8]) -> Option<Word>
-        ensures { result ≡ word_at field.now }
+    /// Whether this version has the word.
+    fn is_in(self, version: u8) -> bool
+        ensures { result ≡ has_word version self }
     {
-        WORDS.iter().copied().find(|word| field == word.as_bytes())
+        self.row().4 <= version
+    }
+
+    /// The command with this word, in this version.
+    pub fn of_bytes(version: u8, field: &[u8]) -> Option<Word>
+        ensures { result ≡ word_at version field.now }
+    {
+        WORDS
+            .iter()
+            .copied()
+            .find(|word| field == word.as_bytes() && word.is_in(version))
     }
 }
 
@@ -222,23 +107,23 @@ pub enum Sort {
     Queue,
 }
 
-/// The word of an object's line, and the fields after the object's name.
-pub type SortRow = (&'static [u8], &'static [Field]);
+/// The word of an object's line, the fields after the object's name, and the first version that has the line.
+pub type SortRow = (&'static [u8], &'static [Field], u8);
 
 const SHARDED: &[Field] = &[
     Field::Region,
     Field::Colours {
-        most: VERSION_1.colours,
+        most: VERSION_2.colours,
     },
 ];
 
-pub const MAP_LINE: SortRow = (b"map", SHARDED);
+pub const MAP_LINE: SortRow = (b"map", SHARDED, 1);
 
-pub const TX_LINE: SortRow = (b"tx", SHARDED);
+pub const TX_LINE: SortRow = (b"tx", SHARDED, 1);
 
-pub const CAUSAL_LINE: SortRow = (b"causal", &[Field::Colour]);
+pub const CAUSAL_LINE: SortRow = (b"causal", &[Field::Colour], 1);
 
-pub const QUEUE_LINE: SortRow = (b"queue", &[Field::Region, Field::Colour]);
+pub const QUEUE_LINE: SortRow = (b"queue", &[Field::Region, Field::Colour], 1);
 
 /// All sorts.
 pub const SORTS: [Sort; 4] = [Sort::Map, Sort::Tx, Sort::Causal, Sort::Queue];
@@ -248,6 +133,7 @@ impl Sort {
     pub fn row(self) -> SortRow
         ensures text { result.0.now ≡ sort_text self }
         ensures fields { result.1.now ≡ sort_fields self }
+        ensures since { result.2 ≡ sort_since self }
     {
         match self {
             Sort::Map => MAP_LINE,
@@ -257,36 +143,21 @@ impl Sort {
         }
     }
 
-    /// The sort of object that a line with this word declares.
-    pub fn of_bytes(field: &[u8]) -> Option<Sort>
-        ensures { result ≡ sort_at field.now }
+    /// Whether this version has such lines.
+    fn is_in(self, version: u8) -> bool
+        ensures { result ≡ has_sort version self }
     {
-        SORTS.iter().copied().find(|sort| field == sort.row().0)
+        self.row().2 <= version
     }
-}
 
-impl What {
-    /// The word by which a script asks for it.
-    pub fn word(&self) -> Word
-        ensures { result ≡ word_of self.now }
+    /// The sort of object that a line with this word declares, in this version.
+    pub fn of_bytes(version: u8, field: &[u8]) -> Option<Sort>
+        ensures { result ≡ sort_at version field.now }
     {
-        match self {
-            What::Append { .. } => Word::Append,
-            What::Stop { .. } => Word::Stop,
-            What::Sync { .. } => Word::Sync,
-            What::Scan { .. } => Word::Scan,
-            What::Pull { .. } => Word::Pull,
-            What::Trim { .. } => Word::Trim,
-            What::Put { .. } => Word::Put,
-            What::Get { .. } => Word::Get,
-            What::Del { .. } => Word::Del,
-            What::PutAll { .. } => Word::PutAll,
-            What::GetAll { .. } => Word::GetAll,
-            What::Read { .. } => Word::Read,
-            What::Commit { .. } => Word::Commit,
-            What::Enq { .. } => Word::Enq,
-            What::Deq { .. } => Word::Deq,
-        }
+        SORTS
+            .iter()
+            .copied()
+            .find(|sort| field == sort.row().0 && sort.is_in(version))
     }
 }
 

@@ -1,8 +1,5 @@
-// What commands have to do with objects, and with the reads that commits may use up: one row for each command.
-ghost use Rattle.std.specs.Prelude.{◌≡◌};
-ghost use Rattle.script_text.specs.Uses.{use_of};
-
-use crate::script::What;
+// What the row of a command tells: of which object it is, which node it appends, and what it says.
+use log_node::{Colours, Pair, Text};
 
 /// What a command does with the read of its object that a commit may use up.
 #[derive(Clone, Copy, Debug, PartialEq, Eq)]
@@ -24,35 +21,29 @@ pub enum Use {
     OfObject { object: u8, read: ReadUse },
 }
 
-impl What {
-    /// What it has to do with an object.
-    pub fn use_of(&self) -> Use
-        ensures { result ≡ use_of self.now }
-    {
-        match self {
-            What::Append { .. } | What::Sync { .. } | What::Scan { .. } => Use::OfLog {
-                stops: false,
-            },
-            What::Pull { .. } | What::Trim { .. } => Use::OfLog { stops: false },
-            What::Stop { .. } => Use::OfLog { stops: true },
-            What::Put { object, .. }
-            | What::Get { object, .. }
-            | What::Del { object, .. }
-            | What::PutAll { object, .. }
-            | What::GetAll { object, .. }
-            | What::Enq { object, .. }
-            | What::Deq { object } => Use::OfObject {
-                object: *object,
-                read: ReadUse::Leaves,
-            },
-            What::Read { object, .. } => Use::OfObject {
-                object: *object,
-                read: ReadUse::Takes,
-            },
-            What::Commit { object, .. } => Use::OfObject {
-                object: *object,
-                read: ReadUse::UsesUp,
-            },
-        }
-    }
+/// Which node a command appends.
+#[derive(Clone, Copy)]
+pub enum NodeOf {
+    /// None.
+    NoNode,
+    /// One of one colour.
+    OneColour,
+    /// One of the colours that it names.
+    Named { colours: Colours },
+    /// One that has several colours, or as many as its object tells.
+    Several,
+}
+
+/// What a command says, beside what it is about: its colours, a region, or its object.
+#[derive(Clone, Copy)]
+pub enum Content<'a> {
+    Nothing,
+    /// A node's text.
+    Text(&'a [u8]),
+    Key(&'a [u8]),
+    Value(&'a [u8]),
+    /// A key and its value.
+    Pair(&'a [u8], &'a [u8]),
+    Keys(&'a [Text]),
+    Pairs(&'a [Pair]),
 }

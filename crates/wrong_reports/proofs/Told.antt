@@ -6,8 +6,8 @@ use Rattle.log_node.specs.declared.node.At.TheVariants.{Event}
 use Rattle.log_node.specs.declared.node.Node.{Node}
 use Rattle.log_node.specs.Sets.{members}
 use Rattle.script_text.specs.declared.script.Command.{Command}
-use Rattle.script_text.specs.declared.script.What.TheVariants as whats
-use Rattle.script_text.specs.declared.script.Word.TheVariants as words
+use Rattle.script_text.specs.declared.commands.What.TheVariants as whats
+use Rattle.script_text.specs.declared.commands.Word.TheVariants as words
 use Rattle.report_text.specs.declared.report.Answer.TheVariants as answers
 use Rattle.report_text.specs.declared.report.PointPiece.{PointPiece}
 use Rattle.report_text.specs.declared.report.ReplyLine.{ReplyLine}

@@ -7,7 +7,7 @@ use Rattle.col_core.specs.Computed.{dated}
 use Rattle.col_core.proofs.CallerLemmas.{cut-is_greatest, cut_unique}
 use Rattle.wrong_reports.specs.Cases.{IsUnlawful}
 use Rattle.wrong_reports.specs.Columns.{single, another_clock, another_line, another_queue, another_cut, another_base}
-use Rattle.wrong_reports.specs.Columns.{another_regions_name, another_colours_name, a_missing_column, single}
+use Rattle.wrong_reports.specs.Columns.{another_regions_name, another_colours_name, a_missing_column, another_version, single}
 use Rattle.wrong_reports.proofs.Tools.{column_at, some_same}
 
 pub clock : IsUnlawful another_clock
@@ -42,3 +42,6 @@ colour_name run =
 
 pub missing : IsUnlawful a_missing_column
 missing run = let s = run.columns.all in cc (s)
+
+pub version : IsUnlawful another_version
+version run = let s = run.version in cc (s)

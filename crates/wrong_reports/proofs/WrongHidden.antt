@@ -14,7 +14,7 @@ use Rattle.log_node.specs.declared.ids.Counts.{Counts}
 use Rattle.log_node.specs.Vectors.{at}
 use Rattle.col_core.specs.Keeping.{Kept, nothing_kept}
 use Rattle.log_node.specs.declared.node.At.TheVariants.{Event}
-use Rattle.script_text.specs.declared.script.What.TheVariants.{Scan}
+use Rattle.script_text.specs.declared.commands.What.TheVariants.{Scan}
 use Rattle.lawful_run.specs.Callers.{caller_of}
 use Rattle.lawful_run.specs.Reads.{RaisesClock, HidesRead, HidesSync, not_played, played}
 use Rattle.lawful_run.specs.Refusals.{FindsNoMemory, nothing, gone, gave, hidden}

@@ -13,7 +13,7 @@ use Rattle.col_core.specs.Cuts.{chain, base}
 use Rattle.col_core.specs.Computed.{dated}
 use Rattle.col_core.specs.Log.{Log, first, places_of}
 use Rattle.col_core.specs.Keeping.{Kept}
-use Rattle.script_text.specs.declared.script.What.TheVariants as whats
+use Rattle.script_text.specs.declared.commands.What.TheVariants as whats
 use Rattle.lawful_run.specs.Callers.{Caller, caller_of}
 use Rattle.lawful_run.specs.Moves.{Pulls, GivesTooLow, kept_after_pull}
 use Rattle.lawful_run.specs.Explains.{Answers}

@@ -16,7 +16,7 @@ use Rattle.col_core.specs.Log.{places_of}
 use Rattle.col_core.specs.Keeping.{Kept}
 use Rattle.lawful_run.specs.Lawful.{LawfulRun}
 use Rattle.wrong_reports.specs.Cases.{IsUnlawful, alone, a, e, x, id, key, counts, empty, enters, column}
-use Rattle.script_text.specs.declared.script.What.TheVariants.{Sync}
+use Rattle.script_text.specs.declared.commands.What.TheVariants.{Sync}
 use Rattle.wrong_reports.specs.Cases.{asks}
 use Rattle.wrong_reports.specs.Naming.{an_append_that_reads, an_append_refused_for_a_trim, a_floor_that_is_forgotten}
 use Rattle.wrong_reports.specs.Naming.{a_raise_that_no_reply_names, a_single_that_no_reply_names, synced_at, trim}

@@ -10,7 +10,7 @@ use Rattle.object_fold.specs.Queues.{front_after}
 use Rattle.col_core.specs.Log.{Log}
 use Rattle.std.specs.Prelude.{Bool, true, false, ◌==◌, slice_index, slice_index_or, if◌then◌else◌}
 use Rattle.object_fold.specs.Nodes.{shard_of}
-use Rattle.script_text.specs.declared.script.What.TheVariants as whats
+use Rattle.script_text.specs.declared.commands.What.TheVariants as whats
 use Rattle.col_core.specs.Keeping.{Kept, with_read}
 use Rattle.col_core.specs.Cuts.{chain}
 use Rattle.col_core.specs.Log.{first}

@@ -18,7 +18,7 @@ use Rattle.col_core.specs.declared.Entry.{Entry}
 use Rattle.col_core.specs.Rows.{BegunRow, AreLawfulRows, FitsRow, FitsRows, IsMarkOf, FitsMarks, node_wants}
 use Rattle.col_core.specs.Log.{places_of}
 use Rattle.col_core.specs.Keeping.{Kept, nothing_kept}
-use Rattle.script_text.specs.declared.script.What.TheVariants.{Append}
+use Rattle.script_text.specs.declared.commands.What.TheVariants.{Append}
 use Rattle.lawful_run.specs.Callers.{caller_of, node_of}
 use Rattle.col_core.specs.Ids.{IsStepOf}
 use Rattle.col_core.specs.Appending.{IsStepWithin}

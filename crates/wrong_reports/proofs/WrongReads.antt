@@ -12,7 +12,7 @@ use Rattle.col_core.specs.Log.{Log}
 use Rattle.col_core.specs.Keeping.{Kept}
 use Rattle.report_text.specs.declared.report.RaisePiece.{RaisePiece}
 use Rattle.report_text.specs.declared.report.SyncPiece.{SyncPiece}
-use Rattle.script_text.specs.declared.script.What.TheVariants.{Scan}
+use Rattle.script_text.specs.declared.commands.What.TheVariants.{Scan}
 use Rattle.lawful_run.specs.Callers.{Caller}
 use Rattle.lawful_run.specs.Reads.{ReadsAt, AreKeysRead, ShowsKey}
 use Rattle.lawful_run.specs.Explains.{Answers}

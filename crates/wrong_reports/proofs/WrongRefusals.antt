@@ -18,7 +18,7 @@ use Rattle.col_core.specs.Computed.{dated}
 use Rattle.col_core.specs.Log.{Log, first, places_of}
 use Rattle.col_core.specs.Keeping.{Kept, nothing_kept, updated}
 use Rattle.script_text.specs.declared.script.Object.{Object}
-use Rattle.script_text.specs.declared.script.What.TheVariants as whats
+use Rattle.script_text.specs.declared.commands.What.TheVariants as whats
 use Rattle.lawful_run.specs.Callers.{Caller, caller_of, node_of}
 use Rattle.lawful_run.specs.Appends.{IsSettledIn}
 use Rattle.lawful_run.specs.Reads.{RaisesClock, HidesRead, HidesSync, HidesSyncs, not_played, played}

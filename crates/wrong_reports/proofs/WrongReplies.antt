@@ -6,7 +6,7 @@ use Rattle.log_node.specs.Vectors.{at}
 use Rattle.col_core.specs.declared.Entry.{Entry}
 use Rattle.col_core.specs.Computed.{dated}
 use Rattle.col_core.proofs.CallerLemmas.{cut-is_greatest, cut_unique}
-use Rattle.script_text.specs.declared.script.What.TheVariants.{Sync}
+use Rattle.script_text.specs.declared.commands.What.TheVariants.{Sync}
 use Rattle.wrong_reports.specs.Cases.{IsUnlawful, asks, a, e, x, empty}
 use Rattle.wrong_reports.specs.Replies.{a_missing_reply, a_wrong_line, a_wrong_word, a_wrong_name}
 use Rattle.wrong_reports.specs.Replies.{another_commands_answer, more_plays_than_nodes, a_look_at_what_is_not_there}

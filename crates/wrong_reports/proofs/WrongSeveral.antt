@@ -17,7 +17,7 @@ use Rattle.wrong_reports.specs.Several.{a_look_before_its_own_settling, its_own_
 use Rattle.wrong_reports.specs.Several.{no_memory_for_what_stands, another_rows_number, a_colour_without_a_point}
 use Rattle.wrong_reports.specs.Several.{stood_before_it_is_settled, stood_before_it_is_decided}
 use Rattle.wrong_reports.specs.Several.{a_row_that_no_command_began, an_append_to_several_that_leaves_the_floor}
-use Rattle.script_text.specs.declared.script.What.TheVariants.{Append}
+use Rattle.script_text.specs.declared.commands.What.TheVariants.{Append}
 use Rattle.log_node.specs.declared.marks.Mark.TheVariants as marks
 use Rattle.log_node.specs.declared.marks.Why.TheVariants.{Memory}
 use Rattle.col_core.specs.Keeping.{nothing_kept, seen_past}

@@ -20,7 +20,7 @@ use Rattle.lawful_run.specs.Callers.{caller_of}
 use Rattle.lawful_run.specs.Reads.{ShowsNode, ShowsPlayed}
 use Rattle.lawful_run.specs.Lawful.{LawfulRun}
 use Rattle.wrong_reports.specs.Cases.{IsUnlawful, a, x, id, key, counts, asks, enters}
-use Rattle.script_text.specs.declared.script.What.TheVariants.{Sync}
+use Rattle.script_text.specs.declared.commands.What.TheVariants.{Sync}
 use Rattle.col_core.specs.declared.Event.TheVariants.{Single}
 use Rattle.log_node.specs.Vectors.{at}
 use Rattle.wrong_reports.specs.Naming.{append, stood_at, one_node}

@@ -19,7 +19,7 @@ use Rattle.col_core.specs.History.{entries, has_entered}
 use Rattle.col_core.specs.Rows.{BegunRow, is_of}
 use Rattle.col_core.specs.Log.{Log}
 use Rattle.col_core.specs.Keeping.{Kept, nothing_kept}
-use Rattle.script_text.specs.declared.script.What.TheVariants.{Append}
+use Rattle.script_text.specs.declared.commands.What.TheVariants.{Append}
 use Rattle.lawful_run.specs.Callers.{Caller, caller_of, node_of}
 use Rattle.lawful_run.specs.Appends.{IsSettledIn}
 use Rattle.lawful_run.specs.Stops.{Stops, stopped_at_once, stopped_after}

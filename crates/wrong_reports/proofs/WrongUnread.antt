@@ -14,7 +14,7 @@ use Rattle.col_core.specs.Log.{Log}
 use Rattle.col_core.specs.History.{line}
 use Rattle.col_core.specs.Appending.{StandsUnder}
 use Rattle.col_core.specs.Keeping.{Kept, nothing_kept, with_read}
-use Rattle.script_text.specs.declared.script.What.TheVariants as whats
+use Rattle.script_text.specs.declared.commands.What.TheVariants as whats
 use Rattle.lawful_run.specs.Callers.{Caller, caller_of}
 use Rattle.lawful_run.specs.Asks.{colours_of_object, shards}
 use Rattle.lawful_run.specs.Objects.{AreObjectNodes}

@@ -18,7 +18,7 @@ use Rattle.col_core.specs.History.{line, entry_key}
 use Rattle.col_core.specs.RegionOrder.{IsRegionOrder}
 use Rattle.col_core.specs.Log.{Log}
 use Rattle.col_core.specs.Keeping.{Kept, with_read}
-use Rattle.script_text.specs.declared.script.What.TheVariants as whats
+use Rattle.script_text.specs.declared.commands.What.TheVariants as whats
 use Rattle.lawful_run.specs.Callers.{caller_of}
 use Rattle.lawful_run.specs.Objects.{AreObjectNodes, IsObjectNode}
 use Rattle.lawful_run.specs.Lawful.{LawfulRun}

@@ -9,8 +9,8 @@ use Rattle.col_core.specs.declared.Event as events
 use Rattle.col_core.specs.declared.Event.TheVariants as made
 use Rattle.col_core.specs.declared.Entry.{Entry}
 use Rattle.script_text.specs.declared.script.Object.{Object}
-use Rattle.script_text.specs.declared.script.What.{What}
-use Rattle.script_text.specs.declared.script.Word.{Word}
+use Rattle.script_text.specs.declared.commands.What.{What}
+use Rattle.script_text.specs.declared.commands.Word.{Word}
 use Rattle.script_text.specs.declared.script.Command.{Command}
 use Rattle.script_text.specs.declared.script.Script.{Script}
 use Rattle.report_text.specs.declared.report.Answer.{Answer}
@@ -84,6 +84,7 @@ counts of_e of_w = record { 0 = of_e ∷ of_w ∷ 0 ∷ 0 ∷ [] }
 -- SCRIPTS: so many regions and colours, each client's region, objects and commands; a client may begin one row
 abbrev pub script : ℕ → ℕ → List ℕ → List Object → List Command → Script
 script regions colours homes objects commands = record {
+  version = 1;
   shape = record { regions = regions; colours = colours; homes = homes; rows = 1 };
   regions = take regions (codes "e" ∷ codes "w" ∷ []);
   colours = take colours (codes "x" ∷ codes "y" ∷ []);
@@ -165,4 +166,4 @@ empty region colour = column region colour [] 0 [] [] (counts 0 0) (counts 0 0)
 
 -- a report of clients, rows and columns
 abbrev pub shows : List ClientReport → List RowReport → List ColumnReport → Report
-shows clients rows columns = record { clients = clients; rows = rows; columns = columns }
+shows clients rows columns = record { version = 1; clients = clients; rows = rows; columns = columns }

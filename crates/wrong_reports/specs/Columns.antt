@@ -1,8 +1,8 @@
 -- Reports of one append of which the column is wrong: an event that may not come, or another closing line.
 use Rattle.std.specs.Prelude.{List, [], ◌∷◌, codes, None, true}
 use Rattle.col_core.specs.declared.Entry.{Entry}
-use Rattle.script_text.specs.declared.script.What.TheVariants.{Append}
-use Rattle.script_text.specs.declared.script.Word.TheVariants as words
+use Rattle.script_text.specs.declared.commands.What.TheVariants.{Append}
+use Rattle.script_text.specs.declared.commands.Word.TheVariants as words
 use Rattle.script_text.specs.declared.script.Script.{Script}
 use Rattle.report_text.specs.declared.report.Answer.TheVariants as answers
 use Rattle.report_text.specs.declared.report.ReplyLine.{ReplyLine}
@@ -61,3 +61,7 @@ another_colours_name = shows_columns (record one_node { colour_name = codes "y" 
 -- no column
 abbrev pub a_missing_column : Case
 a_missing_column = shows_columns []
+
+-- report 2, of a script whose first line is `fuzzylog 1`
+abbrev pub another_version : Case
+another_version = record { script = one_append; report = record (shows (to_a (stood ∷ [])) [] (one_node ∷ [])) { version = 2 } }

@@ -4,8 +4,8 @@ use Rattle.std.specs.Prelude.{List, [], ◌∷◌, codes, None, ℕ}
 use Rattle.log_node.specs.declared.marks.Outcome.TheVariants.{Final}
 use Rattle.col_core.specs.declared.Event.TheVariants.{Settle, Raise, Give, Carry, Trim}
 use Rattle.col_core.specs.declared.Entry.{Entry}
-use Rattle.script_text.specs.declared.script.What.TheVariants.{Append}
-use Rattle.script_text.specs.declared.script.Word.TheVariants as words
+use Rattle.script_text.specs.declared.commands.What.TheVariants.{Append}
+use Rattle.script_text.specs.declared.commands.Word.TheVariants as words
 use Rattle.report_text.specs.declared.report.Answer.TheVariants as answers
 use Rattle.report_text.specs.declared.report.ReplyLine.{ReplyLine}
 use Rattle.wrong_reports.specs.Cases.{Case, a, b, e, w, x, id, key, counts, on_x, apart, asks, replies, to_a, to_both}
@@ -13,8 +13,8 @@ use Rattle.wrong_reports.specs.Cases.{column, empty, enters, by, point, shows}
 use Rattle.log_node.specs.declared.ids.Id.{Id}
 use Rattle.log_node.specs.declared.ids.Key.{Key}
 use Rattle.log_node.specs.declared.ids.Counts.{Counts}
-use Rattle.script_text.specs.declared.script.What.TheVariants as whats
-use Rattle.script_text.specs.declared.script.What.TheVariants.{Sync, Pull}
+use Rattle.script_text.specs.declared.commands.What.TheVariants as whats
+use Rattle.script_text.specs.declared.commands.What.TheVariants.{Sync, Pull}
 use Rattle.wrong_reports.specs.Cases.{look}
 use Rattle.wrong_reports.specs.Naming.{case}
 use Rattle.wrong_reports.specs.Shown.{shown}

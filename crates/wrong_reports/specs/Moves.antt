@@ -5,9 +5,9 @@ use Rattle.log_node.specs.declared.node.At.{At}
 use Rattle.log_node.specs.declared.node.At.TheVariants.{Event, Look}
 use Rattle.col_core.specs.declared.Event.TheVariants.{Give, Carry, Trim}
 use Rattle.col_core.specs.declared.Entry.{Entry}
-use Rattle.script_text.specs.declared.script.What.TheVariants.{Append, Sync}
-use Rattle.script_text.specs.declared.script.What.TheVariants as whats
-use Rattle.script_text.specs.declared.script.Word.TheVariants as words
+use Rattle.script_text.specs.declared.commands.What.TheVariants.{Append, Sync}
+use Rattle.script_text.specs.declared.commands.What.TheVariants as whats
+use Rattle.script_text.specs.declared.commands.Word.TheVariants as words
 use Rattle.script_text.specs.declared.script.Command.{Command}
 use Rattle.report_text.specs.declared.report.Answer.TheVariants as answers
 use Rattle.report_text.specs.declared.report.ReplyLine.{ReplyLine}

@@ -2,8 +2,8 @@
 use Rattle.std.specs.Prelude.{ℕ, List, [], ◌∷◌, codes, None}
 use Rattle.log_node.specs.declared.node.At.TheVariants.{Event}
 use Rattle.col_core.specs.declared.Event.TheVariants.{Raise}
-use Rattle.script_text.specs.declared.script.What.TheVariants.{Append, Sync, Trim}
-use Rattle.script_text.specs.declared.script.Word.TheVariants as words
+use Rattle.script_text.specs.declared.commands.What.TheVariants.{Append, Sync, Trim}
+use Rattle.script_text.specs.declared.commands.Word.TheVariants as words
 use Rattle.script_text.specs.declared.script.Command.{Command}
 use Rattle.report_text.specs.declared.report.Answer.TheVariants as answers
 use Rattle.report_text.specs.declared.report.ReplyLine.{ReplyLine}

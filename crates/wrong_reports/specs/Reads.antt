@@ -6,8 +6,8 @@ use Rattle.log_node.specs.Seen.{PlacedNode}
 use Rattle.log_node.specs.declared.marks.Mark.TheVariants as marks
 use Rattle.log_node.specs.declared.marks.Outcome.TheVariants.{Open, Final}
 use Rattle.col_core.specs.declared.Event.TheVariants.{Raise}
-use Rattle.script_text.specs.declared.script.What.TheVariants.{Append, Stop, Sync, Scan, Trim}
-use Rattle.script_text.specs.declared.script.Word.TheVariants as words
+use Rattle.script_text.specs.declared.commands.What.TheVariants.{Append, Stop, Sync, Scan, Trim}
+use Rattle.script_text.specs.declared.commands.Word.TheVariants as words
 use Rattle.script_text.specs.declared.script.Command.{Command}
 use Rattle.report_text.specs.declared.report.Answer.TheVariants as answers
 use Rattle.report_text.specs.declared.report.RaisePiece.{RaisePiece}

@@ -1,7 +1,7 @@
 -- Reports of one sync of an empty column, of which one thing is wrong.
 use Rattle.std.specs.Prelude.{List, [], ◌∷◌, codes, None}
-use Rattle.script_text.specs.declared.script.What.TheVariants.{Sync}
-use Rattle.script_text.specs.declared.script.Word.TheVariants as words
+use Rattle.script_text.specs.declared.commands.What.TheVariants.{Sync}
+use Rattle.script_text.specs.declared.commands.Word.TheVariants as words
 use Rattle.script_text.specs.declared.script.Script.{Script}
 use Rattle.report_text.specs.declared.report.Answer.{Answer}
 use Rattle.report_text.specs.declared.report.Answer.TheVariants as answers

@@ -5,8 +5,8 @@ use Rattle.log_node.specs.declared.marks.Mark.TheVariants as marks
 use Rattle.log_node.specs.declared.marks.Outcome.{Outcome}
 use Rattle.log_node.specs.declared.marks.Outcome.TheVariants.{Open, Gone, Final}
 use Rattle.log_node.specs.declared.marks.Why.TheVariants.{Memory, StampEnd}
-use Rattle.script_text.specs.declared.script.What.TheVariants.{Append, Stop, Sync}
-use Rattle.script_text.specs.declared.script.Word.TheVariants as words
+use Rattle.script_text.specs.declared.commands.What.TheVariants.{Append, Stop, Sync}
+use Rattle.script_text.specs.declared.commands.Word.TheVariants as words
 use Rattle.report_text.specs.declared.report.Answer.{Answer}
 use Rattle.report_text.specs.declared.report.Answer.TheVariants as answers
 use Rattle.report_text.specs.declared.report.ColumnReport.{ColumnReport}

@@ -3,8 +3,8 @@ use Rattle.std.specs.Prelude.{ℕ, List, [], ◌∷◌, codes, None}
 use Rattle.log_node.specs.declared.node.At.TheVariants.{Event}
 use Rattle.log_node.specs.Seen.{PlacedNode}
 use Rattle.col_core.specs.declared.Event.TheVariants.{Give, Carry}
-use Rattle.script_text.specs.declared.script.What.TheVariants.{Append, Sync, Pull}
-use Rattle.script_text.specs.declared.script.Word.TheVariants as words
+use Rattle.script_text.specs.declared.commands.What.TheVariants.{Append, Sync, Pull}
+use Rattle.script_text.specs.declared.commands.Word.TheVariants as words
 use Rattle.report_text.specs.declared.report.Answer.TheVariants as answers
 use Rattle.report_text.specs.declared.report.ReplyLine.{ReplyLine}
 use Rattle.col_core.specs.declared.Entry.{Entry}

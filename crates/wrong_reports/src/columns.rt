@@ -1,7 +1,7 @@
 // Columns that are not as they may be.
 ghost use Rattle.wrong_reports.specs.Cases.{IsUnlawful};
 ghost use Rattle.wrong_reports.specs.Columns.{another_clock, another_line, another_queue, another_cut, another_base};
-ghost use Rattle.wrong_reports.specs.Columns.{another_regions_name, another_colours_name, a_missing_column};
+ghost use Rattle.wrong_reports.specs.Columns.{another_regions_name, another_colours_name, a_missing_column, another_version};
 
 /// The closing line shows the clock.
 #[tactic(auto, using(crate::proofs::WrongColumns::clock))]
@@ -49,4 +49,10 @@ pub fn another_colours_name_is_unlawful()
 #[tactic(auto, using(crate::proofs::WrongColumns::missing))]
 pub fn a_missing_column_is_unlawful()
     ensures { IsUnlawful a_missing_column }
+{}
+
+/// A report has the version of its script.
+#[tactic(auto, using(crate::proofs::WrongColumns::version))]
+pub fn another_version_is_unlawful()
+    ensures { IsUnlawful another_version }
 {}

@@ -3,13 +3,14 @@
 use super::*;
 
 /// A row: what a script goes on with, the line that is refused, and the reason.
-type Row = (&'static str, u32, &'static str);
+pub type Row = (&'static str, u32, &'static str);
 
-const FIRST_LINES: [Row; 30] = [
+const FIRST_LINES: [Row; 31] = [
     ("", 1, "bad version"),
     ("\n", 1, "bad version"),
     ("# a comment\nfuzzylog 1\n", 1, "bad version"),
-    ("fuzzylog 2\n", 1, "bad version"),
+    ("fuzzylog 3\n", 1, "bad version"),
+    ("fuzzylog 2\n", 2, "missing begin"),
     // Line 1 is tested for its bytes first, and for its fields not at all.
     ("fuzzylog\t1\n", 1, "not ascii"),
     ("fuzzylog  1\n", 1, "bad version"),
@@ -193,7 +194,7 @@ const REFUSED: [Row; 11] = [
 ];
 
 /// Scripts that begin so and go on with a row are refused as it says.
-fn all_refused<R: Threads + Wait + Sync + Abort>(
+pub fn all_refused<R: Threads + Wait + Sync + Abort>(
     alloc: Global,
     rt: &R,
     begin: &str,

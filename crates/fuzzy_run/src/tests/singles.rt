@@ -2,7 +2,7 @@
 use super::*;
 
 /// Lines from line 8 on in one region, and the report.
-const REPORTS: [(&str, &str); 4] = [
+pub const REPORTS: [(&str, &str); 4] = [
     // Without commands the columns are idle.
     (
         "",

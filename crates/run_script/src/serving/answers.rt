@@ -22,6 +22,7 @@ use std::alloc::Global;
 use std::sync::Wait;
 
 // What the client answers to what is asked of it and of no object, and the nodes that it shows.
+#[tactic(auto, using(crate::proofs::GivingCommands::colours_of, crate::proofs::GivingCommands::stop_within))]
 fn log_answer<R: Wait, G: Gate>(
     rt: &R,
     alloc: Global,
@@ -36,29 +37,28 @@ fn log_answer<R: Wait, G: Gate>(
     ensures { ServesLog store.now client.old client.new what result.0 result.1 }
 {
     match what {
-        What::Append { colours, text } => {
-            let answer = append(rt, alloc, store, gate, client, colours, text);
-            (answer, ListOf::new(alloc))
-        }
+        What::Append { colours, text } => (
+            append(rt, alloc, store, gate, client, colours, text),
+            ListOf::new(alloc),
+        ),
         What::Stop {
             steps,
             colours,
             text,
-        } => {
-            let answer = stop(rt, alloc, store, gate, client, steps, colours, text);
-            (answer, ListOf::new(alloc))
-        }
+        } => (
+            stop(rt, alloc, store, gate, client, steps, colours, text),
+            ListOf::new(alloc),
+        ),
         What::Sync { colour } => sync(rt, alloc, store, client, colour),
         What::Scan { colours } => scan(rt, alloc, store, client, colours),
-        What::Pull { region, colour } => {
-            let answer = pull(rt, alloc, store, client, region, colour);
-            (answer, ListOf::new(alloc))
-        }
-        What::Trim { colour } => {
-            let answer = trim(rt, store, client, colour);
-            (answer, ListOf::new(alloc))
-        }
-        _ => unreachable!(),
+        What::Pull { region, colour } => (
+            pull(rt, alloc, store, client, region, colour),
+            ListOf::new(alloc),
+        ),
+        What::Trim { colour } => (trim(rt, store, client, colour), ListOf::new(alloc)),
+        What::Put { .. } | What::Get { .. } | What::Del { .. } => unreachable!(),
+        What::PutAll { .. } | What::GetAll { .. } | What::Enq { .. } => unreachable!(),
+        What::Read { .. } | What::Commit { .. } | What::Deq { .. } => unreachable!(),
     }
 }
 

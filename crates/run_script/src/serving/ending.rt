@@ -116,6 +116,7 @@ pub fn end_report<R: Threads + Sync>(
         threads,
     )?;
     Ok(Report {
+        version: script.version,
         clients: client_reports(alloc, &script.clients, replies)?,
         rows,
         columns,

@@ -37,7 +37,7 @@ fn open(alloc: Global, kind: &Kind) -> Result<Opened, AllocError>
     match kind {
         Kind::Map { home, colours } => {
             let copy = copied(alloc, colours.as_slice())?;
-            let single = LogMap::open(alloc, *home, copy)?;
+            let single = LogMap::open(alloc, *home, copy);
             let again = copied(alloc, colours.as_slice())?;
             let several = AtomicMap::open(alloc, *home, again);
             Ok(Opened::Map { single, several })

@@ -32,7 +32,7 @@ use Rattle.world_laws.proofs.CallerLemmas.{updated-here, in_contains, contains_i
 use Rattle.world_laws.proofs.CallerLemmas.{number_within, lawful_past_in, next_absent, begun_client, can_complete}
 use Rattle.world_laws.proofs.CallerLemmas.{after_reached, run_steps-append, all_in, in_map}
 use Rattle.script_text.specs.declared.script.Object.{Object}
-use Rattle.script_text.specs.declared.script.What.TheVariants as whats
+use Rattle.script_text.specs.declared.commands.What.TheVariants as whats
 use Rattle.report_text.specs.declared.report.PointPiece.{PointPiece}
 use Rattle.report_text.specs.declared.report.Answer.TheVariants as answers
 use Rattle.lawful_run.specs.Callers.{Caller, node_of}

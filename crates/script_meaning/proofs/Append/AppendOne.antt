@@ -24,7 +24,7 @@ use Rattle.world_laws.proofs.CallerLemmas.{at_updated, updated-here, at_updated_
 use Rattle.world_laws.proofs.CallerLemmas.{slice_last, status_in, Held, status-last, next_absent, same_used}
 use Rattle.world_laws.proofs.CallerLemmas.{single_client, after_reached}
 use Rattle.script_text.specs.declared.script.Object.{Object}
-use Rattle.script_text.specs.declared.script.What.TheVariants as whats
+use Rattle.script_text.specs.declared.commands.What.TheVariants as whats
 use Rattle.report_text.specs.declared.report.PointPiece.{PointPiece}
 use Rattle.report_text.specs.declared.report.Answer.TheVariants as answers
 use Rattle.lawful_run.specs.Callers.{Caller, node_of, row_taken}

@@ -27,7 +27,7 @@ use Rattle.world_laws.specs.Laws.{IsReached, log_of, begun_row}
 use Rattle.world_laws.proofs.CallerLemmas.{contains_in, status_in, Held, is_waiting, in_colours, any_mark, kept_marks}
 use Rattle.world_laws.proofs.CallerLemmas.{all_in}
 use Rattle.script_text.specs.declared.script.Object.{Object}
-use Rattle.script_text.specs.declared.script.What.TheVariants as whats
+use Rattle.script_text.specs.declared.commands.What.TheVariants as whats
 use Rattle.report_text.specs.declared.report.Answer.TheVariants as answers
 use Rattle.lawful_run.specs.Callers.{Caller, node_of}
 use Rattle.lawful_run.specs.Asks.{Stopping}

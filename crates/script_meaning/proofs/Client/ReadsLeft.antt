@@ -10,13 +10,13 @@ use Rattle.world_laws.specs.declared.steps.Step.{Step}
 use Rattle.world_laws.specs.Worlds.{World, home_of, run_steps}
 use Rattle.world_laws.specs.Laws.{log_of}
 use Rattle.world_laws.proofs.CallerLemmas.{at_updated}
-use Rattle.script_text.specs.declared.script.What.{What}
-use Rattle.script_text.specs.declared.script.What.TheVariants as whats
+use Rattle.script_text.specs.declared.commands.What.{What}
+use Rattle.script_text.specs.declared.commands.What.TheVariants as whats
 use Rattle.script_text.specs.declared.script.Object.{Object}
 use Rattle.script_text.specs.declared.uses.ReadUse.TheVariants.{Takes, UsesUp}
 use Rattle.script_text.specs.declared.uses.Use.{Use}
 use Rattle.script_text.specs.declared.uses.Use.TheVariants.{OfObject}
-use Rattle.script_text.specs.Uses.{use_of}
+use Rattle.script_text.specs.Commands.{use_of}
 use Rattle.report_text.specs.declared.report.Answer.{Answer}
 use Rattle.report_text.specs.declared.report.Answer.TheVariants as answers
 use Rattle.report_text.specs.declared.report.KeyAnswer.{KeyAnswer}

@@ -12,8 +12,8 @@ use Rattle.col_core.proofs.CallerLemmas.{by_test, apart, not_true}
 use Rattle.world_laws.specs.Worlds.{World, home_of, is_at_end, is_client, is_column, may_single}
 use Rattle.world_laws.specs.Laws.{IsReached, log_of}
 use Rattle.script_text.specs.declared.script.Object.{Object}
-use Rattle.script_text.specs.declared.script.What.{What}
-use Rattle.script_text.specs.declared.script.What.TheVariants as whats
+use Rattle.script_text.specs.declared.commands.What.{What}
+use Rattle.script_text.specs.declared.commands.What.TheVariants as whats
 use Rattle.report_text.specs.declared.report.Answer.{Answer}
 use Rattle.report_text.specs.declared.report.Answer.TheVariants as answers
 use Rattle.lawful_run.specs.Callers.{Caller}

@@ -20,7 +20,7 @@ use Rattle.world_laws.specs.Worlds.{World, home_of, after, after_give, after_car
 use Rattle.world_laws.specs.Laws.{IsReached, log_of}
 use Rattle.world_laws.proofs.CallerLemmas.{at_updated_at, slice_last, after_reached, copy_within, entries_dated}
 use Rattle.script_text.specs.declared.script.Object.{Object}
-use Rattle.script_text.specs.declared.script.What.TheVariants as whats
+use Rattle.script_text.specs.declared.commands.What.TheVariants as whats
 use Rattle.report_text.specs.declared.report.Answer.TheVariants as answers
 use Rattle.lawful_run.specs.Moves.{GivesHeld, GivesTooLow, Pulls, OnlyGives, with_places, kept_after_pull, kept_after_giving}
 use Rattle.lawful_run.specs.Refusals.{gave}

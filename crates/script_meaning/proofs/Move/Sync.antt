@@ -27,7 +27,7 @@ use Rattle.world_laws.specs.Laws.{IsReached, begun_row, log_of, StaysWithinCuts}
 use Rattle.world_laws.proofs.CallerLemmas.{at_updated, updated-here, at_updated_at, slice_in, played_client}
 use Rattle.playback.specs.Orders.{play_order}
 use Rattle.script_text.specs.declared.script.Object.{Object}
-use Rattle.script_text.specs.declared.script.What.TheVariants as whats
+use Rattle.script_text.specs.declared.commands.What.TheVariants as whats
 use Rattle.report_text.specs.declared.report.Answer.TheVariants as answers
 use Rattle.lawful_run.specs.Reads as reads
 use Rattle.lawful_run.specs.Reads.{Syncs, ShowsNode, ShowsPlayed, greatest_stamp, IsTrimmed}

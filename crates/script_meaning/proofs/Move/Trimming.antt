@@ -16,7 +16,7 @@ use Rattle.world_laws.specs.Worlds.{World, home_of, home_history, after, after_t
 use Rattle.world_laws.specs.Laws.{IsReached, log_of}
 use Rattle.world_laws.proofs.CallerLemmas.{slice_last}
 use Rattle.script_text.specs.declared.script.Object.{Object}
-use Rattle.script_text.specs.declared.script.What.TheVariants as whats
+use Rattle.script_text.specs.declared.commands.What.TheVariants as whats
 use Rattle.report_text.specs.declared.report.Answer.TheVariants as answers
 use Rattle.lawful_run.specs.Moves.{Trims}
 use Rattle.script_meaning.proofs.World.Clearing.{Finished}

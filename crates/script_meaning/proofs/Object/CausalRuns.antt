@@ -1,7 +1,8 @@
--- After a get of a causal map there holds what held before.
+-- After a get of a causal map, and so after a get of either map, there holds what held before.
 use Rattle.std.proofs.Common.{◌≡◌, ℕ, ◌<◌, List, [], ◌∷◌, ◌++◌, Option, Some, true, refl, subst, ap, sym, ◌∙◌, arith}
 use Rattle.std.specs.Prelude.{slice_index, sum, ◌%◌}
 use Rattle.std.specs.List.{AllZip}
+use Rattle.std.specs.Option.{option_map}
 use Rattle.std.proofs.lemmas.Bool.{ltb-true}
 use Rattle.log_node.specs.Vectors.{at, vector}
 use Rattle.log_node.specs.declared.limits.TheConstants.{MAX_COLOURS}
@@ -15,10 +16,12 @@ use Rattle.world_laws.specs.Worlds.{World, home_of, played_cut, is_client, is_co
 use Rattle.world_laws.specs.Laws.{log_of}
 use Rattle.script_text.specs.declared.script.Kind.{Kind}
 use Rattle.script_text.specs.declared.script.Kind.TheVariants as kinds
-use Rattle.script_text.specs.declared.script.What.{What}
-use Rattle.script_text.specs.declared.script.What.TheVariants as whats
+use Rattle.script_text.specs.declared.script.Object.{Object}
+use Rattle.script_text.specs.declared.commands.What.{What}
+use Rattle.script_text.specs.declared.commands.What.TheVariants as whats
 use Rattle.script_text.specs.declared.script.Command.{Command}
 use Rattle.script_text.specs.declared.script.Script.{Script}
+use Rattle.script_text.specs.Fitting.{HasObject, is_any_map}
 use Rattle.report_text.specs.declared.report.Answer.{Answer}
 use Rattle.report_text.specs.declared.report.Answer.TheVariants as answers
 use Rattle.lawful_run.specs.Asks.{object_colours, shards}
@@ -29,12 +32,14 @@ use Rattle.lawful_run.specs.Objects.{IsChainNode, places_within}
 use Rattle.lawful_run.specs.Reads.{kept_after_piece}
 use Rattle.lawful_run.proofs.CallerLemmas.{explains_values, one_shard}
 use Rattle.script_meaning.specs.States.{State, Grants, kind_in}
+use Rattle.script_meaning.specs.Gets.{got}
 use Rattle.script_meaning.specs.CausalGets.{causal_node, nodes_up_to_cut, causal_values, got_values}
 use Rattle.script_meaning.specs.Dequeues.{sync_now}
 use Rattle.script_meaning.proofs.Run.FitCommands as fits
 use Rattle.script_meaning.proofs.Object.CausalAnswers.{causal_answer}
 use Rattle.script_meaning.proofs.Object.CausalNodes.{at_place, causal_node_is, place_within}
-use Rattle.script_meaning.proofs.Object.GetRuns.{runs_get_by}
+use Rattle.script_meaning.proofs.Object.GetRuns.{runs_get_by, runs_get_value}
+use Rattle.script_meaning.proofs.Object.ObjectKinds.{causal_colour}
 use Rattle.script_meaning.proofs.Run.Invariant.{Runs, IsFit}
 use Rattle.script_meaning.proofs.Client.Kept.{caller_in}
 use Rattle.script_meaning.proofs.World.Playing.{beside}
@@ -123,3 +128,23 @@ module _ (script : Script) (commands : List Command) (state : State) (command : 
       (beside (IsChainNode (log_of w) (chains_after own (w.histories own c)))
       (causal_node w (chains_after own (w.histories own c))) (places_within (played_cut w u c)) stands))
       (causal_answer (nodes_up_to_cut w u c) key)))
+
+-- a get, by the kind of its object
+module _ (script : Script) (commands : List Command) (state : State) (command : Command) (grants : Grants)
+    (runs : Runs script commands state) (fit : IsFit script commands command) (object : ℕ) (key : List ℕ)
+    (asked : command.what ≡ whats.Get object key) (has : HasObject script.objects object is_any_map) where
+  by_kind : (kind : Kind) → kind_in script.objects object ≡ Some kind → is_any_map kind ≡ true
+      → Runs script (commands ++ command ∷ []) (got grants state command (Some kind) key)
+  by_kind (kinds.Map home colours) is map =
+      runs_get_value script commands state command grants runs fit object home colours key asked is has
+  by_kind (kinds.Causal colour) is map =
+      runs_got_values script commands state command grants runs fit object colour key asked is
+      (causal_colour script.objects script.shape.regions script.shape.colours fit.kinds object has colour is)
+  by_kind _ is map = absurd (let f : ⊥ = cc in f)
+
+  pub runs_get : Runs script (commands ++ command ∷ []) (got grants state command (kind_in script.objects object) key)
+  runs_get =
+      let is : kind_in script.objects object ≡ Some has.found.kind =
+      ap (option_map (λ (o : Object). o.kind)) has.there in
+      subst (λ (k : Option Kind). Runs script (commands ++ command ∷ []) (got grants state command k key)) (sym is)
+      (by_kind has.found.kind is has.kind)

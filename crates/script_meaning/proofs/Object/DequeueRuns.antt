@@ -10,8 +10,8 @@ use Rattle.world_laws.specs.declared.steps.Step.TheVariants.{Play}
 use Rattle.world_laws.specs.Laws.{IsReached, log_of}
 use Rattle.world_laws.specs.Worlds.{World, home_of, after, is_client, is_column, may_single, may_play, after_play, single_stamp, next_id}
 use Rattle.world_laws.proofs.CallerLemmas.{run_reached, played_client}
-use Rattle.script_text.specs.declared.script.What.{What}
-use Rattle.script_text.specs.declared.script.What.TheVariants as whats
+use Rattle.script_text.specs.declared.commands.What.{What}
+use Rattle.script_text.specs.declared.commands.What.TheVariants as whats
 use Rattle.script_text.specs.declared.script.Command.{Command}
 use Rattle.script_text.specs.declared.script.Script.{Script}
 use Rattle.script_text.specs.Fitting.{is_queue, HasObject}

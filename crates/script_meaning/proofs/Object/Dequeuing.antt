@@ -25,8 +25,8 @@ use Rattle.world_laws.specs.Worlds.{World, ClientState, no_row, home_of, home_hi
 use Rattle.world_laws.specs.Laws.{IsReached, log_of, StaysWithinCuts}
 use Rattle.world_laws.proofs.CallerLemmas.{at_updated, at_updated_at, updated-here, played_client, run_reached, run_steps-append}
 use Rattle.script_text.specs.declared.script.Object.{Object}
-use Rattle.script_text.specs.declared.script.What.{What}
-use Rattle.script_text.specs.declared.script.What.TheVariants as whats
+use Rattle.script_text.specs.declared.commands.What.{What}
+use Rattle.script_text.specs.declared.commands.What.TheVariants as whats
 use Rattle.report_text.specs.declared.report.Answer.{Answer}
 use Rattle.report_text.specs.declared.report.Answer.TheVariants as answers
 use Rattle.report_text.specs.declared.report.PointPiece.{PointPiece}

@@ -19,8 +19,8 @@ use Rattle.world_laws.specs.Laws.{IsReached, log_of}
 use Rattle.world_laws.proofs.CallerLemmas.{played_client}
 use Rattle.script_text.specs.declared.script.Kind.{Kind}
 use Rattle.script_text.specs.declared.script.Kind.TheVariants as kinds
-use Rattle.script_text.specs.declared.script.What.{What}
-use Rattle.script_text.specs.declared.script.What.TheVariants as whats
+use Rattle.script_text.specs.declared.commands.What.{What}
+use Rattle.script_text.specs.declared.commands.What.TheVariants as whats
 use Rattle.script_text.specs.declared.script.Command.{Command}
 use Rattle.script_text.specs.declared.script.Script.{Script}
 use Rattle.script_text.specs.Fitting.{AreObjectColours, HasObject, is_map, is_any_map}
@@ -155,7 +155,7 @@ module _ (script : Script) (commands : List Command) (state : State) (command : 
         small refl syncs played))
 
   -- several keys
-  module _ (object : ℕ) (keys : List (List ℕ)) (key : List ℕ) (is_key : In key keys)
+  module _ (object : ℕ) (keys : List (List ℕ)) (one : (key : List ℕ) × In key keys)
       (asked : command.what ≡ whats.GetAll object keys) (has : HasObject script.objects object is_map) where
     abbrev its_colours : List ℕ
     its_colours = colours_of_object caller object
@@ -170,11 +170,11 @@ module _ (script : Script) (commands : List Command) (state : State) (command : 
     below = shards_below script.shape.colours fit.few_colours its_colours its_own.some its_own.below keys
 
     abbrev first : ℕ
-    first = shard_of its_colours key
+    first = shard_of its_colours one.0
 
     is_first : In first cs
-    is_first = key_in its_colours keys key is_key
-        (let a = shard_below script.shape.colours its_colours its_own.some its_own.below key in
+    is_first = key_in its_colours keys one.0 one.1
+        (let a = shard_below script.shape.colours its_colours its_own.some its_own.below one.0 in
         let b = fit.few_colours in omega (arith, a, b))
 
     distinct : AreDistinct cs

@@ -9,8 +9,8 @@ use Rattle.col_core.specs.Keeping.{Kept}
 use Rattle.world_laws.specs.Worlds.{World, home_of}
 use Rattle.world_laws.specs.Laws.{log_of}
 use Rattle.script_text.specs.declared.script.Object.{Object}
-use Rattle.script_text.specs.declared.script.What.{What}
-use Rattle.script_text.specs.declared.script.What.TheVariants as whats
+use Rattle.script_text.specs.declared.commands.What.{What}
+use Rattle.script_text.specs.declared.commands.What.TheVariants as whats
 use Rattle.report_text.specs.declared.report.Answer.{Answer}
 use Rattle.report_text.specs.declared.report.Answer.TheVariants as answers
 use Rattle.lawful_run.specs.Callers.{Caller, node_of}

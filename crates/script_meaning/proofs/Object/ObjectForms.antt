@@ -8,9 +8,10 @@ use Rattle.std.proofs.lemmas.Slice.Eq.{bytes_eq-Decides}
 use Rattle.std.proofs.lemmas.List.{length-map}
 use Rattle.log_node.specs.declared.forms.Pair.{Pair}
 use Rattle.object_form.specs.Forms.{is_word, are_distinct, ArePairs}
-use Rattle.col_core.proofs.CallerLemmas.{both, by_test, not_true, apart}
+use Rattle.col_core.proofs.CallerLemmas.{both, by_test, not_true, apart, In}
 use Rattle.script_text.specs.Pieces.{is_key, is_among}
-use Rattle.script_text.specs.Grammar.{are_new_keys, are_pairs}
+use Rattle.script_text.specs.Grammar.{are_new_keys, are_keys, are_pairs}
+use Rattle.script_meaning.proofs.Object.ObjectKinds.{some_of}
 
 -- a key of a script is a word
 pub key_is_word : (key : List ℕ) → is_key key ≡ true → is_word key ≡ true
@@ -107,3 +108,7 @@ pairs_are most pairs e =
 pub key_some : (most : ℕ) (pairs : List Pair) → are_pairs most pairs ≡ true
     → 1 ≤ length (map (λ (p : Pair). p.key) pairs)
 key_some most pairs e = leb-true _ _ (both _ _ (both _ _ (both _ _ e).0).0).0
+
+-- keys that a command names are one at least
+pub a_key : (most : ℕ) (keys : List (List ℕ)) → are_keys most keys ≡ true → (key : List ℕ) × In key keys
+a_key most keys e = some_of keys (leb-true _ _ (both _ _ (both _ _ e).0).0)

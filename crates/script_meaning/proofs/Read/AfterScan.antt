@@ -13,9 +13,10 @@ use Rattle.col_core.specs.Log.{HasText}
 use Rattle.col_core.proofs.CallerLemmas.{choice, In, in_filter}
 use Rattle.world_laws.specs.Worlds.{World, no_row}
 use Rattle.world_laws.specs.Laws.{IsReached, log_of}
-use Rattle.script_text.specs.declared.script.What.TheVariants as whats
+use Rattle.script_text.specs.declared.commands.What.TheVariants as whats
 use Rattle.script_text.specs.declared.script.Command.{Command}
 use Rattle.script_text.specs.declared.script.Script.{Script}
+use Rattle.script_text.specs.Fitting.{AreBelow, HasColours}
 use Rattle.report_text.specs.declared.report.Answer.TheVariants as answers
 use Rattle.report_text.specs.declared.report.RaisePiece.{RaisePiece}
 use Rattle.report_text.specs.declared.report.SyncPiece.{SyncPiece}
@@ -28,7 +29,8 @@ use Rattle.script_meaning.specs.Stamped.{stamped_read, shown_key, scan_answer, s
 use Rattle.script_meaning.proofs.Run.FitCommands as fits
 use Rattle.script_meaning.proofs.Run.Invariant.{IsStopped, Runs, IsFit, free, runs_done}
 use Rattle.script_meaning.proofs.Client.Kept.{caller_in, IsKeptBy, KeptAfter}
-use Rattle.script_meaning.proofs.Lists.{in_range}
+use Rattle.script_meaning.proofs.Lists.{all_at, in_range}
+use Rattle.script_meaning.proofs.Object.ObjectKinds.{some_of}
 use Rattle.script_meaning.proofs.World.Reached.{listed_of}
 use Rattle.script_meaning.proofs.Read.AfterRead.{EndsTold, read_reached, after_read}
 use Rattle.script_meaning.proofs.Read.StampedRaises.{AreDistinct}
@@ -83,11 +85,16 @@ module _ (script : Script) (commands : List Command) (state : State) (command : 
   going : S u → ⊥
   going = free script commands state command runs fit
 
-  module _ (colours : Colours) (asked : command.what ≡ whats.Scan colours)
-      (below : (c : ℕ) → In c (members colours) → c < script.shape.colours) (first : ℕ)
-      (is_first : In first (members colours)) where
+  module _ (colours : Colours) (asked : command.what ≡ whats.Scan colours) (has : HasColours 1 colours)
+      (all : AreBelow script.shape.colours colours) where
     abbrev cs : List ℕ
     cs = members colours
+
+    below : (c : ℕ) → In c cs → c < script.shape.colours
+    below = all_at (λ c. c < script.shape.colours) cs all
+
+    first : (c : ℕ) × In c cs
+    first = some_of cs has.many
 
     abbrev x : World
     x = (stamped_read grants w u cs).world
@@ -97,11 +104,11 @@ module _ (script : Script) (commands : List Command) (state : State) (command : 
 
     reached : IsReached x
     reached = read_reached script.objects S state command grants runs.reached runs.finished going (ap manner_of asked)
-        cs synced (members_distinct colours) (fits.may_look script commands state command runs fit cs below) first is_first
+        cs synced (members_distinct colours) (fits.may_look script commands state command runs fit cs below) first.0 first.1
 
     told : (stamp : ℕ) (raises : List RaisePiece) (syncs : List SyncPiece) (keys : List Key)
         → EndsTold script.objects S state command grants runs.reached runs.finished going (ap manner_of asked) cs synced
-        (members_distinct colours) (fits.may_look script commands state command runs fit cs below) first is_first stamp raises syncs keys
+        (members_distinct colours) (fits.may_look script commands state command runs fit cs below) first.0 first.1 stamp raises syncs keys
         → (kept : Kept) → IsKeptBy w u kept
         → KeptAfter x script.objects u kept command.what (scan_answer stamp raises syncs keys) (map (shown_key x) keys)
     told stamp raises syncs keys ended kept k =
@@ -125,6 +132,6 @@ module _ (script : Script) (commands : List Command) (state : State) (command : 
     pub runs_scan : Runs script (commands ++ command ∷ []) (scanned grants state command (members colours))
     runs_scan =
         after_read script.objects S state command grants runs.reached runs.finished going (ap manner_of asked) cs synced
-        (members_distinct colours) (fits.may_look script commands state command runs fit cs below) first is_first scan_answer (map (shown_key x))
+        (members_distinct colours) (fits.may_look script commands state command runs fit cs below) first.0 first.1 scan_answer (map (shown_key x))
         (Runs script (commands ++ command ∷ []))
         (λ answer nodes d fin. runs_done script commands state command runs fit x answer nodes d fin) told

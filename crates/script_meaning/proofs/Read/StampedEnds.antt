@@ -25,7 +25,7 @@ use Rattle.world_laws.specs.Laws.{IsReached, log_of}
 use Rattle.world_laws.proofs.CallerLemmas.{in_left, in_map, run_reached, run_steps-append}
 use Rattle.playback.specs.Merging.{AreRising, region_order}
 use Rattle.playback.proofs.CallerLemmas.{order_is_merged}
-use Rattle.script_text.specs.declared.script.What.{What}
+use Rattle.script_text.specs.declared.commands.What.{What}
 use Rattle.script_text.specs.declared.script.Object.{Object}
 use Rattle.report_text.specs.declared.report.RaisePiece.{RaisePiece}
 use Rattle.report_text.specs.declared.report.SyncPiece.{SyncPiece}

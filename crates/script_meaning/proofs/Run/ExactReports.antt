@@ -29,10 +29,10 @@ use Rattle.script_meaning.specs.Laws.{RunsAreExact}
 use Rattle.script_meaning.proofs.World.Reached.{told_of}
 use Rattle.script_meaning.proofs.Run.GrantedSteps.{IsClean, clean_from}
 use Rattle.script_meaning.proofs.Run.Invariant.{Runs}
-use Rattle.script_meaning.proofs.Lists.{range_in, in_map_back}
+use Rattle.script_meaning.proofs.Lists.{all_at, range_in, in_map_back}
 use Rattle.script_meaning.proofs.Run.LawfulReports.{numbered-at, numbered-get}
-use Rattle.script_meaning.proofs.Run.InvariantHolds.{all_at, runs_all}
-use Rattle.script_meaning.proofs.Run.GrantedCommands.{done_extends, done_exact}
+use Rattle.script_meaning.proofs.Run.InvariantHolds.{runs_all}
+use Rattle.script_meaning.proofs.Run.DoneCommands.{done_extends, done_exact}
 
 -- All commands
 
@@ -56,7 +56,7 @@ module _ (script : Script) (fits : IsFitting script) where
       let before = exact_leads leads (command ∷ rest) whole
       (clean_from state.world (done script.objects grants state command).world more.world clean)
       (λ n lt r i. tells n lt r (more.replies n r i)) in
-      done_exact script.objects grants state command clean (tells command.client caller)
+      done_exact script.objects grants state command (record { clean = clean; tells = tells command.client caller })
       ∙ (ap (λ (s : State). done script.objects all_granted s command) before
       ∙ sym (fold-append (done script.objects all_granted) (opening script) commands (command ∷ [])))
 

@@ -39,7 +39,7 @@ use Rattle.script_meaning.specs.States.{State}
 use Rattle.script_meaning.specs.Meaning.{column_report, report_of}
 use Rattle.script_meaning.specs.Laws.{RunsAreLawful}
 use Rattle.lawful_run.proofs.CallerLemmas.{get_within}
-use Rattle.script_meaning.proofs.Lists.{in_range}
+use Rattle.script_meaning.proofs.Lists.{all_at, in_range}
 use Rattle.script_meaning.proofs.World.Rows.{node_id, IsDone}
 use Rattle.script_meaning.proofs.World.StaysComplete.{step_of_one}
 use Rattle.script_meaning.proofs.World.Settled.{no_open}
@@ -48,7 +48,7 @@ use Rattle.script_meaning.proofs.World.Reached.{held_of, told_of, listed_of}
 use Rattle.script_meaning.proofs.World.Clearing.{waits_not_done}
 use Rattle.script_meaning.proofs.World.RowsOfClients.{by_client, rows_begun}
 use Rattle.script_meaning.proofs.Run.Invariant.{IsStopped, Runs}
-use Rattle.script_meaning.proofs.Run.InvariantHolds.{all_at, runs_all}
+use Rattle.script_meaning.proofs.Run.InvariantHolds.{runs_all}
 
 -- Lists
 
@@ -323,6 +323,7 @@ module _ (script : Script) (fits : IsFitting script) (state : State) (is : Runs 
   lawful : LawfulRun script (report_of script state)
   lawful = record {
     log = log;
+    version = refl;
     names = names;
     clients = client;
     columns = columns;

@@ -11,8 +11,8 @@ use Rattle.log_node.specs.Seen.{PlacedNode}
 use Rattle.col_core.specs.declared.Event.TheVariants as events
 use Rattle.col_core.specs.History.{clock, line, entry_key}
 use Rattle.world_laws.specs.Worlds.{cut_after, base_after}
-use Rattle.script_text.specs.declared.script.What.{What}
-use Rattle.script_text.specs.declared.script.What.TheVariants.{Append, Sync, Pull, Trim}
+use Rattle.script_text.specs.declared.commands.What.{What}
+use Rattle.script_text.specs.declared.commands.What.TheVariants.{Append, Sync, Pull, Trim}
 use Rattle.script_text.specs.declared.script.Command.{Command}
 use Rattle.script_text.specs.declared.script.Script.{Script}
 use Rattle.report_text.specs.declared.report.Answer.{Answer}
@@ -25,6 +25,7 @@ use Rattle.script_meaning.specs.Meaning.{done}
 -- the clients a and d in the region e, and b in the region w, with the colour x
 abbrev two_regions : List Command → Script
 two_regions commands = record {
+  version = 1;
   shape = record { regions = 2; colours = 1; homes = 0 ∷ 1 ∷ 0 ∷ []; rows = 4 };
   regions = codes "e" ∷ codes "w" ∷ [];
   colours = codes "x" ∷ [];
@@ -36,6 +37,7 @@ two_regions commands = record {
 -- the clients a, b and c, each in a region of its own
 abbrev three_regions : List Command → Script
 three_regions commands = record {
+  version = 1;
   shape = record { regions = 3; colours = 1; homes = 0 ∷ 1 ∷ 2 ∷ []; rows = 4 };
   regions = codes "e" ∷ codes "w" ∷ codes "n" ∷ [];
   colours = codes "x" ∷ [];

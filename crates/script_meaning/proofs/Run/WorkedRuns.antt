@@ -19,8 +19,8 @@ use Rattle.col_core.specs.declared.Event.TheVariants as events
 use Rattle.col_core.specs.History.{line, entries, entry_key, last_stamp}
 use Rattle.world_laws.specs.declared.steps.Step.TheVariants.{Raise}
 use Rattle.world_laws.specs.Worlds.{opened, row_of, run_steps}
-use Rattle.script_text.specs.declared.script.What.{What}
-use Rattle.script_text.specs.declared.script.What.TheVariants.{Append, Stop, Sync}
+use Rattle.script_text.specs.declared.commands.What.{What}
+use Rattle.script_text.specs.declared.commands.What.TheVariants.{Append, Stop, Sync}
 use Rattle.script_text.specs.declared.script.Command.{Command}
 use Rattle.script_text.specs.declared.script.Script.{Script}
 use Rattle.report_text.specs.declared.report.Answer.{Answer}
@@ -33,6 +33,7 @@ use Rattle.script_meaning.specs.Meaning.{done}
 -- the clients a, b and c in the region r, with the colours x and y
 abbrev script : ℕ → List Command → Script
 script rows commands = record {
+  version = 1;
   shape = record { regions = 1; colours = 2; homes = 0 ∷ 0 ∷ 0 ∷ []; rows = rows };
   regions = codes "r" ∷ [];
   colours = codes "x" ∷ codes "y" ∷ [];

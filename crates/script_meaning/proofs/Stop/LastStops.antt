@@ -64,7 +64,7 @@ going_on before d none c i stop same =
 
 item_last : (before : List Item) (item : Item) → Last (commands before) → IsTrue (may_follow before item)
     → Last (commands (before ++ item ∷ []))
-item_last before items.Version l ok = subst Last (sym (same_more before items.Version refl)) l
+item_last before (items.Version version) l ok = subst Last (sym (same_more before (items.Version version) refl)) l
 item_last before (items.Regions names) l ok = subst Last (sym (same_more before (items.Regions names) refl)) l
 item_last before (items.Colours names) l ok = subst Last (sym (same_more before (items.Colours names) refl)) l
 item_last before (items.Rows number) l ok = subst Last (sym (same_more before (items.Rows number) refl)) l

@@ -27,7 +27,7 @@ use Rattle.world_laws.proofs.CallerLemmas.{in_slice, slice_in, contains_in, stat
 use Rattle.world_laws.proofs.CallerLemmas.{colour_in, in_colours, none_missing, Decides, decide_decides, settle_all}
 use Rattle.world_laws.proofs.CallerLemmas.{run_grows, run_held, after_held, run_steps-append}
 use Rattle.script_text.specs.declared.script.Object.{Object}
-use Rattle.script_text.specs.declared.script.What.TheVariants as whats
+use Rattle.script_text.specs.declared.commands.What.TheVariants as whats
 use Rattle.report_text.specs.declared.report.Answer.TheVariants as answers
 use Rattle.lawful_run.specs.Callers.{Caller, node_of}
 use Rattle.lawful_run.specs.Appends.{IsSettledIn}

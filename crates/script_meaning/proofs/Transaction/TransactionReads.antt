@@ -14,8 +14,8 @@ use Rattle.col_core.proofs.CallerLemmas.{In}
 use Rattle.world_laws.specs.Worlds.{World, home_of}
 use Rattle.world_laws.specs.Laws.{IsReached, log_of}
 use Rattle.world_laws.proofs.CallerLemmas.{at_updated, in_append, in_map}
-use Rattle.script_text.specs.declared.script.What.{What}
-use Rattle.script_text.specs.declared.script.What.TheVariants as whats
+use Rattle.script_text.specs.declared.commands.What.{What}
+use Rattle.script_text.specs.declared.commands.What.TheVariants as whats
 use Rattle.script_text.specs.declared.script.Command.{Command}
 use Rattle.script_text.specs.declared.script.Script.{Script}
 use Rattle.script_text.specs.Fitting.{AreObjectColours, is_tx, UsesObject}

@@ -1,7 +1,6 @@
+use Rattle.std.proofs.Common.{subst, sym, ◌∙◌}
+use Rattle.run_picture.specs.Labels.{IsOfLog}
 use Rattle.run_picture.proofs.labels.put_subject.Goals as goal
 
-pub returns-in-Append : goal.returns-in-Append
-returns-in-Append g c = rw c.in-Append.is c.put_colours.ensures
-
-pub returns-in-Stop : goal.returns-in-Stop
-returns-in-Stop g c = rw c.in-Stop.is c.put_colours-in-Stop.ensures
+pub put_named-requires : goal.put_named-requires
+put_named-requires g c = subst IsOfLog (sym c.in-OfLog.is ∙ c.use_of.ensures) tt

@@ -1,5 +1,5 @@
 use Rattle.run_script.specs.declared.asked.Asked.TheVariants.{Run, Step}
-use Rattle.script_text.proofs.CallerLemmas.{script_fits}
+use Rattle.script_text.proofs.CallerLemmas.{script_fits, rows_few}
 use Rattle.run_script.proofs.RunsOf.{can_run, the_script}
 use Rattle.run_script.proofs.TopLemmas.{refusal_written, refusal_begun, run_written, front_begun}
 use Rattle.run_script.proofs.top.do_bytes.Goals as goal
@@ -8,6 +8,10 @@ use Rattle.run_script.proofs.top.do_bytes.Goals as goal
 
 pub do_script-requires-clause-fits : goal.do_script-requires-clause-fits
 do_script-requires-clause-fits g c = script_fits _ _ c.in-Ok.ensures.accepted
+
+pub do_script-requires-clause-rows : goal.do_script-requires-clause-rows
+do_script-requires-clause-rows g c =
+    rows_few _ _ (c.rows_are_within_limits.ensures _ _ c.in-Ok.ensures.accepted)
 
 pub returns-in-Ok-clause-done : goal.returns-in-Ok-clause-done
 returns-in-Ok-clause-done g c = λ e. run_written c.args.asked Step c.args.bytes.now _ _ c.in-Ok.script c.in-Step.is

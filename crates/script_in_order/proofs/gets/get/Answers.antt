@@ -12,6 +12,7 @@ use Rattle.script_in_order.specs.Doing.{DoneBy}
 use Rattle.script_in_order.proofs.CausalKept.{kind_at}
 use Rattle.script_in_order.proofs.ObjectHomes.{map_home}
 use Rattle.script_in_order.proofs.ObjectSteps.{has_kind, map_kinds}
+use Rattle.script_in_order.proofs.CommandKinds.{all_do}
 use Rattle.script_in_order.proofs.gets.get.Goals as goal
 
 -- a get is of a map or a causal map
@@ -30,9 +31,10 @@ returns-in-Map-clause-ok c =
     let own : ℕ = home_of (world_of c.args.world.now) c.args.command.now.client in
     let kind : kind_in c.args.objects.now c.args.object ≡ Some (kinds.Map own c.in-Map.colours) =
     map_home own c.args.objects.now c.args.object c.requires.near c.in-Map.home c.in-Map.colours is in
-    subst (λ (k : Option Kind). IfOk c.get_value.result (λ (answer : Answer). DoneBy
+    all_do c.args.objects.now c.args.command.now c.requires.asks c.get_value.result (world_of c.args.world.now) (world_of c.get_value.new.world) []
+    (subst (λ (k : Option Kind). IfOk c.get_value.result (λ (answer : Answer). DoneBy
     (λ grants state. got grants state c.args.command.now k c.args.key.now) c.args.command.now (world_of c.args.world.now)
-    (world_of c.get_value.new.world) answer [])) (sym kind) (c.get_value.ensures.ok c.in-Map.colours kind)
+    (world_of c.get_value.new.world) answer [])) (sym kind) (c.get_value.ensures.ok c.in-Map.colours kind))
 
 pub returns-in-Causal-clause-ok : goal.returns-in-Causal-clause-ok
 returns-in-Causal-clause-ok c =
@@ -40,6 +42,7 @@ returns-in-Causal-clause-ok c =
     let kind : kind_in c.args.objects.now c.args.object ≡ Some (kinds.Causal c.in-Causal.colour) =
     kind_at c.args.objects.now c.args.object c.index-objects-object.result _
     (get_within c.args.objects.now c.args.object uses.found uses.there) c.in-Causal.is in
-    subst (λ (k : Option Kind). IfOk c.get_values.result (λ (answer : Answer). DoneBy
+    all_do c.args.objects.now c.args.command.now c.requires.asks c.get_values.result (world_of c.args.world.now) (world_of c.get_values.new.world) []
+    (subst (λ (k : Option Kind). IfOk c.get_values.result (λ (answer : Answer). DoneBy
     (λ grants state. got grants state c.args.command.now k c.args.key.now) c.args.command.now (world_of c.args.world.now)
-    (world_of c.get_values.new.world) answer [])) (sym kind) c.get_values.ensures.ok
+    (world_of c.get_values.new.world) answer [])) (sym kind) c.get_values.ensures.ok)

@@ -21,6 +21,7 @@ use Rattle.script_in_order.proofs.ObjectHomes.{map_at}
 use Rattle.script_in_order.proofs.ObjectSteps.{kind_is, are_low}
 use Rattle.script_in_order.proofs.StampedWholes.{told_whole, told_without, told_refused, told_unraised}
 use Rattle.script_in_order.proofs.GetSteps.{key_answering, shows_none, read_to, reads_same, same_home, set_is, shards_behind}
+use Rattle.script_in_order.proofs.CommandKinds.{does_what}
 use Rattle.script_in_order.proofs.gets.get_keys.Goals as goal
 
 pub stamped_read-requires-clause-within : goal.stamped_read-requires-clause-within
@@ -89,13 +90,13 @@ returns-in-Unraised-clause-ok c =
     let command = c.args.command.now in
     let cs = members c.key_shards-colours.result in
     let wanted = shards (object_colours (kind_in c.args.objects.now c.args.object)) c.args.keys.now in
-    told_unraised w v command wanted (key_answering c.args.objects.now command.client c.args.object c.args.keys.now)
+    does_what c.args.objects.now c.args.command.now c.requires.asks (told_unraised w v command wanted (key_answering c.args.objects.now command.client c.args.object c.args.keys.now)
     shows_none []
     (reads_same w v command.client cs wanted stamped.Unraised
     (set_is c.args.objects.now c.args.object c.index-objects-object.result c.key_shards-colours.result
     c.as_slice.result.now c.args.keys.now c.requires.uses.0 c.key_shards-colours.ensures c.as_slice.ensures)
     (subst (λ (x : Stamped). ReadsStamped w v command.client cs (end_in v command.client cs x)) c.in-Unraised.is
-    c.in_ok-stamped_read.ensures.ok)) refl
+    c.in_ok-stamped_read.ensures.ok)) refl)
 
 pub returns-in-Unraised-clause-folded : goal.returns-in-Unraised-clause-folded
 returns-in-Unraised-clause-folded c =
@@ -116,13 +117,13 @@ returns-in-Refused-clause-ok c =
     let command = c.args.command.now in
     let cs = members c.key_shards-colours.result in
     let wanted = shards (object_colours (kind_in c.args.objects.now c.args.object)) c.args.keys.now in
-    told_refused w v command wanted (key_answering c.args.objects.now command.client c.args.object c.args.keys.now)
+    does_what c.args.objects.now c.args.command.now c.requires.asks (told_refused w v command wanted (key_answering c.args.objects.now command.client c.args.object c.args.keys.now)
     shows_none c.in-Refused.colour c.in-Refused.base []
     (reads_same w v command.client cs wanted (stamped.Refused c.in-Refused.colour c.in-Refused.base)
     (set_is c.args.objects.now c.args.object c.index-objects-object.result c.key_shards-colours.result
     c.as_slice.result.now c.args.keys.now c.requires.uses.0 c.key_shards-colours.ensures c.as_slice.ensures)
     (subst (λ (x : Stamped). ReadsStamped w v command.client cs (end_in v command.client cs x)) c.in-Refused.is
-    c.in_ok-stamped_read.ensures.ok)) refl
+    c.in_ok-stamped_read.ensures.ok)) refl)
 
 pub returns-in-Refused-clause-folded : goal.returns-in-Refused-clause-folded
 returns-in-Refused-clause-folded c =
@@ -143,7 +144,7 @@ returns-in-Ok-clause-ok c =
     let command = c.args.command.now in
     let cs = members c.key_shards-colours.result in
     let wanted = shards (object_colours (kind_in c.args.objects.now c.args.object)) c.args.keys.now in
-    told_whole w v command wanted (key_answering c.args.objects.now command.client c.args.object c.args.keys.now)
+    does_what c.args.objects.now c.args.command.now c.requires.asks (told_whole w v command wanted (key_answering c.args.objects.now command.client c.args.object c.args.keys.now)
     shows_none c.in-Whole.stamp c.in-Whole.raises c.in-Whole.syncs (keys_read v command.client c.in-Whole.stamp wanted)
     (reads_same w v command.client cs wanted
     (stamped.Whole c.in-Whole.stamp c.in-Whole.raises c.in-Whole.syncs)
@@ -155,7 +156,7 @@ returns-in-Ok-clause-ok c =
     (ap (λ (l : List KeyAnswer). answers.GotKeys c.in-Whole.stamp l c.in-Whole.raises c.in-Whole.syncs)
     (c.in-Ok.ensures.values
     ∙ ap (key_answers (value_up_to v command.client (object_colours (kind_in c.args.objects.now c.args.object))
-    c.in-Whole.stamp)) c.as_slice-in-Whole.ensures)) refl
+    c.in-Whole.stamp)) c.as_slice-in-Whole.ensures)) refl)
 
 pub returns-in-Err-clause-ok : goal.returns-in-Err-clause-ok
 returns-in-Err-clause-ok c =
@@ -164,11 +165,11 @@ returns-in-Err-clause-ok c =
     let command = c.args.command.now in
     let cs = members c.key_shards-colours.result in
     let wanted = shards (object_colours (kind_in c.args.objects.now c.args.object)) c.args.keys.now in
-    told_without w v command wanted (key_answering c.args.objects.now command.client c.args.object c.args.keys.now)
+    does_what c.args.objects.now c.args.command.now c.requires.asks (told_without w v command wanted (key_answering c.args.objects.now command.client c.args.object c.args.keys.now)
     shows_none c.in-Whole.stamp c.in-Whole.raises c.in-Whole.syncs (keys_read v command.client c.in-Whole.stamp wanted)
     (reads_same w v command.client cs wanted
     (stamped.Whole c.in-Whole.stamp c.in-Whole.raises c.in-Whole.syncs)
     (set_is c.args.objects.now c.args.object c.index-objects-object.result c.key_shards-colours.result
     c.as_slice.result.now c.args.keys.now c.requires.uses.0 c.key_shards-colours.ensures c.as_slice.ensures)
     (subst (λ (x : Stamped). ReadsStamped w v command.client cs (end_in v command.client cs x)) c.in-Whole.is
-    c.in_ok-stamped_read.ensures.ok)) [] refl
+    c.in_ok-stamped_read.ensures.ok)) [] refl)

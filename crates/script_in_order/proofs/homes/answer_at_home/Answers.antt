@@ -14,8 +14,8 @@ returns-in-Some-clause-ok c =
     (does_not_at_home c.args.objects.now c.args.command.now w c.in-Some.home
     (sym c.refusing_home.ensures ∙ c.in-Some.is))
 
-pub returns-else-folds_nodes-clause-folded : goal.returns-else-folds_nodes-clause-folded
-returns-else-folds_nodes-clause-folded c =
-    folded_on c.args.objects.now c.args.command.now (world_of c.args.world.now) (world_of c.answer.new.world)
-    c.args.folds.now c.answer.result c.agrees.ensures (sym c.refusing_home.ensures ∙ c.in-None.is) c.answer.ensures.ok
-    c.answer.ensures.err c.requires.folded
+pub returns-in_ok-answer-in-None-clause-folded : goal.returns-in_ok-answer-in-None-clause-folded
+returns-in_ok-answer-in-None-clause-folded c =
+    c.answer.ensures.folded (folded_on c.args.objects.now c.args.command.now (world_of c.args.world.now)
+    (world_of c.answer.new.world) c.answer.new.nodes c.answer.result c.agrees.ensures
+    (sym c.refusing_home.ensures ∙ c.in-None.is) c.answer.ensures.ok c.answer.ensures.err)

@@ -9,6 +9,7 @@ use Rattle.script_meaning.specs.States.{kind_in}
 use Rattle.script_meaning.specs.Objects.{shard_set}
 use Rattle.script_meaning.proofs.CallerLemmas.{key_is_word}
 use Rattle.script_in_order.proofs.ObjectSteps.{kind_is, small, has_some, are_low, form_done}
+use Rattle.script_in_order.proofs.CommandKinds.{all_do}
 use Rattle.script_in_order.proofs.object_appends.delete.Goals as goal
 
 -- the object's kind, where its facts are found
@@ -48,11 +49,12 @@ pub returns-clause-ok : goal.returns-clause-ok
 returns-clause-ok c =
     let kind = (get_or c.args.objects.now c.args.object c.index-objects-object.result).kind in
     let is = kind_is c.args.objects.now c.args.object c.index-objects-object.result c.requires.uses.0 in
-    form_done c.args.command.now (world_of c.args.world.now) (world_of c.append_form.new.world) c.append_form.result
+    all_do c.args.objects.now c.args.command.now c.requires.asks c.append_form.result (world_of c.args.world.now) (world_of c.append_form.new.world) []
+    (form_done c.args.command.now (world_of c.args.world.now) (world_of c.append_form.new.world) c.append_form.result
     c.key_shard.result (shard_set (object_colours (kind_in c.args.objects.now c.args.object)) (c.args.key.now ∷ []))
     (forms.Delete c.in_ok-copied.field-0) (forms.Delete c.args.key.now)
     (c.key_shard.ensures
     ∙ (ap (λ (k : List ℕ). shard_set (object_colours (Some kind)) (k ∷ [])) c.as_bytes-2.ensures
     ∙ ap (λ (k : Option Kind). shard_set (object_colours k) (c.args.key.now ∷ [])) is))
     (ap forms.Delete (c.in_ok-copied.ensures ∙ c.as_bytes.ensures))
-    c.append_form.ensures.ok
+    c.append_form.ensures.ok)

@@ -1,4 +1,4 @@
-use Rattle.std.proofs.Common.{◌∙◌, Option, get_or, ap, sym, subst}
+use Rattle.std.proofs.Common.{◌∙◌, [], Option, get_or, ap, sym, subst}
 use Rattle.log_node.specs.Sets.{set_of}
 use Rattle.script_text.specs.Fitting.{AreBelow, HasColours, is_queue}
 use Rattle.script_text.specs.declared.script.Kind.{Kind}
@@ -9,6 +9,7 @@ use Rattle.world_code.specs.WorldView.{world_of}
 use Rattle.script_meaning.specs.States.{kind_in}
 use Rattle.script_meaning.proofs.CallerLemmas.{key_is_word}
 use Rattle.script_in_order.proofs.ObjectSteps.{kind_is, has_kind, small, queue_some, queue_low, form_done}
+use Rattle.script_in_order.proofs.CommandKinds.{all_do}
 use Rattle.script_in_order.proofs.object_appends.enqueue.Goals as goal
 
 -- the object's kind, where its facts are found
@@ -45,10 +46,11 @@ append_form-requires-clause-within c =
 
 pub returns-clause-ok : goal.returns-clause-ok
 returns-clause-ok c =
-    form_done c.args.command.now (world_of c.args.world.now) (world_of c.append_form.new.world) c.append_form.result
+    all_do c.args.objects.now c.args.command.now c.requires.asks c.append_form.result (world_of c.args.world.now) (world_of c.append_form.new.world) []
+    (form_done c.args.command.now (world_of c.args.world.now) (world_of c.append_form.new.world) c.append_form.result
     c.queue_colours-set.result (set_of (object_colours (kind_in c.args.objects.now c.args.object)))
     (forms.Enqueue c.in_ok-copied.field-0) (forms.Enqueue c.args.value.now)
     (c.queue_colours-set.ensures ∙ ap (λ (k : Option Kind). set_of (object_colours k))
     (kind_is c.args.objects.now c.args.object c.index-objects-object.result c.requires.uses.0))
     (ap forms.Enqueue (c.in_ok-copied.ensures ∙ c.as_bytes.ensures))
-    c.append_form.ensures.ok
+    c.append_form.ensures.ok)

@@ -7,6 +7,7 @@ use Rattle.world_code.specs.WorldView.{world_of}
 use Rattle.script_meaning.specs.States.{kind_in}
 use Rattle.script_meaning.specs.Objects.{shard_set}
 use Rattle.script_in_order.proofs.ObjectSteps.{kind_is, put_is_form, small, has_some, are_low, form_done}
+use Rattle.script_in_order.proofs.CommandKinds.{all_do}
 use Rattle.script_in_order.proofs.object_appends.put.Goals as goal
 
 -- the object's kind, where its facts are found
@@ -47,11 +48,12 @@ pub returns-clause-ok : goal.returns-clause-ok
 returns-clause-ok c =
     let kind = (get_or c.args.objects.now c.args.object c.index-objects-object.result).kind in
     let is = kind_is c.args.objects.now c.args.object c.index-objects-object.result c.requires.uses.0 in
-    form_done c.args.command.now (world_of c.args.world.now) (world_of c.append_form.new.world) c.append_form.result
+    all_do c.args.objects.now c.args.command.now c.requires.asks c.append_form.result (world_of c.args.world.now) (world_of c.append_form.new.world) []
+    (form_done c.args.command.now (world_of c.args.world.now) (world_of c.append_form.new.world) c.append_form.result
     c.key_shard.result (shard_set (object_colours (kind_in c.args.objects.now c.args.object)) (c.args.key.now ∷ []))
     c.in_ok-form.form (put_form (kind_in c.args.objects.now c.args.object) c.args.key.now c.args.value.now)
     (c.key_shard.ensures
     ∙ (ap (λ (k : List ℕ). shard_set (object_colours (Some kind)) (k ∷ [])) c.as_bytes.ensures
     ∙ ap (λ (k : Option Kind). shard_set (object_colours k) (c.args.key.now ∷ [])) is))
     (c.in_ok-form.ensures ∙ ap (λ (k : Option Kind). put_form k c.args.key.now c.args.value.now) is)
-    c.append_form.ensures.ok
+    c.append_form.ensures.ok)

@@ -1,4 +1,4 @@
-use Rattle.std.proofs.Common.{◌∙◌, List, Option, Some, get_or, ap, sym, subst}
+use Rattle.std.proofs.Common.{◌∙◌, [], List, Option, Some, get_or, ap, sym, subst}
 use Rattle.script_text.specs.Fitting.{AreBelow, HasColours, is_map}
 use Rattle.script_text.specs.declared.script.Kind.{Kind}
 use Rattle.log_node.specs.declared.forms.Pair.{Pair}
@@ -10,6 +10,7 @@ use Rattle.script_meaning.specs.States.{kind_in}
 use Rattle.script_meaning.specs.Objects.{shard_set}
 use Rattle.script_meaning.proofs.CallerLemmas.{key_some, pairs_are, some_of}
 use Rattle.script_in_order.proofs.ObjectSteps.{kind_is, small, has_some, are_low, form_done}
+use Rattle.script_in_order.proofs.CommandKinds.{all_do}
 use Rattle.script_in_order.proofs.object_appends.put_all.Goals as goal
 
 -- the object's kind, where its facts are found
@@ -50,7 +51,8 @@ pub returns-clause-ok : goal.returns-clause-ok
 returns-clause-ok c =
     let kind = (get_or c.args.objects.now c.args.object c.index-objects-object.result).kind in
     let is = kind_is c.args.objects.now c.args.object c.index-objects-object.result c.requires.uses.0 in
-    form_done c.args.command.now (world_of c.args.world.now) (world_of c.append_form.new.world) c.append_form.result
+    all_do c.args.objects.now c.args.command.now c.requires.asks c.append_form.result (world_of c.args.world.now) (world_of c.append_form.new.world) []
+    (form_done c.args.command.now (world_of c.args.world.now) (world_of c.append_form.new.world) c.append_form.result
     c.pair_shards-set.result
     (shard_set (object_colours (kind_in c.args.objects.now c.args.object)) (keys_of_pairs c.args.pairs.now))
     (forms.PutAll c.in_ok-copied_pairs.field-0) (forms.PutAll c.args.pairs.now)
@@ -58,4 +60,4 @@ returns-clause-ok c =
     ∙ (ap (λ (ps : List Pair). shard_set (object_colours (Some kind)) (keys_of_pairs ps)) c.as_slice.ensures
     ∙ ap (λ (k : Option Kind). shard_set (object_colours k) (keys_of_pairs c.args.pairs.now)) is))
     (ap forms.PutAll (c.in_ok-copied_pairs.ensures ∙ c.as_slice-2.ensures))
-    c.append_form.ensures.ok
+    c.append_form.ensures.ok)

@@ -5,7 +5,7 @@ use Rattle.log_node.specs.declared.node.Shape.{Shape}
 use Rattle.object_form.specs.Forms.{form_text}
 use Rattle.script_text.specs.declared.script.Kind.TheVariants as kinds
 use Rattle.script_text.specs.declared.script.Object.{Object}
-use Rattle.script_text.specs.declared.script.What.TheVariants as whats
+use Rattle.script_text.specs.declared.commands.What.TheVariants as whats
 use Rattle.script_text.specs.declared.script.Command.{Command}
 use Rattle.script_text.specs.Fitting.{IsKindWithin, HasObject, is_queue}
 use Rattle.std.specs.List.{All}
@@ -25,6 +25,7 @@ use Rattle.script_in_order.proofs.ObjectHomes.{queue_at}
 use Rattle.script_meaning.specs.States.{kind_in}
 use Rattle.script_in_order.proofs.ObjectSteps.{kind_is}
 use Rattle.script_in_order.proofs.DequeueSteps.{entered_of, entered_shape, entered_runs, only_shard, by_colours}
+use Rattle.script_in_order.proofs.CommandKinds.{does_what}
 use Rattle.script_in_order.proofs.queues.dequeue.Goals as goal
 
 -- the queue's colour is the shard of no key
@@ -127,13 +128,13 @@ read_behind-requires-clause-folded c =
 pub returns-clause-ok : goal.returns-clause-ok
 returns-clause-ok c =
     let w = world_of c.args.world.now in
-    by_colours c.args.command.now (object_colours (kind_in c.args.objects.now c.args.object)) c.shard-colour.result w
+    does_what c.args.objects.now c.args.command.now c.requires.asks (by_colours c.args.command.now (object_colours (kind_in c.args.objects.now c.args.object)) c.shard-colour.result w
     (world_of c.read_behind.new.world) c.read_behind.result
     (its_colour c.args.world.now.shape.regions c.args.world.now.shape.colours c.args.objects.now c.requires.kinds
     c.args.object c.index-objects-object.result c.shard-colour.result c.requires.uses.0 c.shard-colour.ensures).0
     (c.read_behind.ensures.done w
     (did c.args.command.now c.in_ok-text.text c.shard-colour.result w (world_of c.append_one.new.world)
-    c.in_ok-appended.appended c.in_ok-text.ensures c.in_ok-appended.ensures.ok))
+    c.in_ok-appended.appended c.in_ok-text.ensures c.in_ok-appended.ensures.ok)))
 
 pub returns-clause-folded : goal.returns-clause-folded
 returns-clause-folded c =

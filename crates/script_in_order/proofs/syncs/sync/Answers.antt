@@ -13,6 +13,7 @@ use Rattle.script_meaning.specs.Moves.{synced}
 use Rattle.report_text.specs.declared.report.Answer.TheVariants as answers
 use Rattle.script_in_order.specs.Doing.{DoneBy}
 use Rattle.script_in_order.proofs.SyncPlays.{are_played, plays_just, plays, refuses}
+use Rattle.script_in_order.proofs.CommandKinds.{does_what}
 use Rattle.script_in_order.proofs.syncs.sync.Goals as goal
 
 pub play-requires-clause-cut : goal.play-requires-clause-cut
@@ -29,9 +30,9 @@ pub returns-in-Some-clause-ok : goal.returns-in-Some-clause-ok
 returns-in-Some-clause-ok c =
     let w = world_of c.args.world.now in
     let command = c.args.command.now in
-    subst (λ (l : List PlacedNode). DoneBy (λ _ state. synced state command c.args.colour) command w w
-    (answers.Trimmed c.args.colour c.in-Some.base) l) (sym c.new.ensures)
-    (refuses command w c.args.colour c.in-Some.base c.in-Some.ensures.some.0 c.in-Some.ensures.some.1)
+    does_what c.args.objects.now c.args.command.now c.requires.asks (subst (λ (l : List PlacedNode). DoneBy (λ _ state. synced state command c.args.colour) command
+    w w (answers.Trimmed c.args.colour c.in-Some.base) l) (sym c.requires.none)
+    (refuses command w c.args.colour c.in-Some.base c.in-Some.ensures.some.0 c.in-Some.ensures.some.1))
 
 pub returns-in-Err-Trimmed-clause-ok : goal.returns-in-Err-Trimmed-clause-ok
 returns-in-Err-Trimmed-clause-ok c =
@@ -40,13 +41,13 @@ returns-in-Err-Trimmed-clause-ok c =
     let look = c.in_ok-view.ensures in
     let cause = subst (HasPlayCause c.in_ok-view.view c.player_of-player.result.played) c.in-Err-Trimmed.field-0-is
     c.in-Err-Trimmed.ensures.cause in
-    subst (λ (l : List PlacedNode). DoneBy (λ _ state. synced state command c.args.colour) command w w
-    (answers.Trimmed c.args.colour c.in-Err-Trimmed.base) l) (sym c.new-in-Err-Trimmed.ensures)
+    does_what c.args.objects.now c.args.command.now c.requires.asks (subst (λ (l : List PlacedNode). DoneBy (λ _ state. synced state command c.args.colour) command
+    w w (answers.Trimmed c.args.colour c.in-Err-Trimmed.base) l) (sym c.requires.none)
     (refuses command w c.args.colour c.in-Err-Trimmed.base
     (plays_just w command.client c.args.colour c.in_ok-view.view.base c.requires.caller
     (c.is_whole.ensures.homes command.client 0 c.requires.caller) c.requires.within look.base
     ∙ (ap (λ (p : Player). is_within c.in_ok-view.view.base p.played) (sym c.player_of-player.ensures) ∙ cause.1))
-    (cause.0 ∙ look.base))
+    (cause.0 ∙ look.base)))
 
 pub returns-in-Ok-clause-ok : goal.returns-in-Ok-clause-ok
 returns-in-Ok-clause-ok c =
@@ -61,9 +62,9 @@ returns-in-Ok-clause-ok c =
     → ArePlayed view chains from c.in-Ok.played.items =
     subst (λ (v : Counts). (chains : Chains) → ShowsChains view chains → Reachable chains view.cut
     → ArePlayed view chains v c.in-Ok.played.items) mine c.in-Ok.ensures.items in
-    plays command w (world_of c.play-played.new.self) c.args.colour view.events c.len-plays.result
+    does_what c.args.objects.now c.args.command.now c.requires.asks (plays command w (world_of c.play-played.new.self) c.args.colour view.events c.len-plays.result
     c.in-Ok.played.snapshot.counts c.in-Ok.played.items
     (plays_just w command.client c.args.colour view.base c.requires.caller
     (c.is_whole.ensures.homes command.client 0 c.requires.caller) c.requires.within look.base ∙ low)
     (are_played w command.client c.args.colour view look low c.in-Ok.played.items shown) c.len-plays.ensures
-    look.events (ap (λ (s : Snapshot). s.counts) c.in-Ok.ensures.snapshot ∙ look.cut) c.play-played.ensures.world
+    look.events (ap (λ (s : Snapshot). s.counts) c.in-Ok.ensures.snapshot ∙ look.cut) c.play-played.ensures.world)

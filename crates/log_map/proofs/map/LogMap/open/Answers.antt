@@ -1,20 +1,6 @@
-use Rattle.std.proofs.Common.{ℕ, ◌+◌, List, [], length, get_or, ap, subst, sym, ◌∙◌, refl, arith}
-use Rattle.object_fold.specs.declared.shard_map.ShardMap.{ShardMap}
-use Rattle.object_fold.specs.States.{IsShardMap}
-use Rattle.log_map.specs.Maps.{AreFresh}
-use Rattle.log_map.proofs.MapAnswers.{fresh_more}
+use Rattle.log_map.proofs.MapAnswers.{unopened}
 use Rattle.log_map.proofs.map.LogMap.open.Goals as goal
 
-pub loop-colour-preserved : goal.loop-colour-preserved
-loop-colour-preserved c =
-    let n = c.loop-colour.colour-index in
-    let items = c.as_slice-colour-items.ensures in
-    let long = ap length items in
-    let less = c.loop-colour-test.true in
-    subst (AreFresh c.args.colours (n + 1)) (sym c.in_ok-push.ensures.items)
-    (fresh_more c.args.colours n (get_or c.args.colours n 0) 0 c.loop-colour.shards.items c.new.result
-    (omega (arith, less, long)) refl
-    (ap (λ (m : ShardMap). m.colours) c.new.ensures.state ∙ (c.open-shard.ensures.colours ∙ (c.from.ensures ∙ (c.in_ok-copy.ensures.items ∙ c.as_slice.ensures))))
-    (ap (λ (m : ShardMap). m.shard) c.new.ensures.state ∙ (c.open-shard.ensures.shard ∙ ap (λ (l : List ℕ). get_or l n 0) items))
-    c.new.ensures.count (subst (λ (m : ShardMap). IsShardMap m []) (sym c.new.ensures.state) c.open-shard.ensures.empty)
-    c.loop-colour.invariant)
+pub returns-clause-map : goal.returns-clause-map
+returns-clause-map c = λ client are.
+    unopened client (record { home = c.args.home; colours = c.args.colours; shards = c.new.result }) are c.new.ensures.items

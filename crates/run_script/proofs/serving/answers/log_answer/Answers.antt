@@ -3,8 +3,8 @@ use Rattle.script_text.specs.Fitting.{IsWithin}
 use Rattle.run_script.proofs.GivingCommands.{colours_of}
 use Rattle.run_script.proofs.serving.answers.log_answer.Goals as goal
 
-pub append-answer-requires-clause-colours : goal.append-answer-requires-clause-colours
-append-answer-requires-clause-colours g c κs within =
+pub append-requires-clause-colours : goal.append-requires-clause-colours
+append-requires-clause-colours g c κs within =
     let named = subst (IsWithin (length c.args.store.now.regions) c.args.store.now.size.colours) c.in-Append.is
     c.requires.within in
     colours_of c.args.store.now c.in-Append.colours 1 (omega arith) named.0 named.1
@@ -15,14 +15,8 @@ scan-requires-clause-colours g c =
     c.requires.within in
     colours_of c.args.store.now c.in-Scan.colours 1 (omega arith) named.0 named.1
 
-pub stop-answer-requires-clause-colours : goal.stop-answer-requires-clause-colours
-stop-answer-requires-clause-colours g c κs within =
+pub stop-requires-clause-colours : goal.stop-requires-clause-colours
+stop-requires-clause-colours g c κs within =
     let named = subst (IsWithin (length c.args.store.now.regions) c.args.store.now.size.colours) c.in-Stop.is
     c.requires.within in
     colours_of c.args.store.now c.in-Stop.colours 2 (omega arith) named.0 named.1
-
-pub stop-answer-requires-clause-steps : goal.stop-answer-requires-clause-steps
-stop-answer-requires-clause-steps g c κs within =
-    let named = subst (IsWithin (length c.args.store.now.regions) c.args.store.now.size.colours) c.in-Stop.is
-    c.requires.within in
-    (named.0.many, named.2)

@@ -1,5 +1,5 @@
 use Rattle.std.proofs.Common.{refl}
-use Rattle.script_text.specs.declared.script.What.TheVariants as whats
+use Rattle.script_text.specs.declared.commands.What.TheVariants as whats
 use Rattle.run_script.proofs.GivingCommands.{gives_unasked}
 use Rattle.run_script.proofs.serving.appends.append.Goals as goal
 

@@ -1,6 +1,6 @@
-use Rattle.std.proofs.Common.{ℕ, List, ap, sym, subst, ◌∙◌, arith}
+use Rattle.std.proofs.Common.{ℕ, List, refl, ap, sym, subst, ◌∙◌, arith}
 use Rattle.script_text.specs.declared.script.Kind.TheVariants as kinds
-use Rattle.script_text.specs.declared.script.What.TheVariants as whats
+use Rattle.script_text.specs.declared.commands.What.TheVariants as whats
 use Rattle.atomic_map.proofs.CallerLemmas.{map_later as atomic_later}
 use Rattle.run_script.specs.declared.serving.opened.Opened.{Opened}
 use Rattle.run_script.specs.Opened.{IsOpenedOf, kind_opened}
@@ -32,8 +32,11 @@ returns-in-Map-clause-gives g c =
     let is = subst (IsOpenedOf c.args.client.now) c.in-Map.is c.requires.kept in
     subst (λ (x : Opened). GivesFor c.args.store.now c.args.client.now c.get-get.new.client (kind_opened x)
     (λ object. whats.Get object c.args.key) c.got.result) (sym c.in-Map.is)
-    (gives_map_get c.args.store.now c.args.client.now c.get-get.new.client e.client c.got.result c.in-Map.single.home
-    c.in-Map.single.colours c.args.key c.get-get.result c.got.ensures is.0.colours e.idle e.away e.ok e.err)
+    (gives_map_get c.args.store.now c.args.client.now c.get-get.new.client e.client c.got.result
+    (λ (object : ℕ). whats.Get object c.args.key) c.args.key (λ object. refl) (λ object. refl)
+    (λ log caller kept after object value sync r.
+    (refl, object, c.args.key, refl, r.0, r.1, r.2, r.3, r.4, r.5, r.6)) c.in-Map.single.home
+    c.in-Map.single.colours c.get-get.result c.got.ensures is.0.colours e.idle e.away e.ok e.err)
 
 pub get-get-requires-in-Causal-clause-map : goal.get-get-requires-in-Causal-clause-map
 get-get-requires-in-Causal-clause-map g c κs within = subst (IsOpenedOf c.args.client.now) c.in-Causal.is c.requires.kept
@@ -52,4 +55,7 @@ returns-in-Causal-clause-gives g c =
     subst (λ (x : Opened). GivesFor c.args.store.now c.args.client.now c.get-get-in-Causal.new.client (kind_opened x)
     (λ object. whats.Get object c.args.key) c.got_many.result) (sym c.in-Causal.is)
     (gives_causal_get c.args.store.now c.args.client.now c.get-get-in-Causal.new.client e.client c.got_many.result
-    c.in-Causal.map.colour c.args.key c.get-get-in-Causal.result c.got_many.ensures (omega (arith, few)) e.idle e.ok e.err)
+    (λ (object : ℕ). whats.Get object c.args.key) c.args.key (λ object. refl) (λ object. refl)
+    (λ log caller kept after object values sync r.
+    (refl, object, c.args.key, refl, r.0, r.1, r.2, r.3)) c.in-Causal.map.colour
+    c.get-get-in-Causal.result c.got_many.ensures (omega (arith, few)) e.idle e.ok e.err)

@@ -7,15 +7,15 @@ pub returns-in_ok-again-in-Map-clause-unfolded : goal.returns-in_ok-again-in-Map
 returns-in_ok-again-in-Map-clause-unfolded c = (
   refl,
   λ client regions few within.
-      let one = c.in_ok-single-in-Map.ensures in
+      let one = c.open-single.ensures in
       let all = c.open-several.ensures in
       let copy : c.in_ok-copy-in-Map.copy ≡ c.in-Map.colours = c.in_ok-copy-in-Map.ensures ∙ c.as_slice.ensures in
       let again : c.in_ok-again-in-Map.again ≡ c.in-Map.colours = c.in_ok-again-in-Map.ensures ∙ c.as_slice-in-Map.ensures in
-      let home : c.in_ok-single-in-Map.single.home ≡ c.in-Map.home = one.of.0 in
+      let home : c.open-single.result.home ≡ c.in-Map.home = one.of.0 in
       let its_home : c.open-several.result.home ≡ c.in-Map.home = all.of.0 in
-      let colours : c.in_ok-single-in-Map.single.colours ≡ c.in-Map.colours = one.of.1 ∙ copy in
+      let colours : c.open-single.result.colours ≡ c.in-Map.colours = one.of.1 ∙ copy in
       let its_colours : c.open-several.result.colours ≡ c.in-Map.colours = all.of.1 ∙ again in
-      let are = map_colours client regions c.in_ok-single-in-Map.single.home c.in_ok-single-in-Map.single.colours few within in (
+      let are = map_colours client regions c.open-single.result.home c.open-single.result.colours few within in (
         one.map client (subst (HasColoursOf client) one.of.1 are),
         all.map client (subst (HasColoursOf client) (colours ∙ sym again) are),
         its_home ∙ sym home,

@@ -1,9 +1,9 @@
-use Rattle.std.proofs.Common.{ap, sym, subst, ◌∙◌, arith, ◌∷◌, []}
+use Rattle.std.proofs.Common.{ℕ, ap, sym, subst, ◌∙◌, arith, ◌∷◌, []}
 use Rattle.object_form.specs.Forms.{form_text}
 use Rattle.log_node.specs.declared.forms.Form.TheVariants as forms
 use Rattle.object_fold.specs.Nodes.{shard_of}
 use Rattle.script_text.specs.declared.script.Kind.TheVariants as kinds
-use Rattle.script_text.specs.declared.script.What.TheVariants as whats
+use Rattle.script_text.specs.declared.commands.What.TheVariants as whats
 use Rattle.log_client.proofs.CallerLemmas.{rests_same}
 use Rattle.atomic_map.proofs.CallerLemmas.{map_later as atomic_later}
 use Rattle.log_map.specs.declared.map.LogMap.{LogMap}
@@ -12,14 +12,16 @@ use Rattle.run_script.specs.Opened.{IsOpenedOf, kind_opened}
 use Rattle.run_script.specs.Serving.{GivesFor}
 use Rattle.run_script.proofs.GivingObjects.{gives_unasked_of}
 use Rattle.run_script.proofs.GivingPuts.{gives_map_del, points_fit}
+use Rattle.run_script.proofs.ReadsFound.{map_not_tx}
 use Rattle.run_script.proofs.serving.puts.del.Goals as goal
 
 pub returns-in_default-clause-rests : goal.returns-in_default-clause-rests
 returns-in_default-clause-rests g c = rests_same c.args.store.now c.args.client.now c.requires.client
 
 pub returns-in_default-clause-gives : goal.returns-in_default-clause-gives
-returns-in_default-clause-gives g c = λ objects object at.
-    gives_unasked_of c.args.store.now c.args.client.now objects (whats.Del object c.args.key) c.requires.client
+returns-in_default-clause-gives g c =
+    gives_unasked_of c.args.store.now c.args.client.now (kind_opened c.args.opened.now)
+    (λ (object : ℕ). whats.Del object c.args.key) c.requires.client (map_not_tx (kind_opened c.args.opened.now) c.requires.kind)
 
 pub del-del-requires-clause-map : goal.del-del-requires-clause-map
 del-del-requires-clause-map g c κs within = (subst (IsOpenedOf c.args.client.now) c.in-Map.is c.requires.kept).0

@@ -1,8 +1,8 @@
-use Rattle.std.proofs.Common.{ap, sym, subst, ◌∙◌, arith, ◌∷◌, []}
+use Rattle.std.proofs.Common.{ℕ, ap, sym, subst, ◌∙◌, arith, ◌∷◌, []}
 use Rattle.object_form.specs.Forms.{form_text}
 use Rattle.log_node.specs.declared.forms.Form.TheVariants as forms
 use Rattle.script_text.specs.declared.script.Kind.TheVariants as kinds
-use Rattle.script_text.specs.declared.script.What.TheVariants as whats
+use Rattle.script_text.specs.declared.commands.What.TheVariants as whats
 use Rattle.log_client.proofs.CallerLemmas.{rests_same}
 use Rattle.log_queue.specs.declared.queue.LogQueue.{LogQueue}
 use Rattle.run_script.specs.declared.serving.opened.Opened.{Opened}
@@ -10,14 +10,16 @@ use Rattle.run_script.specs.Opened.{IsOpenedOf, kind_opened}
 use Rattle.run_script.specs.Serving.{GivesFor}
 use Rattle.run_script.proofs.GivingObjects.{gives_unasked_of}
 use Rattle.run_script.proofs.GivingPuts.{gives_enq, points_fit}
+use Rattle.run_script.proofs.ReadsFound.{queue_not_tx}
 use Rattle.run_script.proofs.serving.puts.enq.Goals as goal
 
 pub returns-in_default-clause-rests : goal.returns-in_default-clause-rests
 returns-in_default-clause-rests g c = rests_same c.args.store.now c.args.client.now c.requires.client
 
 pub returns-in_default-clause-gives : goal.returns-in_default-clause-gives
-returns-in_default-clause-gives g c = λ objects object at.
-    gives_unasked_of c.args.store.now c.args.client.now objects (whats.Enq object c.args.value) c.requires.client
+returns-in_default-clause-gives g c =
+    gives_unasked_of c.args.store.now c.args.client.now (kind_opened c.args.opened.now)
+    (λ (object : ℕ). whats.Enq object c.args.value) c.requires.client (queue_not_tx (kind_opened c.args.opened.now) c.requires.kind)
 
 pub enq-enq-requires-clause-queue : goal.enq-enq-requires-clause-queue
 enq-enq-requires-clause-queue g c κs within = subst (IsOpenedOf c.args.client.now) c.in-Queue.is c.requires.kept

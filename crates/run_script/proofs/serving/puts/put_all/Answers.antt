@@ -5,7 +5,7 @@ use Rattle.log_node.specs.declared.forms.Form.TheVariants as forms
 use Rattle.log_node.specs.declared.forms.Pair.{Pair}
 use Rattle.lawful_run.specs.Asks.{keys_of_pairs, shards}
 use Rattle.script_text.specs.declared.script.Kind.TheVariants as kinds
-use Rattle.script_text.specs.declared.script.What.TheVariants as whats
+use Rattle.script_text.specs.declared.commands.What.TheVariants as whats
 use Rattle.log_client.proofs.CallerLemmas.{rests_same}
 use Rattle.log_map.proofs.CallerLemmas.{map_later}
 use Rattle.atomic_map.specs.declared.atomic.AtomicMap.{AtomicMap}
@@ -14,14 +14,16 @@ use Rattle.run_script.specs.Serving.{GivesFor}
 use Rattle.run_script.proofs.GivingObjects.{gives_unasked_of}
 use Rattle.run_script.proofs.GivingPuts.{gives_map_put_all, points_fit}
 use Rattle.run_script.proofs.ReplyRoom.{shards_few}
+use Rattle.run_script.proofs.ReadsFound.{map_not_tx}
 use Rattle.run_script.proofs.serving.puts.put_all.Goals as goal
 
 pub returns-in_default-clause-rests : goal.returns-in_default-clause-rests
 returns-in_default-clause-rests g c = rests_same c.args.store.now c.args.client.now c.requires.client
 
 pub returns-in_default-clause-gives : goal.returns-in_default-clause-gives
-returns-in_default-clause-gives g c = λ objects object at.
-    gives_unasked_of c.args.store.now c.args.client.now objects (whats.PutAll object c.args.pairs) c.requires.client
+returns-in_default-clause-gives g c =
+    gives_unasked_of c.args.store.now c.args.client.now (kind_opened c.args.opened.now)
+    (λ (object : ℕ). whats.PutAll object c.args.pairs) c.requires.client (map_not_tx (kind_opened c.args.opened.now) c.requires.kind)
 
 pub put_all-put-requires-clause-map : goal.put_all-put-requires-clause-map
 put_all-put-requires-clause-map g c κs within = (subst (IsOpenedOf c.args.client.now) c.in-Map.is c.requires.kept).1

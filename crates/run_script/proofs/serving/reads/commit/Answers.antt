@@ -1,7 +1,7 @@
 use Rattle.std.proofs.Common.{Option, None, sym, subst}
 use Rattle.std.specs.Prelude.{IfSome}
 use Rattle.object_form.specs.Forms.{AreVersions}
-use Rattle.script_text.specs.declared.script.What.TheVariants as whats
+use Rattle.script_text.specs.declared.commands.What.TheVariants as whats
 use Rattle.report_text.specs.declared.report.Answer.TheVariants as answers
 use Rattle.region_fold.specs.declared.transactions.Tx.{Tx}
 use Rattle.run_script.specs.declared.serving.opened.Opened.{Opened}

@@ -1,7 +1,7 @@
 use Rattle.std.proofs.Common.{◌≡◌, ℕ, List, ap, sym, subst, ◌∙◌}
 use Rattle.script_text.specs.declared.script.Kind.{Kind}
 use Rattle.script_text.specs.declared.script.Kind.TheVariants as kinds
-use Rattle.script_text.specs.declared.script.What.TheVariants as whats
+use Rattle.script_text.specs.declared.commands.What.TheVariants as whats
 use Rattle.log_map.proofs.CallerLemmas.{map_later}
 use Rattle.run_script.specs.declared.serving.opened.Opened.{Opened}
 use Rattle.run_script.specs.Opened.{IsOpenedOf, kind_opened}
@@ -9,15 +9,18 @@ use Rattle.run_script.specs.Serving.{GivesFor}
 use Rattle.run_script.proofs.FewShown.{shows_few_all}
 use Rattle.run_script.proofs.GivingObjects.{gives_unasked_of}
 use Rattle.run_script.proofs.GivingReads.{gives_map_get_all}
+use Rattle.run_script.proofs.ReadsFound.{map_not_tx}
 use Rattle.run_script.proofs.serving.reads.get_all.Goals as goal
 
 pub returns-in_default-clause-gives : goal.returns-in_default-clause-gives
-returns-in_default-clause-gives g c = λ objects object at.
-    gives_unasked_of c.args.store.now c.args.client.now objects (whats.GetAll object c.args.keys) c.requires.client
+returns-in_default-clause-gives g c =
+    gives_unasked_of c.args.store.now c.args.client.now (kind_opened c.args.opened.now)
+    (λ (object : ℕ). whats.GetAll object c.args.keys) c.requires.client (map_not_tx (kind_opened c.args.opened.now) c.requires.kind)
 
 pub returns-in_default-room_for-clause-gives : goal.returns-in_default-room_for-clause-gives
-returns-in_default-room_for-clause-gives g c = λ objects object at.
-    gives_unasked_of c.args.store.now c.args.client.now objects (whats.GetAll object c.args.keys) c.requires.client
+returns-in_default-room_for-clause-gives g c =
+    gives_unasked_of c.args.store.now c.args.client.now (kind_opened c.args.opened.now)
+    (λ (object : ℕ). whats.GetAll object c.args.keys) c.requires.client (map_not_tx (kind_opened c.args.opened.now) c.requires.kind)
 
 pub got_keys-requires-clause-many : goal.got_keys-requires-clause-many
 got_keys-requires-clause-many g c = c.get_all-get.ensures.many

@@ -3,7 +3,7 @@ use Rattle.std.specs.Prelude.{IfOk, IfSome, Result}
 use Rattle.object_form.specs.Forms.{AreVersions}
 use Rattle.object_fold.specs.Maps.{Value}
 use Rattle.script_text.specs.declared.script.Kind.TheVariants as kinds
-use Rattle.script_text.specs.declared.script.What.TheVariants as whats
+use Rattle.script_text.specs.declared.commands.What.TheVariants as whats
 use Rattle.report_text.specs.declared.report.Answer.TheVariants as answers
 use Rattle.log_client.specs.declared.answers.StampedRead.{StampedRead}
 use Rattle.log_client.specs.declared.object_fault.ObjectFault.{ObjectFault}

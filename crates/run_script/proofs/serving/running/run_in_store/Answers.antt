@@ -1,13 +1,12 @@
 use Rattle.std.proofs.Common.{◌≡◌, ◌∙◌, ◌≤◌, subst, arith, List, length, Some, Global, Vec}
 use Rattle.std.specs.Prelude.{slice_get}
-use Rattle.log_node.specs.declared.limits.TheConstants.{MAX_CLIENTS, MAX_COLOURS, MAX_ROWS}
-use Rattle.stamp_board.proofs.CallerLemmas.{words_within}
-use Rattle.script_text.specs.declared.limits.TheConstants.{VERSION_1}
 use Rattle.script_text.specs.declared.script.Command.{Command}
 use Rattle.script_text.specs.declared.script.Object.{Object}
 use Rattle.log_client.specs.declared.client.Client.{Client}
 use Rattle.run_script.specs.declared.serving.served.Served.{Served}
 use Rattle.run_script.specs.Dealing.{AreIdle}
+use Rattle.script_text.proofs.CallerLemmas.{clients_few, colours_few, rows_few}
+use Rattle.run_script.proofs.StoreSizes.{words_few}
 use Rattle.run_script.proofs.ClosingRuns.{can_be_shown, runs_end_lawfully}
 use Rattle.run_script.proofs.RunningBeside.{are_clients, can_serve, lawful_if, many_shares, script_of, were_served, whole}
 use Rattle.run_script.proofs.serving.running.run_in_store.Goals as goal
@@ -22,21 +21,14 @@ pub open-requires-clause-size : goal.open-requires-clause-size
 open-requires-clause-size g c =
     let can = whole c.requires.0 c.args.dealt c.requires.1 in
     let f = can.fits.shape in
-    let few_clients = f.few_clients in
-    let few_colours = f.few_colours in
-    let few_rows = can.rows in
-    let clients : length c.args.dealt.header.shape.homes ≤ MAX_CLIENTS = omega (arith, few_clients) in
-    let colours : c.args.dealt.header.shape.colours ≤ MAX_COLOURS = omega (arith, few_colours) in
-    let rows : c.args.dealt.header.shape.rows ≤ MAX_ROWS = omega (arith, few_rows) in record {
+    let header = c.args.dealt.header in record {
       some_clients = f.a_client;
-      few_clients = clients;
+      few_clients = clients_few header.version header.shape f;
       some_colours = f.a_colour;
-      few_colours = colours;
+      few_colours = colours_few header.version header.shape f;
       some_rows = can.some_rows;
-      few_rows = rows;
-      few_words = words_within (length c.args.dealt.header.shape.homes) c.args.dealt.header.shape.rows
-          c.args.dealt.header.shape.colours VERSION_1.clients MAX_ROWS VERSION_1.colours f.few_clients rows f.few_colours
-          (omega arith);
+      few_rows = rows_few header.version header.shape.rows can.rows;
+      few_words = words_few header.version header.shape f can.rows;
     }
 
 pub make_ready-requires : goal.make_ready-requires

@@ -1,6 +1,6 @@
 use Rattle.std.proofs.Common.{refl, sym, subst, List}
 use Rattle.log_node.specs.Seen.{PlacedNode}
-use Rattle.script_text.specs.declared.script.What.TheVariants as whats
+use Rattle.script_text.specs.declared.commands.What.TheVariants as whats
 use Rattle.report_text.specs.declared.report.Answer.TheVariants as answers
 use Rattle.run_script.specs.Serving.{ServesLog}
 use Rattle.run_script.proofs.GivingCommands.{gives_unasked}

@@ -3,7 +3,7 @@ use Rattle.std.proofs.lemmas.List.{length-map}
 use Rattle.log_node.specs.Seen.{PlacedNode}
 use Rattle.log_client.specs.declared.answers.Raised.{Raised}
 use Rattle.log_client.specs.declared.answers.Synced.{Synced}
-use Rattle.script_text.specs.declared.script.What.TheVariants as whats
+use Rattle.script_text.specs.declared.commands.What.TheVariants as whats
 use Rattle.report_text.specs.declared.report.Answer.TheVariants as answers
 use Rattle.run_script.specs.Serving.{ServesLog}
 use Rattle.run_script.proofs.GivingScans.{gives_scan, gives_scan_trimmed, gives_scan_without}

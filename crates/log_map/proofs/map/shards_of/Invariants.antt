@@ -1,5 +1,5 @@
 use Rattle.log_map.specs.Maps.{AreFresh}
-use Rattle.log_map.proofs.map.LogMap.open.Given as goal
+use Rattle.log_map.proofs.map.shards_of.Given as goal
 
 -- the shards so far
 abbrev pub invariant-loop-colour : goal.invariant-loop-colour

@@ -1,0 +1,128 @@
+-- One row for each command: behind it there holds what held before, steps lead to the state, and where it finds memory it does
+-- what it does with memory granted everywhere. Commands that append and are answered by where their node stands have no
+-- rows in the last two.
+use Rattle.std.proofs.Common.{◌≡◌, inl, ℕ, List, [], ◌∷◌, ◌++◌, map, None, refl}
+use Rattle.log_node.specs.declared.ids.Colours.{Colours}
+use Rattle.log_node.specs.Sets.{members, set_of}
+use Rattle.std.specs.Prelude.{unwrap_or}
+use Rattle.object_form.specs.Laws.{ReadsBack}
+use Rattle.col_core.proofs.CallerLemmas.{both}
+use Rattle.script_text.specs.declared.script.Object.{Object}
+use Rattle.script_text.specs.declared.commands.What.{What}
+use Rattle.script_text.specs.declared.commands.What.TheVariants as whats
+use Rattle.script_text.specs.declared.script.Command.{Command}
+use Rattle.script_text.specs.declared.script.Script.{Script}
+use Rattle.script_text.specs.Fitting.{IsWithin, UsesObject}
+use Rattle.lawful_run.specs.Callers.{Caller}
+use Rattle.lawful_run.specs.Deeds.{Reach, NoColours, Named, ShardsOf, colours_reached, Saying, saying_of}
+use Rattle.lawful_run.specs.Asks.{object_colours, kind_asked, colours_of_object, keys_of_pairs, shards}
+use Rattle.script_meaning.specs.States.{State, Grants, all_granted}
+use Rattle.script_meaning.specs.Stamped.{shown_key, scan_answer}
+use Rattle.script_meaning.specs.Objects.{caller_in, shard_set}
+use Rattle.script_meaning.specs.Gets.{keys_answer}
+use Rattle.script_meaning.specs.Meaning.{done_one}
+use Rattle.script_meaning.proofs.Append.AppendRuns as appending
+use Rattle.script_meaning.proofs.Move.AfterMoves as moving
+use Rattle.script_meaning.proofs.Object.DequeueRuns as dequeuing
+use Rattle.script_meaning.proofs.Object.GetRuns as getting
+use Rattle.script_meaning.proofs.Object.CausalRuns.{runs_get}
+use Rattle.script_meaning.proofs.Object.ObjectForms.{a_key}
+use Rattle.script_meaning.proofs.Object.ShardSets.{shard_members}
+use Rattle.script_meaning.proofs.Read.AfterScan as scanning
+use Rattle.script_meaning.proofs.Transaction.CommitRuns as committing
+use Rattle.script_meaning.proofs.Run.GrantedCommands.{Extends, HadMemory, append_extends, append_exact, stop_extends, stop_exact, sync_extends, pull_extends, pull_exact, trim_extends, read_extends, reads_exact, kept_extends, kept_exact, commit_extends, commit_exact, deq_extends, deq_exact, got_extends, got_exact}
+use Rattle.script_meaning.proofs.Run.Invariant.{Runs, IsFit}
+
+module _ (back : ReadsBack) (script : Script) (commands : List Command) (state : State) (command : Command)
+    (grants : Grants) (runs : Runs script commands state) (fit : IsFit script commands command) where
+  pub runs_what : (what : What) → command.what ≡ what
+      → IsWithin script.shape.regions script.shape.colours what → UsesObject script.objects what
+      → Runs script (commands ++ command ∷ []) (done_one script.objects grants state command what)
+  runs_what (whats.Append colours text) asked within uses =
+      appending.runs_append script commands state command grants runs fit colours text asked within.0 within.1
+  runs_what (whats.Stop steps colours text) asked within uses =
+      appending.runs_stop script commands state command grants runs fit colours text within.0 within.1 steps asked
+  runs_what (whats.Sync colour) asked within uses =
+      moving.runs_sync script commands state command runs fit colour asked within
+  runs_what (whats.Scan colours) asked within uses =
+      scanning.runs_scan script commands state command grants runs fit colours asked within.0 within.1
+  runs_what (whats.Pull region colour) asked within uses =
+      moving.runs_pull script commands state command runs fit grants region colour asked within.0 within.1
+  runs_what (whats.Trim colour) asked within uses =
+      moving.runs_trim script commands state command runs fit colour asked within
+  runs_what (whats.Put object key value) asked within uses =
+      appending.runs_shards script commands state command grants runs fit asked refl object uses.0 (key ∷ []) _
+      (λ _ _. (shard_members _ _, refl)) (key, inl refl)
+  runs_what (whats.Get object key) asked within uses =
+      runs_get script commands state command grants runs fit object key asked uses.0
+  runs_what (whats.Del object key) asked within uses =
+      appending.runs_shards script commands state command grants runs fit asked refl object uses.0 (key ∷ []) _
+      (λ _ _. (shard_members _ _, refl)) (key, inl refl)
+  runs_what (whats.PutAll object pairs) asked within uses =
+      appending.runs_shards script commands state command grants runs fit asked refl object uses.0 (keys_of_pairs pairs) _
+      (λ _ _. (shard_members _ _, refl)) (a_key 4 (keys_of_pairs pairs) (both _ _ uses.1).0)
+  runs_what (whats.GetAll object keys) asked within uses =
+      getting.runs_get_keys script commands state command grants runs fit object keys (a_key 4 keys uses.1) asked uses.0
+  runs_what (whats.Read object keys) asked within uses = absurd (fit.read object keys asked)
+  runs_what (whats.Commit object pairs) asked within uses =
+      committing.runs_commit back script commands state command grants runs fit object pairs asked
+  runs_what (whats.Enq object value) asked within uses =
+      appending.runs_queue script commands state command grants runs fit asked refl object uses.0 (λ _ is. is) _
+      (λ one _ _. (one, refl))
+  runs_what (whats.Deq object) asked within uses =
+      dequeuing.runs_dequeue script commands state command grants runs fit object asked uses.0
+
+-- the set of the colours of a reach, of an object with its own ones
+abbrev set_reached : List ℕ → Reach → Colours
+set_reached own (Named colours) = colours
+set_reached own (ShardsOf keys) = shard_set own keys
+set_reached own reach = set_of (colours_reached own reach)
+
+module _ (objects : List Object) (grants : Grants) (state : State) (command : Command) where
+  abbrev u : ℕ
+  u = command.client
+
+  abbrev caller : Caller
+  caller = caller_in state.world objects u
+
+  -- the node that a command appends which uses up no read
+  abbrev said : What → Saying
+  said what = unwrap_or (saying_of (kind_asked caller what) None what) (record { reach = NoColours; text = [] })
+
+  abbrev its_set : What → Colours
+  its_set what = set_reached (object_colours (kind_asked caller what)) (said what).reach
+
+  pub one_command_extends : (what : What) → Extends state (done_one objects grants state command what)
+  one_command_extends (whats.Stop steps colours text) = stop_extends objects grants state command colours text steps
+  one_command_extends (whats.Sync colour) = sync_extends objects grants state command colour
+  one_command_extends (whats.Scan colours) =
+      read_extends objects grants state command (members colours) (λ _. scan_answer) (λ v. map (shown_key v))
+  one_command_extends (whats.Pull region colour) = pull_extends objects grants state command region colour
+  one_command_extends (whats.Trim colour) = trim_extends objects grants state command colour
+  one_command_extends (whats.Get object key) = got_extends objects grants state command _ key
+  one_command_extends (whats.GetAll object keys) =
+      let own = colours_of_object caller object in
+      read_extends objects grants state command (shards own keys) (λ v. keys_answer v u own keys) (λ _ _. [])
+  one_command_extends (whats.Read object keys) = kept_extends objects grants state command object keys
+  one_command_extends (whats.Commit object pairs) = commit_extends objects grants state command object pairs _
+  one_command_extends (whats.Deq object) = deq_extends objects grants state command _
+  one_command_extends what =
+      append_extends objects grants state command (its_set what) (said what).text (members (its_set what))
+
+  pub one_command_exact : (what : What) → HadMemory u (done_one objects grants state command what)
+      → done_one objects grants state command what ≡ done_one objects all_granted state command what
+  one_command_exact (whats.Stop steps colours text) = stop_exact objects grants state command colours text steps
+  one_command_exact (whats.Sync colour) = λ _. refl
+  one_command_exact (whats.Scan colours) =
+      reads_exact objects grants state command (members colours) (λ _. scan_answer) (λ v. map (shown_key v))
+  one_command_exact (whats.Pull region colour) = pull_exact objects grants state command region colour
+  one_command_exact (whats.Trim colour) = λ _. refl
+  one_command_exact (whats.Get object key) = λ _. got_exact objects grants state command _ key
+  one_command_exact (whats.GetAll object keys) =
+      let own = colours_of_object caller object in
+      reads_exact objects grants state command (shards own keys) (λ v. keys_answer v u own keys) (λ _ _. [])
+  one_command_exact (whats.Read object keys) = kept_exact objects grants state command object keys
+  one_command_exact (whats.Commit object pairs) = commit_exact objects grants state command object pairs _
+  one_command_exact (whats.Deq object) = deq_exact objects grants state command _
+  one_command_exact what =
+      append_exact objects grants state command (its_set what) (said what).text (members (its_set what))
