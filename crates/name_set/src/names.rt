@@ -13,6 +13,7 @@ use std::alloc::{AllocError, Global};
 use std::marker::Model;
 
 /// Names of one kind, in the order in which they were first said; the number of a name is its place.
+#[derive(Drop)]
 pub struct NameSet {
     names: Names,
     // The keys of the names, as long as each is short and apart from those before it, as names of a script are.
@@ -28,16 +29,6 @@ impl Model for NameSet {
     ghost view = { λ a. a.names };
 
     ghost invariant = { λ a. IsIndexed a.names a.keys.keys };
-}
-
-// Written out, so that a caller's exits have one call for it.
-impl Drop for NameSet {
-    fn drop(self) {
-        let NameSet {
-            names: _names,
-            keys: _keys,
-        } = self;
-    }
 }
 
 // So many keys are gone through one by one; more are looked up in the index.

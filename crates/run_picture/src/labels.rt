@@ -6,13 +6,12 @@ ghost use Rattle.report_text.specs.Output.{Adds};
 ghost use Rattle.run_picture.specs.Labels.{name_among, word_label, field_label, pair_label, pairs_label, colours_label, object_label, source_label, IsOfLog, named_label, subject_label, heading_label, content_label, short_label, saying_label, unread_label, node_label};
 
 use crate::pieces::{Piece, put_all};
-use log_node::{Colours, Pair, Text};
-use name_set::NameSet;
+use log_node::{Colours, Names, Pair, Text};
 use report_text::{Answer, Output};
 use script_text::{Content, Script, Use, What};
 
 /// The name with this number; nothing where the number names nothing.
-pub fn name_among(names: &NameSet, number: u8) -> &[u8]
+pub fn name_among(names: &Names, number: u8) -> &[u8]
     ensures { result.now ≡ name_among names.now number }
 {
     match names.get(number as usize) {

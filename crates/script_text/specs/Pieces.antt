@@ -1,7 +1,8 @@
 -- The pieces that stand in a script's bytes: lines, fields, names, keys, texts and numbers.
-pub use Rattle.name_set.specs.Names.{is_among, number_of}
-use Rattle.std.specs.Prelude.{Bool, false, ℕ, zero, suc, ◌+◌, ◌*◌, ◌-◌, ◌==◌, nat_le, nat_lt, ◌&&◌, ◌||◌, List, [], ◌∷◌, length, if◌then◌else◌}
-use Rattle.std.specs.List.{list_all, fold, slice_split, onto_first}
+use Rattle.std.specs.Prelude.{Bool, false, ℕ, zero, suc, ◌+◌, ◌*◌, ◌-◌, ◌==◌, nat_le, nat_lt, ◌&&◌, ◌||◌, List, [], ◌∷◌, length, Option, Some, None, if◌then◌else◌}
+use Rattle.std.specs.List.{list_any, list_all, fold, slice_split, onto_first}
+use Rattle.std.specs.Str.{bytes_eq}
+use Rattle.std.specs.Option.{option_map}
 use Rattle.script_text.specs.declared.limits.TheConstants.{MAX_NAME, MAX_KEY}
 use Rattle.log_node.specs.declared.limits.TheConstants.{MAX_TEXT}
 
@@ -64,6 +65,15 @@ is_number most (b ∷ bs) = list_all is_digit (b ∷ bs) && (is_between 49 57 b 
 -- the number that digits say
 abbrev pub number_value : List ℕ → ℕ
 number_value digits = fold (λ n b. 10 * n + (b - 48)) 0 digits
+
+-- the name is one of these
+abbrev pub is_among : List (List ℕ) → List ℕ → Bool
+is_among names name = list_any (bytes_eq name) names
+
+-- the number of a name, counted from 0
+abbrev pub number_of : List (List ℕ) → List ℕ → Option ℕ
+number_of [] name = None
+number_of (first ∷ names) name = if bytes_eq name first then Some 0 else option_map suc (number_of names name)
 
 -- the name of a number
 abbrev pub name_of : List (List ℕ) → ℕ → List ℕ

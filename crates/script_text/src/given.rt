@@ -82,7 +82,7 @@ impl Given {
         match field {
             Field::Steps => self.number = steps_at(first(own))?,
             Field::Cols => {
-                let (colours, count) = colour_set(&known.script.colours, first(own))?;
+                let (colours, count) = colour_set(known.script.colours.as_slice(), first(own))?;
                 self.colours = colours;
                 self.count = count;
             }
@@ -90,14 +90,14 @@ impl Given {
             Field::Region => self.region = known.region_at(first(own))?,
             Field::Text => self.text = text_at(alloc, first(own))?,
             Field::Object { kinds } => {
-                self.object = object_at(kinds, &known.script.objects, first(own))?;
+                self.object = object_at(kinds, known.script.objects.as_slice(), first(own))?;
             }
             Field::Key => self.key = key_at(alloc, first(own))?,
             Field::Value => self.value = value_at(alloc, first(own))?,
             Field::Keys { .. } => self.keys = keys_at(alloc, own)?,
             Field::Pairs { .. } => self.pairs = pairs_at(alloc, own)?,
             Field::Colours { .. } => {
-                self.order = colour_numbers(alloc, &known.script.colours, own)?;
+                self.order = colour_numbers(alloc, known.script.colours.as_slice(), own)?;
             }
         }
         Ok(())

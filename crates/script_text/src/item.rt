@@ -1,14 +1,13 @@
 // What a line of a script says.
 use crate::script::{Command, Object};
-use log_node::Text;
-use name_set::NameSet;
+use log_node::{Names, Text};
 
 /// What one line says that is not passed over.
 #[derive(Drop)]
 pub enum Item {
     Version { version: u8 },
-    Regions { names: NameSet },
-    Colours { names: NameSet },
+    Regions { names: Names },
+    Colours { names: Names },
     Rows { number: u32 },
     Client { name: Text, home: u8 },
     Declared { object: Object },

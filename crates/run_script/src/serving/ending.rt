@@ -109,15 +109,15 @@ pub fn end_report<R: Threads + Sync>(
     let (rows, columns) = region_reports(
         rt,
         alloc,
-        script.regions.as_list(),
-        script.colours.as_list(),
+        &script.regions,
+        &script.colours,
         nodes.as_slice(),
         ends.into_vec(),
         threads,
     )?;
     Ok(Report {
         version: script.version,
-        clients: client_reports(alloc, script.clients.as_list(), replies)?,
+        clients: client_reports(alloc, &script.clients, replies)?,
         rows,
         columns,
     })
