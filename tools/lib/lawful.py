@@ -19,9 +19,11 @@ EVENT = re.compile(
 )
 ROW = re.compile(rf"row {NAME} {ID} {ID}(?: {NAME}=(?:-|\d+|memory|stampend))+ (?:open|final \d+|gone memory|gone stampend)")
 # The commands that append, those that read at a stamp, and those whose own node stands before they read.
-APPENDS = ("append", "stop", "put", "del", "putall", "enq", "deq", "commit")
-STAMPED = ("scan", "getall", "read", "commit")
-UNREAD = ("deq", "commit")
+APPENDS = ("append", "only", "stop", "put", "del", "putall", "enq", "deq", "commit", "mk", "rm", "mv")
+STAMPED = ("scan", "getall", "read", "commit", "mk", "rm", "mv", "ls")
+UNREAD = ("deq", "commit", "mk", "rm", "mv")
+# Those that may complete what another client has left open.
+HELPS = [word for word in APPENDS + STAMPED if word not in ("only", "stop")]
 
 
 # The texts that objects fold.
@@ -29,6 +31,8 @@ WORD = r"[a-z0-9]{1,16}"
 PAIR = rf"{WORD}={WORD}"
 PUT = re.compile(rf"[pm]:({PAIR}(?:,{PAIR}){{0,3}})")
 TRANSACTION = re.compile(rf"t:({WORD}@(?:-|\d+\.\d+\.\d+)(?:,{WORD}@(?:-|\d+\.\d+\.\d+))?)\|({PAIR}(?:,{PAIR})?)")
+PATH = r"(?:/[a-z0-9]{1,8}){1,4}"
+CHANGE = re.compile(rf"k:({PATH})={WORD}|x:({PATH})|v:({PATH})>({PATH})")
 
 
 class Fault(Exception):
@@ -170,6 +174,31 @@ class History:
         )
 
 
+def changed(paths, made, removed, source, target):
+    """Why a change of a tree with these paths fails, if it does, and the paths after it. The root is the path without a sign."""
+    below = lambda front: {path for path in paths if path.startswith(f"{front}/")}
+    parent = lambda path: path.rpartition("/")[0]
+    if made:
+        why = "exists" if made in paths else "noparent" if parent(made) not in paths else None
+        return why, paths | {made}
+    if removed:
+        why = "missing" if removed not in paths else "notempty" if below(removed) else None
+        return why, paths - {removed}
+    moves = below(source) | {source}
+    after = {target + path[len(source) :] for path in moves}
+    if source not in paths:
+        why = "missing"
+    elif f"{target}/".startswith(f"{source}/"):
+        why = "inside"
+    elif target in paths:
+        why = "exists"
+    elif parent(target) not in paths:
+        why = "noparent"
+    else:
+        why = "deep" if any(path.count("/") > 4 for path in after) else None
+    return why, paths - moves | after
+
+
 def pairs_of(text):
     return [pair.split("=") for pair in text.split(",")]
 
@@ -185,7 +214,7 @@ class Folds:
     def text(self, id):
         if id not in self.known:
             command = self.script.command_at[self.judge.made[id]]
-            if command.word in ("append", "stop"):
+            if command.word in ("append", "only", "stop"):
                 text = command.fields[-1]
             elif command.word == "commit":
                 name, keys, stamp = self.read_of[command.number]
@@ -257,11 +286,15 @@ class Folds:
         reaches = [followed(region, place) for region, place, _ in writes]
         return sorted(value for region, place, value in writes if not any(reach[region] > place for reach in reaches))
 
-    def transactions(self, name, stamp):
-        """Values, last committed writers, and each transaction's verdict, over the nodes up to a stamp."""
+    def nodes_of(self, name, stamp):
+        """The nodes of all colours of an object up to a stamp, by their keys."""
         _, home, colours = self.script.objects[name]
         history = self.judge.histories[home, colours[0]]
-        nodes = {history.key(id, of): id for colour in colours for id, of, _ in self.line(home, colour) if of <= stamp}
+        return {history.key(id, of): id for colour in colours for id, of, _ in self.line(home, colour) if of <= stamp}
+
+    def transactions(self, name, stamp):
+        """Values, last committed writers, and each transaction's verdict, over the nodes up to a stamp."""
+        nodes = self.nodes_of(name, stamp)
         values, writers, verdicts = {}, {}, {}
         for key in sorted(nodes):
             found = TRANSACTION.fullmatch(self.text(nodes[key]))
@@ -277,6 +310,25 @@ class Folds:
                 values.update(writes)
                 writers.update({name: key for name, _ in writes})
         return values, writers, verdicts
+
+    def tree(self, name, stamp):
+        """The paths that are there, and what each change is told, over the nodes up to a stamp."""
+        nodes = self.nodes_of(name, stamp)
+        paths, told = {""}, {}
+        for key in sorted(nodes):
+            found = CHANGE.fullmatch(self.text(nodes[key]))
+            if found:
+                why, after = changed(paths, *found.groups())
+                told[nodes[key]] = f"failed {why} {key[0]}" if why else f"done {key[0]}"
+                paths = paths if why else after
+        return paths, told
+
+    def names(self, name, path, stamp):
+        """The names in a path, or that it is missing."""
+        paths, front = self.tree(name, stamp)[0], path.rstrip("/")
+        if front not in paths:
+            return "missing"
+        return ",".join(sorted(at[len(front) + 1 :] for at in paths if at and at.rpartition("/")[0] == front)) or "-"
 
 
 class Answer:
@@ -320,6 +372,7 @@ class Judge:
         self.histories = {key: History(script, column) for key, column in self.report.columns.items()}
         for key, history in self.histories.items():
             need(self.closings[key] == history.closing_line(), f"{self.closings[key]!r}, and by its events {history.closing_line()!r}")
+        self.helpers = {command.client for command in script.commands if command.word in HELPS}
         self.look_at_copies()
         self.look_at_rows()
         self.named, self.made, self.texts = set(), {}, {}
@@ -419,6 +472,7 @@ class Judge:
         for (region, colour), history in self.histories.items():
             for event in history.events:
                 if event.what in ("propose", "settle"):
+                    need(not event.is_help() or event.client in self.helpers, f"{colour} in {region}: {event.client} completes nothing")
                     row = self.row_of.get(event.id)
                     need(row and row.region == region and colour in row.marks, f"{colour} in {region}: {event.id} has no row there")
                     need(self.script.clients[event.client] == region, f"{colour} in {region}: an event of another region's client")
@@ -511,7 +565,8 @@ class Walk:
 
     def object_of(self):
         command = self.command
-        return self.script.objects.get(command.fields[0]) if command.word not in ("append", "stop", "sync", "scan", "pull", "trim") else None
+        of_the_log = ("append", "only", "stop", "sync", "scan", "pull", "trim")
+        return self.script.objects.get(command.fields[0]) if command.word not in of_the_log else None
 
     def shard(self, key):
         colours = self.object_of()[2]
@@ -519,7 +574,7 @@ class Walk:
 
     def append_colours(self):
         word, fields = self.command.word, self.command.fields
-        if word in ("append", "stop"):
+        if word in ("append", "only", "stop"):
             return self.judge.in_order(fields[-2].split(","))
         kind, _, colours = self.object_of()
         if word in ("enq", "deq") or kind == "causal":
@@ -529,6 +584,8 @@ class Walk:
             keys = [fields[1]]
         if word == "commit":
             keys = keys + self.last_read[0]
+        if kind == "tree":
+            keys = [path.split("/")[1] for path in (fields[1:] if word == "mv" else fields[1:2])]
         return self.judge.in_order(map(self.shard, keys))
 
     def read_colours(self):
@@ -677,7 +734,7 @@ class Walk:
         if away:
             self.answer.next("nothome")
             self.answer.next(home)
-        elif first in ("nomemory", "stampend", "full", "trimmed", "unread", "notx", "sameregion"):
+        elif first in ("nomemory", "stampend", "full", "trimmed", "unread", "notx", "sameregion", "moved"):
             getattr(self, f"look_at_{first}")()
         else:
             self.need(word != "commit" or self.last_read[1] is not None, "a commit behind a refused read")
@@ -706,7 +763,7 @@ class Walk:
                 self.make(row.id)
                 for colour in row.marks:
                     self.need(row.id not in self.own[colour].entries, f"{row.id} is gone, and is in {colour}")
-        if word in ("scan", "get", "getall", "read"):
+        if word in ("scan", "get", "getall", "read", "ls"):
             self.hide_reading(self.read_colours())
         if word == "pull":
             self.hide({("give", *self.command.fields)})
@@ -734,7 +791,7 @@ class Walk:
 
     def look_at_trimmed(self):
         self.answer.next("trimmed")
-        self.need(self.command.word in ("sync", "scan", "get", "getall", "read"), "it can't be trimmed")
+        self.need(self.command.word in ("sync", "scan", "get", "getall", "read", "ls"), "it can't be trimmed")
         self.take_trimmed()
         if self.command.word != "sync":
             self.hide_reading(self.read_colours())
@@ -775,6 +832,33 @@ class Walk:
         colours = self.append_colours()
         row = self.answer.number_behind("row") if len(colours) > 1 else None
         self.take_points(colours, stamp, row)
+
+    def look_at_only(self):
+        """Right before its event no entry was open, and the line was as long as the client had played."""
+        stamp = self.answer.number_behind("ok")
+        (colour,) = self.append_colours()
+        place = self.answer.words[0].split("@")[0].split("!")[-1]
+        position = int(self.answer.words[0].split("@")[-1])
+        self.take_points([colour], stamp, None)
+        history = self.own[colour]
+        event = history.events[int(place)]
+        self.need(not history.open_at[event.place], f"{event.id} enters {colour} behind an open entry")
+        length = history.chains_held[event.place][history.own]
+        self.need(position == length == event.wants[history.own], f"{event.id} enters {colour} behind {length} nodes")
+
+    def look_at_moved(self):
+        length = self.answer.number_behind("moved")
+        opened = int(self.answer.next(r"\d+"))
+        self.need(self.command.word == "only", "it can't be moved")
+        (colour,) = self.append_colours()
+        look = self.answer.next(rf"{colour}(\?\d+)")[0]
+        self.at((self.region, colour), look, None)
+        history, events = self.own[colour], int(look[1:])
+        found = history.chains_held[events][history.own], len(history.open_at[events])
+        self.need(found == (length, opened), f"{colour} after {events} events: {found[0]} nodes, {found[1]} open")
+        if not opened:
+            self.starts[colour] = {start for start in self.starts[colour] if start[history.own] != length}
+        self.need(self.starts[colour], f"{colour} had not moved")
 
     def look_at_stop(self):
         steps, colours = self.answer.number_behind("stopped"), self.append_colours()
@@ -880,6 +964,30 @@ class Walk:
         self.take_stamped(read_stamp, self.read_colours())
         name, id = self.command.fields[0], self.own[colours[0]].stamped(stamp, self.client)
         self.compare(verdict, lambda: self.judge.folds.transactions(name, read_stamp)[2].get(id))
+
+    def look_at_mk(self):
+        told = self.answer.next("done|failed")
+        if told == "failed":
+            told += " " + self.answer.next("exists|noparent|missing|notempty|inside|deep")
+        stamp = int(self.answer.next(r"\d+"))
+        colours = self.append_colours()
+        row = self.answer.number_behind("row") if len(colours) > 1 else None
+        self.take_points(colours, stamp, row)
+        read_stamp = self.answer.number_behind("at")
+        self.take_stamped(read_stamp, self.read_colours())
+        name, id = self.command.fields[0], self.own[colours[0]].stamped(stamp, self.client)
+        self.compare(f"{told} {stamp}", lambda: self.judge.folds.tree(name, read_stamp)[1].get(id))
+
+    look_at_rm = look_at_mv = look_at_mk
+
+    def look_at_ls(self):
+        names = self.answer.next("ok|missing")
+        stamp = int(self.answer.next(r"\d+"))
+        if names == "ok":
+            names = self.answer.next(r"-|[a-z0-9]{1,8}(?:,[a-z0-9]{1,8})*")
+        self.take_stamped(stamp, self.read_colours())
+        name, path = self.command.fields
+        self.compare(names, lambda: self.judge.folds.names(name, path, stamp))
 
     def stamp_of_point(self, colour):
         """The stamp of the own node, in the line at the position that the next point prints."""

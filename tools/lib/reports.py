@@ -49,7 +49,7 @@ class Script:
                 self.colours = fields
             elif word == "client":
                 self.clients[fields[0]] = fields[1]
-            elif word in ("map", "tx", "queue"):
+            elif word in ("map", "tx", "queue", "tree"):
                 self.objects[fields[0]] = (word, fields[1], fields[2:])
             elif word == "causal":
                 self.objects[fields[0]] = (word, None, fields[1:])
@@ -233,6 +233,9 @@ TEXT_OF = {
     ("putall", "map"): lambda fields: "m:" + ",".join(fields[1:]),
     ("enq", "queue"): lambda fields: f"e:{fields[1]}",
     ("deq", "queue"): lambda fields: "q:",
+    ("mk", "tree"): lambda fields: f"k:{fields[1]}={fields[2]}",
+    ("rm", "tree"): lambda fields: f"x:{fields[1]}",
+    ("mv", "tree"): lambda fields: f"v:{fields[1]}>{fields[2]}",
 }
 
 
@@ -241,7 +244,7 @@ def texts_of(script, report, made):
     texts = {id: text for reply in report.replies.values() for id, _, text in reply.nodes}
     for number, id in made.items():
         command = script.command_at[number]
-        if command.word in ("append", "stop"):
+        if command.word in ("append", "only", "stop"):
             texts[id] = command.fields[-1]
         elif command.fields[0] in script.objects:
             text = TEXT_OF.get((command.word, script.objects[command.fields[0]][0]))

@@ -19,6 +19,7 @@ class Form:
     def __init__(self, word, form, does, note, example):
         self.word, self.form, self.does, self.note, self.example = word, form, does, note, example
         self.is_command = form.startswith("CLIENT ")
+        self.is_of_2 = note.startswith("version 2 alone")
 
     def line(self):
         return f"its form is: {self.form}" + (f"   ({self.note})" if self.note else "")
@@ -62,6 +63,8 @@ def hints(lines, number, reason):
     said = []
     if reason == "not ascii":
         return [not_ascii(line)]
+    if reason in ("bad header", "unknown command") and form and form.is_of_2 and lines[:1] == ["fuzzylog 1"]:
+        return [f"a script with {form.word} is of version 2, so its first line is: fuzzylog 2"]
     if reason == "bad header":
         said = ["the lines of the header stand in this order: " + ", ".join(HEADER)]
         if line.split(" ")[1:2] and line.split(" ")[1] in COMMANDS:

@@ -5,6 +5,7 @@
 mod alone;
 mod clearing;
 mod course;
+mod guarded;
 mod helping;
 mod placing;
 mod several;
@@ -14,6 +15,7 @@ mod stood;
 
 pub use alone::single;
 pub use clearing::clear;
+pub use guarded::only;
 pub use helping::help;
 pub use several::{MultiFault, multi};
 pub use stood::{Point, Points, Stood};

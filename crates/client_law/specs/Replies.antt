@@ -1,5 +1,5 @@
 -- What explains each reply, and what is kept after it: the answers to appends, stops, syncs, pulls and trims.
-use Rattle.std.specs.Prelude.{◌≡◌, ◌≢◌, IsFalse, ℕ, ◌+◌, ◌≤◌, List, [], ◌∷◌, length, take, Some, None, slice_get}
+use Rattle.std.specs.Prelude.{◌≡◌, ◌≢◌, ◌⊎◌, IsFalse, ℕ, ◌+◌, ◌≤◌, List, [], ◌∷◌, length, take, Some, None, slice_get}
 use Rattle.log_node.specs.declared.ids.Colours.{Colours}
 use Rattle.log_node.specs.declared.ids.Counts.{Counts}
 use Rattle.log_node.specs.declared.node.At.{At}
@@ -8,14 +8,14 @@ use Rattle.log_node.specs.declared.marks.Why.TheVariants.{Memory}
 use Rattle.log_node.specs.declared.marks.Outcome.TheVariants.{Gone}
 use Rattle.log_node.specs.Seen.{PlacedNode}
 use Rattle.log_node.specs.Sets.{members}
-use Rattle.log_node.specs.Vectors.{is_within}
+use Rattle.log_node.specs.Vectors.{at, is_within}
 use Rattle.col_core.specs.declared.Event.TheVariants as events
-use Rattle.col_core.specs.History.{IsAtEnd}
+use Rattle.col_core.specs.History.{entries, open_count, line, IsAtEnd}
 use Rattle.col_core.specs.Cuts.{base}
 use Rattle.col_core.specs.Computed.{dated}
 use Rattle.col_core.specs.Log.{HasOutcome}
 use Rattle.col_core.specs.Appending.{EndsAtColour}
-use Rattle.col_core.specs.Keeping.{Kept, kept_after_single, kept_after_sync, kept_after_event, with_made, with_floor, with_row}
+use Rattle.col_core.specs.Keeping.{Kept, kept_after_single, kept_after_look, kept_after_sync, kept_after_event, with_made, with_floor, with_row}
 use Rattle.script_text.specs.declared.commands.What.{What}
 use Rattle.script_text.specs.declared.commands.What.TheVariants as whats
 use Rattle.report_text.specs.declared.report.Answer.TheVariants as answers
@@ -58,6 +58,31 @@ StoodAlone = (old new : Seen) (rest : Rest) (caller : Caller) (kept : Kept) (wha
     → Explains (log_seen new rest) caller kept what
     (answers.Stood stamp None (record { colour = colour; at = Event place; position = position } ∷ [])) []
     (kept_after_single kept caller.own colour place stamp position)
+
+-- The reply to an append that finds nothing between: right before its single no entry was open, and the line was as long as
+-- the client has played.
+abbrev pub StoodNext : Type 0
+StoodNext = (old new : Seen) (rest : Rest) (caller : Caller) (kept : Kept) (colours : Colours) (text : List ℕ)
+    (colour stamp place position : ℕ) → AppendIsAsked old new caller kept (whats.Only colour text) colours text
+    → members colours ≡ colour ∷ []
+    → SeesOne old new rest caller kept (node_of caller kept colours text) colour stamp place position
+    → position ≡ length (line (take place (new caller.own colour)))
+    → open_count (entries (take place (new caller.own colour))) ≡ 0
+    → position ≡ at (kept.starts colour) caller.own
+    → Explains (log_seen new rest) caller kept (whats.Only colour text)
+    (answers.Stood stamp None (record { colour = colour; at = Event place; position = position } ∷ [])) []
+    (kept_after_single kept caller.own colour place stamp position)
+
+-- The reply to one that finds something between: how long the line is that is seen now, and how many entries are open there.
+abbrev pub MovedOn : Type 0
+MovedOn = (old new : Seen) (rest : Rest) (caller : Caller) (kept : Kept) (colour : ℕ) (text : List ℕ)
+    → SeesOn caller old new → IsKeptBy old caller kept
+    → (open_count (entries (new caller.own colour)) ≢ 0)
+    ⊎ (length (line (new caller.own colour)) ≢ at (kept.starts colour) caller.own)
+    → Explains (log_seen new rest) caller kept (whats.Only colour text)
+    (answers.Moved (length (line (new caller.own colour))) (open_count (entries (new caller.own colour))) colour
+    (length (new caller.own colour))) []
+    (kept_after_look kept caller.own colour (length (new caller.own colour)))
 
 -- The reply to an append that stands in several colours: its stamp, its row, and its points.
 abbrev pub StoodInAll : Type 0

@@ -8,7 +8,7 @@ ghost use Rattle.client_law.specs.Origins.{LawfulCopiesAreTrue, OriginsStay};
 ghost use Rattle.client_law.specs.Unshown.{KeptUnshownAlone, KeptUnshownInAll, UnshownAlone, UnshownInAll};
 ghost use Rattle.client_law.specs.Pieces.{KeptAfterPiece, KeptUntold, PlayedUntold};
 ghost use Rattle.client_law.specs.StampedReads.{ClearSyncsOn, KeptWithFloor, RaiseStands, RaisesOn, ReadsStand};
-ghost use Rattle.client_law.specs.Replies.{EndedAlone, EndedInColour, GaveForMemory, LackedThere, PulledThere, StoodAlone, StoodInAll, StoppedWithin, SyncedThere, TrimmedTo, WentForMemory};
+ghost use Rattle.client_law.specs.Replies.{EndedAlone, EndedInColour, GaveForMemory, LackedThere, MovedOn, PulledThere, StoodAlone, StoodInAll, StoodNext, StoppedWithin, SyncedThere, TrimmedTo, WentForMemory};
 
 /// What a client keeps of its replies stays of what it has seen, from nothing on, as more is seen and after each event or
 /// look of its own.
@@ -115,6 +115,8 @@ pub fn reads_stand()
 /// What was seen explains the replies to appends, stops, syncs, pulls and trims.
 pub fn replies_are_explained()
     ensures alone { StoodAlone }
+    ensures next { StoodNext }
+    ensures moved { MovedOn }
     ensures several { StoodInAll }
     ensures stamp_end { EndedAlone }
     ensures gone { EndedInColour }

@@ -8,11 +8,11 @@ use Rattle.log_node.specs.Vectors.{least}
 use Rattle.skeen_core.specs.Queues.{Queued, entry_under, entered_queue, stamp_after}
 use Rattle.col_core.specs.declared.Event.TheVariants as events
 use Rattle.col_core.specs.declared.Entry.{Entry}
-use Rattle.col_core.specs.History.{clock, next_stamp}
+use Rattle.col_core.specs.History.{clock, next_stamp, open_count}
 use Rattle.col_core.specs.Rows.{node_wants}
 use Rattle.column.specs.Entering.{EnteredNode}
 use Rattle.column.specs.Columns.{ColumnState, cut_of, stamp_for, entered_node, single_event, propose_event}
-use Rattle.column.specs.Columns.{after_single, after_propose, open_count}
+use Rattle.column.specs.Columns.{after_single, after_propose}
 use Rattle.column.specs.Inside.{IsRoomFor}
 use Rattle.column.proofs.Opens.{count-with}
 use Rattle.column.proofs.Steps.{next_column}

@@ -9,7 +9,7 @@ use Rattle.log_node.specs.declared.marks.Outcome.{Outcome}
 use Rattle.log_node.specs.declared.marks.Outcome.TheVariants.{Open, Gone, Final}
 use Rattle.log_node.specs.Standings.{Standing, is_open_id, with_entry, without_id, settled_entries}
 use Rattle.skeen_core.specs.Queues.{has_open, is_decided}
-use Rattle.column.specs.Columns.{open_count}
+use Rattle.col_core.specs.History.{open_count}
 
 -- one entry more
 pub count-with : (e : Standing) (es : List Standing) → open_count (with_entry e es) ≡ cond e.settled 0 1 + open_count es

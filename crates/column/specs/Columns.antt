@@ -12,12 +12,11 @@ pub use Rattle.log_node.specs.Vectors.{greater}
 use Rattle.log_node.specs.Seen.{PlacedNode, BegunAppend}
 use Rattle.log_node.specs.declared.marks.Outcome.{Outcome}
 use Rattle.skeen_core.specs.declared.waiting.Waiting.{Waiting}
-use Rattle.log_node.specs.Standings.{Standing}
 use Rattle.skeen_core.specs.Queues.{Queued, entry_under, entered_queue, settled_queue, dropped_queue}
 use Rattle.col_core.specs.declared.Event.{Event}
 use Rattle.col_core.specs.declared.Event.TheVariants as events
 use Rattle.col_core.specs.declared.Entry.{Entry}
-use Rattle.col_core.specs.History.{last_stamp, next_stamp, entries, line, IsAtEnd}
+use Rattle.col_core.specs.History.{last_stamp, next_stamp, entries, open_count, line, IsAtEnd}
 use Rattle.log_node.specs.Reach.{Chains}
 use Rattle.col_core.specs.Cuts.{Dated, chain, base}
 use Rattle.col_core.specs.Computed.{cut, dated}
@@ -168,11 +167,6 @@ after_trim column by counts = record (after_event column by (events.Trim counts)
 abbrev pub HasEnterCause : ColumnState → ℕ → ColumnFault → Type 0
 HasEnterCause column floor (StampEnd clock) = (clock ≡ last_stamp) × IsAtEnd column.journal floor
 HasEnterCause column floor NoMemory = (column.queue.spare ≡ 0) × (IsAtEnd column.journal floor → ⊥)
-
--- how many entries are open
-abbrev pub open_count : List Standing → ℕ
-open_count [] = 0
-open_count (e ∷ es) = (if e.settled then 0 else 1) + open_count es
 
 -- a node that may stand next alone finds the column moved on: an entry is open, or the line has not as many nodes as the
 -- node wants of its own region

@@ -14,14 +14,14 @@ use Rattle.log_node.specs.Standings.{Standing}
 use Rattle.col_core.specs.declared.Event.{Event}
 use Rattle.col_core.specs.declared.Event.TheVariants.{Single, Propose, Settle, Raise, Give, Carry, Trim}
 use Rattle.col_core.specs.declared.Entry.{Entry}
-use Rattle.col_core.specs.History.{clock, entries, has_entered}
+use Rattle.col_core.specs.History.{clock, entries, open_count, has_entered}
 use Rattle.log_node.specs.Reach.{Reachable}
 use Rattle.col_core.specs.Cuts.{needs_of, noted}
 use Rattle.col_core.specs.Computed.{dated}
 use Rattle.col_core.specs.Legal.{IsColumnHistory}
 use Rattle.col_core.specs.Rows.{node_wants}
 use Rattle.column.specs.Entering.{EnteredNode}
-use Rattle.column.specs.Columns.{ColumnState, history_of, chains_of, held_of, copy_of, cut_of, base_of, open_count, HasRow}
+use Rattle.column.specs.Columns.{ColumnState, history_of, chains_of, held_of, copy_of, cut_of, base_of, HasRow}
 
 -- the event is the one by which a node enters
 abbrev pub EntersNode : ℕ → Node → Event → Type 0

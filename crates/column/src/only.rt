@@ -1,9 +1,9 @@
 // Nodes that enter a column only where nothing has come between.
-ghost use Rattle.std.specs.Prelude.{◌≡◌, ◌≤◌, ◌<◌, true, false, length, IfOk, IfErr, OnOk, OnErr};
+ghost use Rattle.std.specs.Prelude.{◌≡◌, ◌≤◌, ◌<◌, true, false, None, length, IfOk, IfErr, IfSome, OnOk, OnErr};
 ghost use Rattle.log_node.specs.Sets.{has};
 ghost use Rattle.log_node.specs.declared.node.Node.{Node};
-ghost use Rattle.col_core.specs.History.{entries, line, has_entered};
-ghost use Rattle.column.specs.Columns.{ColumnState, moved_from, open_count, stamp_for, after_single, with_room};
+ghost use Rattle.col_core.specs.History.{entries, open_count, line, has_entered};
+ghost use Rattle.column.specs.Columns.{ColumnState, moved_from, stamp_for, after_single, with_room};
 ghost use Rattle.column.specs.Columns.{HasEnterCause, HasOnlyCause};
 
 use crate::column::Column;
@@ -79,5 +79,25 @@ impl Column {
             Ok(entered) => Ok(entered),
             Err(fault) => Err(fault_of(colour, fault)),
         }
+    }
+
+    /// How many entries are open.
+    pub fn open_count(&self) -> u64
+        ensures { result ≡ open_count (entries self.now.journal) }
+    {
+        self.contents.open_count()
+    }
+
+    /// What the node is told where it finds the column moved on, so that it would not enter by `only`.
+    pub fn moved(&self, node: &Node) -> Option<OnlyFault>
+        requires colour { has node.now.colours self.now.colour ≡ true }
+        ensures some { IfSome result (λ fault. (moved_from self.now node.now ≡ true) × (fault ≡ OnlyFault.Moved
+            (length (line self.now.journal)) (open_count (entries self.now.journal)) (length self.now.journal))) }
+        ensures none { result ≡ None → moved_from self.now node.now ≡ false }
+    {
+        if self.contents.has_moved(node) {
+            return Some(self.contents.moved());
+        }
+        None
     }
 }

@@ -1,7 +1,7 @@
 -- A command begins one row at most, and none where it may begin none: so a client has begun no more rows than it has
 -- asked commands that may begin one.
 use Rattle.std.proofs.Common.{◌≡◌, ◌⊎◌, Bool, true, false, ℕ, zero, suc, ◌<◌, nat_lt, ◌+◌, ◌≤◌, List, [], ◌∷◌, ◌++◌, length, Option, Some, None, inl, inr, refl, ap, sym, subst, ◌∙◌, arith, cond}
-use Rattle.std.specs.Prelude.{◌==◌, ◌||◌, not}
+use Rattle.std.specs.Prelude.{◌==◌, ◌||◌, not, if◌then◌else◌}
 use Rattle.std.specs.List.{filter, range_with_len}
 use Rattle.std.proofs.lemmas.Bool.{eqb-true, cases_lt}
 use Rattle.std.proofs.lemmas.List.Sums.{sum_by_push}
@@ -13,6 +13,10 @@ use Rattle.log_node.specs.declared.forms.Version.{Version}
 use Rattle.log_node.specs.declared.limits.TheConstants.{MAX_COLOURS}
 use Rattle.log_node.specs.Seen.{PlacedNode}
 use Rattle.log_node.specs.Sets.{members}
+use Rattle.object_form.specs.Forms.{is_word}
+use Rattle.tree_fold.specs.declared.change.Change.TheVariants.{Make}
+use Rattle.tree_fold.specs.Paths.{Path}
+use Rattle.tree_fold.specs.Readings.{path_of, below_root, make_of, remove_of}
 use Rattle.col_core.specs.Log.{Log}
 use Rattle.col_core.specs.Keeping.{Kept, kept_after_event}
 use Rattle.script_text.specs.declared.script.Kind.{Kind}
@@ -29,8 +33,8 @@ use Rattle.report_text.specs.declared.report.SyncPiece.{SyncPiece}
 use Rattle.object_fold.specs.Nodes.{shard_of}
 use Rattle.lawful_run.proofs.CallerLemmas.{kept_after_hidden, before_is, behind_is, one_shard, points_leave}
 use Rattle.lawful_run.specs.Callers.{Caller, node_of}
-use Rattle.lawful_run.specs.Asks.{shards, object_colours, kind_asked, Manner, Appending, Stopping, Syncing, Moving, Getting, Reading, Committing, Dequeuing}
-use Rattle.lawful_run.specs.Deeds.{Reach, NoColours, Named, One, ShardsOf, Saying, saying_of, found_by, Reaches, SaysNode, AsksToAppend, colours_synced, manner_of}
+use Rattle.lawful_run.specs.Asks.{shards, object_colours, kind_asked, Manner, Appending, Guarding, Stopping, Syncing, Moving, Getting, Reading, Committing, Dequeuing}
+use Rattle.lawful_run.specs.Deeds.{Reach, NoColours, Named, One, ShardsOf, Saying, says_change, saying_of, found_by, Reaches, SaysNode, AsksToAppend, colours_synced, manner_of}
 use Rattle.lawful_run.specs.Appends.{Appends, AppendsUnshown, one_unshown, several_unshown, HasNoStamp, none_for_one, none_for_several}
 use Rattle.lawful_run.specs.Moves.{with_places, kept_after_pull}
 use Rattle.lawful_run.specs.Reads.{kept_after_place, kept_after_piece, Raises, ClearSyncs, ReadsAt, HidesSyncs, HidesRead, RefusesRead}
@@ -114,6 +118,20 @@ said_several : (own : List ℕ) (said : Option Saying) (colours : Colours) (text
 said_several own None colours text says two = absurd says
 said_several own (Some saying) colours text says two = reached own saying.reach colours says.0 two
 
+-- a change of one path stands in the shard of its first name
+make_alone : (path : Option Path) (value : List ℕ) → has_several (says_change (make_of (below_root path) value)) ≡ false
+make_alone None value = refl
+make_alone (Some []) value = refl
+make_alone (Some (name ∷ names)) value = by (is_word value) where
+  by : (b : Bool) → has_several (says_change (if b then Some (Make (name ∷ names) value) else None)) ≡ false
+  by true = refl
+  by false = refl
+
+remove_alone : (path : Option Path) → has_several (says_change (remove_of (below_root path))) ≡ false
+remove_alone None = refl
+remove_alone (Some []) = refl
+remove_alone (Some (name ∷ names)) = refl
+
 or_not : (b : Bool) → (b || not b) ≡ true
 or_not true = refl
 or_not false = refl
@@ -127,6 +145,8 @@ first_of false false e t = t
 begins_so : (kind : Option Kind) (found : Option (List Version)) (what : What)
     → (may_take_row what || not (has_several (saying_of kind found what))) ≡ true
 begins_so kind found (whats.Append colours text) = or_not (nat_lt 1 (length (members colours)))
+begins_so kind found (whats.Mk object path value) = ap not (make_alone (path_of path) value)
+begins_so kind found (whats.Rm object path) = ap not (remove_alone (path_of path))
 begins_so kind found _ = refl
 
 -- a command that asks for a node of several colours may begin a row
@@ -182,6 +202,7 @@ hidden_rows log caller kept colours after h =
 hides_rows : (log : Log) (caller : Caller) (kept : Kept) (colours : List ℕ) (manner : Manner) (after : Kept)
     → Hides log caller kept colours manner after → KeepsRows kept after
 hides_rows log caller kept colours Appending after h = same_rows kept kept after h refl
+hides_rows log caller kept colours Guarding after h = same_rows kept kept after h refl
 hides_rows log caller kept colours Stopping after h = same_rows kept kept after h refl
 hides_rows log caller kept colours Syncing after h = same_rows kept kept after h refl
 hides_rows log caller kept colours Moving after h = same_rows kept kept after h refl
@@ -199,6 +220,7 @@ refused_rows log caller kept colours colour shown after r =
 refuses_rows : (log : Log) (caller : Caller) (kept : Kept) (colours : List ℕ) (manner : Manner) (colour : ℕ)
     (shown : Counts) (after : Kept) → Refuses log caller kept colours manner colour shown after → KeepsRows kept after
 refuses_rows log caller kept colours Appending colour shown after r = absurd r
+refuses_rows log caller kept colours Guarding colour shown after r = absurd r
 refuses_rows log caller kept colours Stopping colour shown after r = absurd r
 refuses_rows log caller kept colours Syncing colour shown after r = same_rows kept kept after r.2 refl
 refuses_rows log caller kept colours Moving colour shown after r = absurd r
@@ -285,6 +307,14 @@ module _ (log : Log) (caller : Caller) (kept : Kept) (what : What) where
       let s = a.3 in
       then_keeps what kept s.1 after (appends_begin log caller kept what a.0 a.1 a.2 s.0 row points s.1 s.2)
       (reads_rows log caller s.1 (colours_synced caller what) read_stamp raises syncs after s.3.0)
+  explained_begins (answers.Changed failed stamp row points read_stamp raises syncs) nodes after e =
+      let a = e.1.1 in
+      let s = a.3 in
+      then_keeps what kept s.1 after (appends_begin log caller kept what a.0 a.1 a.2 s.0 row points s.1 s.2)
+      (reads_rows log caller s.1 (colours_synced caller what) read_stamp raises syncs after s.3.0)
+  explained_begins (answers.Listed names stamp raises syncs) nodes after e =
+      inl (reads_rows log caller kept (colours_synced caller what) stamp raises syncs after e.4.0)
+  explained_begins (answers.Moved lined waiting colour events) nodes after e = inl (same_rows kept _ after e.5 refl)
   explained_begins answers.NoTx nodes after e = inl (same_rows kept kept after e.1 refl)
   explained_begins (answers.Took value point sync) nodes after e =
       let s = e.3.3 in

@@ -1,11 +1,13 @@
 -- What an append or a stop says of a log to a client, it says too where the client may begin more rows.
-use Rattle.std.proofs.Common.{ℕ, ◌≤◌, List, [], ◌∷◌, Option, Some, None, arith}
+use Rattle.std.proofs.Common.{ℕ, ◌≤◌, List, [], ◌∷◌, Option, Some, None, inl, inr, arith}
 use Rattle.log_node.specs.declared.node.Node.{Node}
 use Rattle.col_core.specs.Log.{Log}
 use Rattle.col_core.specs.Keeping.{Kept}
+use Rattle.script_text.specs.declared.commands.What.{What}
 use Rattle.report_text.specs.declared.report.PointPiece.{PointPiece}
 use Rattle.lawful_run.specs.Callers.{Caller}
-use Rattle.lawful_run.specs.Appends.{AppendsOne, HadNoStamp, BeginsRow, StandsAt, AppendsSeveral, Appends, AppendsUnshown, one_unshown, several_unshown, IsGoneAtEnd, HasNoStamp, none_for_one, none_for_several, IsGoneForMemory}
+use Rattle.lawful_run.specs.Appends.{AppendsOne, HadNoStamp, BeginsRow, StandsAt, AppendsSeveral, Appends, AppendsUnshown, one_unshown, several_unshown, IsGoneAtEnd, HasNoStamp, none_for_one, none_for_several, IsGoneForMemory, IsSoLong, WasNext}
+use Rattle.lawful_run.specs.Explains.{MayStand}
 use Rattle.lawful_run.specs.Stops.{Stops, stopped_at_once, stopped_after}
 use Rattle.few_rows.proofs.MoreFacts.{limited}
 
@@ -112,3 +114,21 @@ module _ (log : Log) (caller : Caller) (rows : ℕ) (few : rows ≤ caller.rows)
     outcome = g.outcome;
     settled = g.settled;
   }
+
+  pub so_long_more : (colour events lined waiting : ℕ)
+      → IsSoLong log (limited caller rows) kept colour events lined waiting
+      → IsSoLong log caller kept colour events lined waiting
+  so_long_more colour events lined waiting s = record {
+    unseen = s.unseen;
+    there = s.there;
+    lined_is = s.lined_is;
+    waiting_is = s.waiting_is;
+  }
+
+  was_next_more : (point : PointPiece) → WasNext log (limited caller rows) kept point → WasNext log caller kept point
+  was_next_more point w = (w.0, w.1, so_long_more point.colour w.0 point.position 0 w.2, w.3)
+
+  pub may_stand_more : (what : What) (points : List PointPiece) → MayStand log (limited caller rows) kept what points
+      → MayStand log caller kept what points
+  may_stand_more what points (inl appending) = inl appending
+  may_stand_more what points (inr guarded) = inr (guarded.0, λ k d lt. was_next_more _ (guarded.1 k d lt))

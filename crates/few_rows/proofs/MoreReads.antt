@@ -13,7 +13,7 @@ use Rattle.col_core.specs.Keeping.{Kept, updated}
 use Rattle.report_text.specs.declared.report.RaisePiece.{RaisePiece}
 use Rattle.report_text.specs.declared.report.SyncPiece.{SyncPiece}
 use Rattle.lawful_run.specs.Callers.{Caller}
-use Rattle.lawful_run.specs.Asks.{Manner, Appending, Stopping, Syncing, Moving, Getting, Reading, Committing, Dequeuing}
+use Rattle.lawful_run.specs.Asks.{Manner, Appending, Guarding, Stopping, Syncing, Moving, Getting, Reading, Committing, Dequeuing}
 use Rattle.lawful_run.specs.Reads.{Syncs, ShowsNode, ShowsPlayed, kept_after_piece, IsTrimmed, RaisesClock, kept_after_place, Raises, ClearSyncs, ReadsAt, HidesSync, not_played, played, HidesSyncs, HidesRead, RefusesRead}
 use Rattle.lawful_run.specs.Refusals.{Hides, Refuses}
 use Rattle.few_rows.proofs.MoreFacts.{limited}
@@ -132,6 +132,7 @@ module _ (log : Log) (caller : Caller) (rows : ℕ) where
   pub hides_more : (kept : Kept) (colours : List ℕ) (manner : Manner) (after : Kept)
       → Hides log (limited caller rows) kept colours manner after → Hides log caller kept colours manner after
   hides_more kept colours Appending after h = h
+  hides_more kept colours Guarding after h = h
   hides_more kept colours Stopping after h = h
   hides_more kept colours Syncing after h = h
   hides_more kept colours Moving after h = h
@@ -163,6 +164,7 @@ module _ (log : Log) (caller : Caller) (rows : ℕ) where
       → Refuses log (limited caller rows) kept colours manner colour shown after
       → Refuses log caller kept colours manner colour shown after
   refuses_more kept colours Appending colour shown after r = absurd r
+  refuses_more kept colours Guarding colour shown after r = absurd r
   refuses_more kept colours Stopping colour shown after r = absurd r
   refuses_more kept colours Syncing colour shown after r = (r.0, trimmed_more kept colour shown r.1, r.2)
   refuses_more kept colours Moving colour shown after r = absurd r

@@ -29,12 +29,12 @@ use Rattle.lawful_run.specs.Moves.{CarriesNodes, Pulls, OnlyGives, Trims}
 use Rattle.lawful_run.specs.Objects.{GetsValue, GetsValues, TakesFront}
 use Rattle.lawful_run.specs.Shapes.{TellsBehind, TellsRead}
 use Rattle.lawful_run.specs.Refusals.{Hides, Refuses, FindsNoMemory, nothing, gone, gave, hidden, kept_before}
-use Rattle.lawful_run.specs.Explains.{Explains, Answers, Explained, AnswersKeys, ShowsVerdict, start, next}
+use Rattle.lawful_run.specs.Explains.{Explains, Answers, Explained, AnswersKeys, ShowsVerdict, ShowsChange, ShowsNames, start, next}
 use Rattle.script_beside.specs.Begins.{may_take_row, begins_in}
 use Rattle.few_rows.proofs.Begins.{several_may, before_rows, one_that_begins, no_fewer, begun_rows}
 use Rattle.few_rows.proofs.MoreFacts.{limited, home_same, synced_same, asks_more, away_fewer}
 use Rattle.few_rows.proofs.MoreReads.{syncs_more, played_more, read_more, hides_more, refuses_more}
-use Rattle.few_rows.proofs.MoreAppends.{append_more, unshown_more, has_no_stamp_more, stops_more, for_memory_more}
+use Rattle.few_rows.proofs.MoreAppends.{append_more, unshown_more, has_no_stamp_more, stops_more, for_memory_more, so_long_more, may_stand_more}
 
 module _ (log : Log) (caller : Caller) (rows : ℕ) (few : rows ≤ caller.rows) where
   carries_more : (kept : Kept) (region colour nodes : ℕ) (at : At)
@@ -166,7 +166,7 @@ module _ (log : Log) (caller : Caller) (rows : ℕ) (few : rows ≤ caller.rows)
   explains_more kept what answers.NoMemory nodes after left e = (e.0, memory_more kept what after e.1)
   explains_more kept what (answers.Stood stamp row points) nodes after left e = (
     e.0,
-    e.1,
+    may_stand_more log caller rows few kept what points e.1,
     (
       e.2.0,
       e.2.1,
@@ -236,6 +236,12 @@ module _ (log : Log) (caller : Caller) (rows : ℕ) (few : rows ≤ caller.rows)
       (e.0, e.1, tells_read_more kept what stamp raises syncs (AnswersKeys caller what shown e.1 after) e.1 e.2)
   explains_more kept what (answers.Ruled conflict stamp row points read_stamp raises syncs) nodes after left e =
       (e.0, tells_behind_more kept what row points read_stamp raises syncs (ShowsVerdict conflict stamp) after e.1)
+  explains_more kept what (answers.Changed failed stamp row points read_stamp raises syncs) nodes after left e =
+      (e.0, tells_behind_more kept what row points read_stamp raises syncs (ShowsChange failed stamp) after e.1)
+  explains_more kept what (answers.Listed names stamp raises syncs) nodes after left e =
+      (e.0, e.1, e.2, e.3, tells_read_more kept what stamp raises syncs (ShowsNames e.2 names) after e.4)
+  explains_more kept what (answers.Moved lined waiting colour events) nodes after left e =
+      (e.0, e.1, e.2, so_long_more log caller rows few kept colour events lined waiting e.3, e.4, e.5)
   explains_more kept what answers.NoTx nodes after left e = e
   explains_more kept what (answers.Took value point sync) nodes after left e =
       let a = e.3 in

@@ -14,6 +14,7 @@ mod large;
 mod loads;
 mod maps;
 mod objects;
+mod only;
 mod ordinary;
 mod parts;
 mod refusals;
@@ -25,6 +26,8 @@ mod singles;
 mod stops;
 mod threads;
 mod transactions;
+mod tree_changes;
+mod trees;
 mod versions;
 
 /// Does a script over a source and a sink of which the reads and writes with these numbers fail.

@@ -1,5 +1,5 @@
 -- Stamped reads and objects answer by the nodes of the closing lines.
-use Rattle.std.proofs.Common.{◌≡◌, ℕ, zero, suc, ◌<◌, List, [], ◌∷◌, ◌++◌, length, take, drop, map, Some, slice_get, refl, ap, sym, subst, ◌∙◌, inl, inr, arith}
+use Rattle.std.proofs.Common.{◌≡◌, ℕ, ◌<◌, List, [], ◌∷◌, ◌++◌, length, take, drop, map, Some, slice_get, refl, ap, sym, subst, ◌∙◌, inl, inr, arith}
 use Rattle.std.specs.Prelude.{◌==◌}
 use Rattle.std.specs.List.{All, AllZip}
 use Rattle.std.proofs.lemmas.Bool.{eq-eqb}
@@ -11,8 +11,10 @@ use Rattle.log_node.specs.declared.ids.Colours.{Colours}
 use Rattle.log_node.specs.declared.node.Node.{Node}
 use Rattle.log_node.specs.Seen.{PlacedNode}
 use Rattle.log_node.specs.Vectors.{at}
+use Rattle.object_fold.specs.Folds.{told_of}
 use Rattle.object_fold.specs.Nodes.{ObjectNode}
 use Rattle.object_fold.specs.Transactions.{verdict_of}
+use Rattle.tree_fold.specs.Trees.{telling, told_under}
 use Rattle.col_core.specs.declared.Entry.{Entry}
 use Rattle.col_core.specs.History.{line, entry_key}
 use Rattle.col_core.specs.Cuts.{chain, entries_of, needs_of}
@@ -40,7 +42,7 @@ use Rattle.lawful_run.specs.Refusals.{kept_before}
 use Rattle.lawful_run.specs.Explains.{Explains}
 use Rattle.lawful_run.specs.Lawful.{LawfulRun}
 use Rattle.lawful_run.specs.Readings.{HasReply, IsAppend, kept_of, kept_at, StandsAtPoints}
-use Rattle.lawful_run.specs.ObjectReadings.{IsNodeOf, AreNodesOf, IsClosing, AreClosing, ScansAreWhole, GetsAreFolds, DequeuesAreFolds, ReadsAreFolds, VerdictsAreFolds}
+use Rattle.lawful_run.specs.ObjectReadings.{IsNodeOf, AreNodesOf, IsClosing, AreClosing, ScansAreWhole, GetsAreFolds, DequeuesAreFolds, ReadsAreFolds, VerdictsAreFolds, ChangesAreFolds, ListsAreFolds}
 use Rattle.lawful_run.proofs.Prefixes.{prefix_get, prefix_take}
 use Rattle.lawful_run.proofs.Listed.{to_in, from_in, in_get, get_in}
 use Rattle.lawful_run.proofs.Replies.{step_of}
@@ -361,3 +363,40 @@ verdicts_are_folds script report fits run client n reply h conflict stamp row po
       subst (λ (m : ℕ). verdict_of t.3 (entry_key s.0 (record { client = client; count = m }))
           ≡ Some (shown_verdict conflict stamp)) r.ids t.5,
     )
+
+pub changes_are_folds : ChangesAreFolds
+changes_are_folds script report fits run client n reply h failed stamp row points read_stamp raises syncs is lines c =
+    let r = reason script report fits run client n reply _ h is in
+    let x = r.explained.1.1 in
+    let s = x.3 in
+    let t = s.3 in
+    let own = (caller_of script client).own in
+    let order = read_order script report fits run client s.1 _ read_stamp raises syncs r.after t.1 t.0 t.2 lines c in
+    let nodes = nodes_are script report fits run t.1 t.3
+    (read_stands script report fits run own read_stamp syncs lines c t.1 order) t.4 in
+    let stands = at_points script report run client r.kept x.0 x.1 s.0 row points s.1 s.2 in (
+      t.1,
+      order,
+      t.3,
+      nodes,
+      record { client = client; count = (kept_of run client n).ids },
+      x.0,
+      x.1,
+      record { replied = h; command = r.command; asked = r.asked; asks = r.asks x.0 x.1 x.2; id_is = refl },
+      s.0,
+      subst (λ (m : ℕ). StandsAtPoints report own (record { client = client; count = m }) x.0 s.0 points) r.ids stands,
+      subst (λ (m : ℕ). told_of telling t.3 (entry_key s.0 (record { client = client; count = m }))
+          ≡ Some (told_under stamp failed)) r.ids t.5,
+    )
+
+pub lists_are_folds : ListsAreFolds
+lists_are_folds script report fits run client n reply h names stamp raises syncs is lines c =
+    let r = reason script report fits run client n reply _ h is in
+    let x = r.explained in
+    let own = (caller_of script client).own in
+    let t = x.4 in
+    let order = read_order script report fits run client r.kept _ stamp raises syncs r.after t.1 t.0 t.2 lines c in
+    let nodes = nodes_are script report fits run t.1 t.3
+    (read_stands script report fits run own stamp syncs lines c t.1 order) t.4 in
+    let shows = t.5 in
+    (t.1, order, t.3, nodes, x.1, x.2, (r.command, r.asked, x.3), shows.0, shows.1, shows.2)

@@ -34,10 +34,10 @@ use Rattle.lawful_run.specs.Moves.{GivesFrom, AsksFor, GivesHeld, GivesTooLow, C
 use Rattle.lawful_run.specs.Objects.{AreObjectNodes, own_played, GetsValue, TakesFront, places_within, IsChainNode, GetsValues}
 use Rattle.lawful_run.specs.Shapes.{TellsBehind, TellsRead}
 use Rattle.lawful_run.specs.Refusals.{FindsNoMemory, nothing, gone, gave, hidden, kept_before}
-use Rattle.lawful_run.specs.Explains.{Explains, Answers, Explained, AnswersKeys, ShowsVerdict, start, next}
+use Rattle.lawful_run.specs.Explains.{Explains, Answers, Explained, AnswersKeys, ShowsVerdict, ShowsChange, ShowsNames, start, next}
 use Rattle.lawful_run.proofs.Prefixes.{prefix_take, get_within}
 use Rattle.lawful_run.proofs.LaterFacts.{all_zip_of, all_of, first_same, taken_same, still_there, entry_later, place_there, text_later, objects_later}
-use Rattle.lawful_run.proofs.LaterAppends.{append_later, unshown_later, has_no_stamp_later, stops_later, for_memory_later}
+use Rattle.lawful_run.proofs.LaterAppends.{append_later, unshown_later, has_no_stamp_later, stops_later, for_memory_later, so_long_later, may_stand_later}
 use Rattle.lawful_run.proofs.LaterReads.{syncs_later, played_later, piece_same, read_later, keys_later, shows_key_later, hides_later, refuses_later}
 
 module _ (old new : Log) (later : IsLater old new) (caller : Caller) where
@@ -256,7 +256,7 @@ module _ (old new : Log) (later : IsLater old new) (caller : Caller) where
   explains_later kept what answers.NoMemory nodes after e = (e.0, memory_later kept what after e.1)
   explains_later kept what (answers.Stood stamp row points) nodes after e = (
     e.0,
-    e.1,
+    may_stand_later old new later caller kept what points e.1,
     (
       e.2.0,
       e.2.1,
@@ -322,6 +322,12 @@ module _ (old new : Log) (later : IsLater old new) (caller : Caller) where
       (e.0, e.1, tells_read_later kept what stamp raises syncs (AnswersKeys caller what shown e.1 after) e.1 e.2)
   explains_later kept what (answers.Ruled conflict stamp row points read_stamp raises syncs) nodes after e =
       (e.0, tells_behind_later kept what row points read_stamp raises syncs (ShowsVerdict conflict stamp) after e.1)
+  explains_later kept what (answers.Changed failed stamp row points read_stamp raises syncs) nodes after e =
+      (e.0, tells_behind_later kept what row points read_stamp raises syncs (ShowsChange failed stamp) after e.1)
+  explains_later kept what (answers.Listed names stamp raises syncs) nodes after e =
+      (e.0, e.1, e.2, e.3, tells_read_later kept what stamp raises syncs (ShowsNames e.2 names) after e.4)
+  explains_later kept what (answers.Moved lined waiting colour events) nodes after e =
+      (e.0, e.1, e.2, so_long_later old new later caller kept colour events lined waiting e.3, e.4, e.5)
   explains_later kept what answers.NoTx nodes after e = e
   explains_later kept what (answers.Took value point sync) nodes after e =
       let a = e.3 in

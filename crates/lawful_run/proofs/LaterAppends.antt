@@ -1,5 +1,5 @@
 -- What an append or a stop says of a log, a later log says as well.
-use Rattle.std.proofs.Common.{ℕ, List, [], ◌∷◌, take, Option, Some, None, sym, subst, ◌∙◌, inl, inr, ◌⊎◌}
+use Rattle.std.proofs.Common.{ℕ, List, [], ◌∷◌, length, take, Option, Some, None, ap, sym, subst, ◌∙◌, inl, inr, ◌⊎◌}
 use Rattle.std.specs.Prelude.{IsTrue}
 use Rattle.log_node.specs.declared.node.At.{At}
 use Rattle.log_node.specs.declared.node.At.TheVariants.{Event, Look}
@@ -10,14 +10,16 @@ use Rattle.log_node.specs.declared.marks.Why.TheVariants.{Memory, StampEnd}
 use Rattle.log_node.specs.declared.marks.Mark.TheVariants as marks
 use Rattle.log_node.specs.declared.marks.Outcome.TheVariants.{Gone}
 use Rattle.col_core.specs.declared.Entry.{Entry}
-use Rattle.col_core.specs.History.{IsAtEnd, has_entered}
+use Rattle.col_core.specs.History.{entries, open_count, line, IsAtEnd, has_entered}
 use Rattle.col_core.specs.Log.{Log, IsLater, HasMark}
 use Rattle.col_core.specs.Appending.{EntersBehind, IsClosedFor}
 use Rattle.col_core.specs.Keeping.{Kept}
+use Rattle.script_text.specs.declared.commands.What.{What}
 use Rattle.report_text.specs.declared.report.PointPiece.{PointPiece}
 use Rattle.col_core.proofs.CallerLemmas.{mark_stays, outcome_stays}
 use Rattle.lawful_run.specs.Callers.{Caller}
-use Rattle.lawful_run.specs.Appends.{AppendsOne, HadNoStamp, AreSteps, BeginsRow, StandsAt, AppendsSeveral, Appends, AppendsUnshown, one_unshown, several_unshown, IsGoneAtEnd, HasNoStamp, none_for_one, none_for_several, IsSettledIn, IsSettled, IsGoneForMemory}
+use Rattle.lawful_run.specs.Appends.{AppendsOne, HadNoStamp, AreSteps, BeginsRow, StandsAt, AppendsSeveral, Appends, AppendsUnshown, one_unshown, several_unshown, IsGoneAtEnd, HasNoStamp, none_for_one, none_for_several, IsSettledIn, IsSettled, IsGoneForMemory, IsSoLong, WasNext}
+use Rattle.lawful_run.specs.Explains.{MayStand}
 use Rattle.lawful_run.specs.Stops.{Stops, stopped_at_once, stopped_after}
 use Rattle.lawful_run.proofs.Prefixes.{prefix_get}
 use Rattle.lawful_run.proofs.LaterFacts.{all_of, taken_same, still_there, entry_later, line_later, final_later}
@@ -164,3 +166,23 @@ module _ (old new : Log) (later : IsLater old new) (caller : Caller) (kept : Kep
     outcome = outcome_stays old new later node (Gone Memory) (λ e. absurd cc) g.outcome;
     settled = all_settled_later node g.settled;
   }
+
+  -- after so many events a line is as long, and as many entries are open
+  pub so_long_later : (colour events lined waiting : ℕ) → IsSoLong old caller kept colour events lined waiting
+      → IsSoLong new caller kept colour events lined waiting
+  so_long_later colour events lined waiting s =
+      let same = sym (taken_same old new later caller.own colour events s.there) in record {
+        unseen = s.unseen;
+        there = still_there old new later caller.own colour events s.there;
+        lined_is = s.lined_is ∙ ap (λ (h : List Entry). length (line h)) same;
+        waiting_is = s.waiting_is ∙ ap (λ (h : List Entry). open_count (entries h)) same;
+      }
+
+  pub was_next_later : (point : PointPiece) → WasNext old caller kept point → WasNext new caller kept point
+  was_next_later point w = (w.0, w.1, so_long_later point.colour w.0 point.position 0 w.2, w.3)
+
+  pub may_stand_later : (what : What) (points : List PointPiece) → MayStand old caller kept what points
+      → MayStand new caller kept what points
+  may_stand_later what points (inl appending) = inl appending
+  may_stand_later what points (inr guarded) =
+      inr (guarded.0, all_of (WasNext old caller kept) (WasNext new caller kept) was_next_later points guarded.1)

@@ -13,7 +13,7 @@ use Rattle.col_core.specs.Log.{Log, IsLater, IsLaterMark, first, HasText, HasOut
 use Rattle.object_fold.specs.Nodes.{ObjectNode}
 use Rattle.col_core.proofs.CallerLemmas.{outcome_stays}
 use Rattle.lawful_run.specs.Objects.{IsObjectNode, AreObjectNodes}
-use Rattle.lawful_run.proofs.Prefixes.{prefix_get, prefix_take, prefix_length, prefix_self, get_within}
+use Rattle.lawful_run.proofs.Prefixes.{prefix_get, prefix_take, prefix_length, get_within}
 pub use Rattle.log_node.proofs.CallerLemmas.{all_zip_of}
 
 pub all_of : {A : Type 0} (P Q : A → Type 0) → ((x : A) → P x → Q x) → (xs : List A) → All P xs → All Q xs

@@ -19,7 +19,7 @@ use Rattle.report_text.specs.declared.report.RaisePiece.{RaisePiece}
 use Rattle.report_text.specs.declared.report.SyncPiece.{SyncPiece}
 use Rattle.col_core.specs.RegionOrder.{IsRegionOrder, IsClearUpTo}
 use Rattle.lawful_run.specs.Callers.{Caller}
-use Rattle.lawful_run.specs.Asks.{Manner, Appending, Stopping, Syncing, Moving, Getting, Reading, Committing, Dequeuing}
+use Rattle.lawful_run.specs.Asks.{Manner, Appending, Guarding, Stopping, Syncing, Moving, Getting, Reading, Committing, Dequeuing}
 use Rattle.lawful_run.specs.Reads.{Syncs, ShowsNode, ShowsPlayed, greatest_played, kept_after_piece, IsTrimmed, RaisesClock, kept_after_place, Raises, ClearSyncs, events_until, IsReadStamp, IsAboveClocks, ReadsAt, lines_read, AreKeysRead, ShowsKey, HidesSync, not_played, played, HidesSyncs, HidesRead, RefusesRead}
 use Rattle.lawful_run.specs.Refusals.{Hides, Refuses}
 use Rattle.lawful_run.proofs.LaterFacts.{all_zip_of, first_same, taken_same, still_there, entry_later, place_there, text_later}
@@ -260,6 +260,7 @@ module _ (old new : Log) (later : IsLater old new) (caller : Caller) where
   pub hides_later : (kept : Kept) (colours : List ℕ) (manner : Manner) (after : Kept)
       → Hides old caller kept colours manner after → Hides new caller kept colours manner after
   hides_later kept colours Appending after h = h
+  hides_later kept colours Guarding after h = h
   hides_later kept colours Stopping after h = h
   hides_later kept colours Syncing after h = h
   hides_later kept colours Moving after h = h
@@ -291,6 +292,7 @@ module _ (old new : Log) (later : IsLater old new) (caller : Caller) where
       → Refuses old caller kept colours manner colour shown after
       → Refuses new caller kept colours manner colour shown after
   refuses_later kept colours Appending colour shown after r = absurd r
+  refuses_later kept colours Guarding colour shown after r = absurd r
   refuses_later kept colours Stopping colour shown after r = absurd r
   refuses_later kept colours Syncing colour shown after r = (r.0, trimmed_later kept colour shown r.1, r.2)
   refuses_later kept colours Moving colour shown after r = absurd r

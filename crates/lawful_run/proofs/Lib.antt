@@ -27,5 +27,6 @@ mod Folds
 mod CausalGets
 mod ReadsKept
 mod ObjectAnswers
+mod TreeAsks
 mod Places
 pub mod CallerLemmas

@@ -1,20 +1,29 @@
 -- How the answers to commands of objects are explained, put together from their parts: appends, syncs and folds.
-use Rattle.std.proofs.Common.{◌≡◌, ◌≢◌, inl, inr, ℕ, ◌<◌, List, [], ◌∷◌, Option, Some, None, refl, sym, subst, ap, ◌∙◌}
+use Rattle.std.proofs.Common.{◌≡◌, ◌≢◌, ◌⊎◌, inl, inr, ℕ, ◌<◌, List, [], ◌∷◌, Option, Some, None, refl, sym, subst, ap, ◌∙◌}
 use Rattle.std.specs.List.{AllZip, Contains}
+use Rattle.std.proofs.lemmas.List.Elements.{All-cons, All-nil}
 use Rattle.log_node.specs.declared.ids.Colours.{Colours}
 use Rattle.log_node.specs.declared.ids.Counts.{Counts}
 use Rattle.log_node.specs.declared.ids.Key.{Key}
 use Rattle.log_node.specs.declared.forms.Pair.{Pair}
 use Rattle.log_node.specs.declared.limits.TheConstants.{MAX_COLOURS}
+use Rattle.log_node.specs.declared.node.At.TheVariants.{Event}
+use Rattle.log_node.specs.Sets.{members}
+use Rattle.log_node.specs.Vectors.{at}
 use Rattle.log_node.proofs.CallerLemmas.{members-one, members-set_of}
+use Rattle.object_form.specs.declared.tree_why.TreeWhy.{TreeWhy}
 use Rattle.object_fold.specs.Causal.{ChainNode, IsCausalAnswer}
+use Rattle.object_fold.specs.Folds.{told_of}
 use Rattle.object_fold.specs.Maps.{Value, shard_value}
 use Rattle.object_fold.specs.Nodes.{ObjectNode, shard_of}
 use Rattle.object_fold.specs.Transactions.{values_after, versions_after, verdict_of}
+use Rattle.tree_fold.specs.Paths.{Path}
+use Rattle.tree_fold.specs.Readings.{path_of}
+use Rattle.tree_fold.specs.Trees.{tree_after, telling, told_under, IsNamesAnswer}
 use Rattle.col_core.specs.History.{entry_key}
 use Rattle.col_core.specs.Cuts.{chain}
 use Rattle.col_core.specs.Log.{Log, first}
-use Rattle.col_core.specs.Keeping.{Kept, with_read}
+use Rattle.col_core.specs.Keeping.{Kept, kept_after_look, with_read}
 use Rattle.script_text.specs.declared.script.Kind.{Kind}
 use Rattle.script_text.specs.declared.script.Kind.TheVariants as kinds
 use Rattle.script_text.specs.declared.commands.What.{What}
@@ -27,9 +36,9 @@ use Rattle.report_text.specs.declared.report.SyncPiece.{SyncPiece}
 use Rattle.lawful_run.specs.Callers.{Caller, node_of}
 use Rattle.lawful_run.specs.Asks.{kind_of_object, object_colours, colours_of_object, home_of_object, home_asked, rising, shards, Appending, Getting, Committing, Dequeuing, Manner}
 use Rattle.lawful_run.specs.Deeds.{colours_synced, AsksToAppend, manner_of}
-use Rattle.lawful_run.specs.Appends.{Appends, AppendsUnshown}
+use Rattle.lawful_run.specs.Appends.{Appends, AppendsUnshown, IsSoLong, WasNext}
 use Rattle.lawful_run.specs.Reads.{Syncs, IsTrimmed, HidesSyncs, kept_after_piece, ReadsAt, AreKeysRead, HidesRead, RefusesRead}
-use Rattle.lawful_run.specs.Objects.{AreObjectNodes, AreAnswers, IsChainNode, GetsValue, GetsValues, TakesFront, own_played, places_within, shown_verdict}
+use Rattle.lawful_run.specs.Objects.{AreObjectNodes, AreAnswers, IsChainNode, TakesFront, own_played, places_within, shown_verdict}
 use Rattle.lawful_run.specs.Refusals.{Hides, Refuses, hidden}
 use Rattle.lawful_run.specs.Explains.{Explains}
 
@@ -47,7 +56,31 @@ module _ (log : Log) (caller : Caller) (kept : Kept) where
       → Appends log caller kept (node_of caller kept colours text) stamp row points after
       → Explains log caller kept what (answers.Stood stamp row points) [] after
   explains_append what colours text stamp row points after appending asks appends =
-      (refl, appending, (colours, text, asks, appends))
+      (refl, inl appending, (colours, text, asks, appends))
+
+  -- An append that finds nothing between is explained by its append, and by the line as long as it was played right before its event.
+  pub explains_next : (colours : Colours) (text : List ℕ) (stamp : ℕ) (point : PointPiece) (place : ℕ) (after : Kept)
+      → members colours ≡ point.colour ∷ [] → point.at ≡ Event place
+      → IsSoLong log caller kept point.colour place point.position 0
+      → point.position ≡ at (kept.starts point.colour) caller.own
+      → Appends log caller kept (node_of caller kept colours text) stamp None (point ∷ []) after
+      → Explains log caller kept (whats.Only point.colour text) (answers.Stood stamp None (point ∷ [])) [] after
+  explains_next colours text stamp point place after only event so_long played appends = (
+    refl,
+    inr (
+      refl,
+      All-cons (WasNext log caller kept) point [] (place, event, so_long, played) (All-nil (WasNext log caller kept)),
+    ),
+    (colours, text, (only, refl), appends),
+  )
+
+  -- One that finds something between is explained by a look at its colour.
+  pub explains_moved : (colour : ℕ) (text : List ℕ) (lined waiting events : ℕ)
+      → IsSoLong log caller kept colour events lined waiting
+      → (waiting ≢ 0) ⊎ (lined ≢ at (kept.starts colour) caller.own)
+      → Explains log caller kept (whats.Only colour text) (answers.Moved lined waiting colour events) []
+      (kept_after_look kept caller.own colour events)
+  explains_moved colour text lined waiting events so_long moved = (refl, text, refl, so_long, moved, refl)
 
   -- A get of a map is explained by a sync of the key's shard, and the fold of the own nodes that its snapshot counts.
   pub explains_get : (object home : ℕ) (colours key : List ℕ) (sync : SyncPiece) (nodes : List ObjectNode)
@@ -180,6 +213,30 @@ module _ (log : Log) (caller : Caller) (kept : Kept) where
   explains_verdict what colours text own stood verdict stamp row points read_stamp raises syncs after keys objects
       committing asks appends reads are_read nodes rules =
       (refl, (committing, (colours, text, asks, (own, stood, appends, (reads, keys, are_read, objects, nodes, rules)))))
+
+  -- A change of a tree is explained by its append, the stamped read behind it, and what its own node is told among what was read.
+  pub explains_change : (what : What) (colours : Colours) (text : List ℕ) (own : ℕ) (stood : Kept)
+      (failed : Option TreeWhy) (stamp : ℕ) (row : Option ℕ) (points : List PointPiece) (read_stamp : ℕ)
+      (raises : List RaisePiece) (syncs : List SyncPiece) (after : Kept) (keys : List Key) (objects : List ObjectNode)
+      → manner_of what ≡ Committing → AsksToAppend caller kept what colours text
+      → Appends log caller kept (node_of caller kept colours text) own row points stood
+      → ReadsAt log caller stood (colours_synced caller what) read_stamp raises syncs after
+      → AreKeysRead log caller read_stamp syncs keys → AreObjectNodes log keys objects
+      → told_of telling objects (entry_key own (node_of caller kept colours text).id) ≡ Some (told_under stamp failed)
+      → Explains log caller kept what (answers.Changed failed stamp row points read_stamp raises syncs) [] after
+  explains_change what colours text own stood failed stamp row points read_stamp raises syncs after keys objects
+      changing asks appends reads are_read nodes tells =
+      (refl, (changing, (colours, text, asks, (own, stood, appends, (reads, keys, are_read, objects, nodes, tells)))))
+
+  -- A list of the names in a path is explained by its stamped read, and the tree after the nodes that were read.
+  pub explains_names : (object : ℕ) (text : List ℕ) (path : Path) (names : Option (List (List ℕ))) (stamp : ℕ)
+      (raises : List RaisePiece) (syncs : List SyncPiece) (after : Kept) (keys : List Key) (objects : List ObjectNode)
+      → ReadsAt log caller kept (rising (colours_of_object caller object)) stamp raises syncs after
+      → AreKeysRead log caller stamp syncs keys → AreObjectNodes log keys objects
+      → path_of text ≡ Some path → IsNamesAnswer (tree_after objects) path names
+      → Explains log caller kept (whats.Ls object text) (answers.Listed names stamp raises syncs) [] after
+  explains_names object text path names stamp raises syncs after keys objects reads are_read nodes is answer =
+      (refl, object, text, refl, (reads, keys, are_read, objects, nodes, (path, is, answer)))
 
   -- Its node stands, and the read or the fold behind it was refused.
   pub explains_unruled : (what : What) (colours : Colours) (text : List ℕ) (stamp colour : ℕ) (base : Counts)

@@ -25,7 +25,7 @@ use Rattle.report_text.specs.declared.report.RaisePiece.{RaisePiece}
 use Rattle.report_text.specs.declared.report.SyncPiece.{SyncPiece}
 use Rattle.report_text.specs.declared.report.ReplyLine.{ReplyLine}
 use Rattle.lawful_run.specs.Callers.{Caller, node_of}
-use Rattle.lawful_run.specs.Asks.{Manner, Appending, Stopping, Syncing, Moving, Getting, Reading, Committing, Dequeuing}
+use Rattle.lawful_run.specs.Asks.{Manner, Appending, Guarding, Stopping, Syncing, Moving, Getting, Reading, Committing, Dequeuing}
 use Rattle.lawful_run.specs.Deeds.{colours_synced, manner_of}
 use Rattle.lawful_run.specs.Appends.{StandsAt, Appends, AppendsUnshown, one_unshown, several_unshown, kept_after_points, HasNoStamp, none_for_one, none_for_several}
 use Rattle.lawful_run.specs.Stops.{Stops, stopped_at_once, stopped_after}
@@ -211,6 +211,7 @@ module _ (log : Log) (caller : Caller) (colour : ℕ)
   hides : (kept : Kept) (colours : List ℕ) (manner : Manner) (after : Kept) → Hides log caller kept colours manner after
       → Onward kept after
   hides kept colours Appending after h = to_same kept after h (same refl refl)
+  hides kept colours Guarding after h = to_same kept after h (same refl refl)
   hides kept colours Stopping after h = to_same kept after h (same refl refl)
   hides kept colours Syncing after h = to_same kept after h (same refl refl)
   hides kept colours Moving after h = to_same kept after h (same refl refl)
@@ -227,6 +228,7 @@ module _ (log : Log) (caller : Caller) (colour : ℕ)
   refuses : (kept : Kept) (colours : List ℕ) (manner : Manner) (c : ℕ) (shown : Counts) (after : Kept)
       → Refuses log caller kept colours manner c shown after → Onward kept after
   refuses kept colours Appending c shown after r = absurd r
+  refuses kept colours Guarding c shown after r = absurd r
   refuses kept colours Stopping c shown after r = absurd r
   refuses kept colours Syncing c shown after r = to_same kept after r.2 (same refl refl)
   refuses kept colours Moving c shown after r = absurd r
@@ -360,6 +362,15 @@ module _ (log : Log) (caller : Caller) (colour : ℕ)
       let s = a.3 in
       then_on (appended kept (node_of caller kept a.0 a.1) s.0 row points s.1 s.2)
       (read s.1 _ read_stamp raises syncs after s.3.0)
+  explained kept what (answers.Changed failed stamp row points read_stamp raises syncs) nodes after e =
+      let a = e.1.1 in
+      let s = a.3 in
+      then_on (appended kept (node_of caller kept a.0 a.1) s.0 row points s.1 s.2)
+      (read s.1 _ read_stamp raises syncs after s.3.0)
+  explained kept what (answers.Listed names stamp raises syncs) nodes after e =
+      read kept (colours_synced caller what) stamp raises syncs after e.4.0
+  explained kept what (answers.Moved lined waiting c events) nodes after e =
+      to_same (kept_after_look kept caller.own c events) after e.5 (look kept c events e.3.unseen)
   explained kept what answers.NoTx nodes after e = to_same kept after e.1 (same refl refl)
   explained kept what (answers.Took value point sync) nodes after e =
       let a = e.3 in

@@ -1,7 +1,6 @@
 -- What a client keeps of its reads: no command changes it but a read that found something, and those that let a read go.
-use Rattle.std.proofs.Common.{◌≡◌, ◌⊎◌, ℕ, ◌+◌, ◌≤◌, List, [], ◌∷◌, ◌++◌, length, Option, Some, None, inl, inr, refl, ap, ◌∙◌, arith, length-append}
+use Rattle.std.proofs.Common.{◌≡◌, ◌⊎◌, ℕ, ◌≤◌, List, [], ◌∷◌, length, Option, Some, None, inl, inr, refl, ap, ◌∙◌, arith, length-append}
 use Rattle.std.specs.Prelude.{◌≢◌}
-use Rattle.log_node.specs.declared.forms.Version.{Version}
 use Rattle.log_node.specs.declared.ids.Counts.{Counts}
 use Rattle.log_node.specs.declared.node.At.{At}
 use Rattle.log_node.specs.declared.node.At.TheVariants.{Event, Look}
@@ -21,7 +20,7 @@ use Rattle.report_text.specs.declared.report.RaisePiece.{RaisePiece}
 use Rattle.report_text.specs.declared.report.ReplyLine.{ReplyLine}
 use Rattle.report_text.specs.declared.report.SyncPiece.{SyncPiece}
 use Rattle.lawful_run.specs.Callers.{Caller, node_of}
-use Rattle.lawful_run.specs.Asks.{Manner, Appending, Stopping, Syncing, Moving, Getting, Reading, Committing, Dequeuing}
+use Rattle.lawful_run.specs.Asks.{Manner, Appending, Guarding, Stopping, Syncing, Moving, Getting, Reading, Committing, Dequeuing}
 use Rattle.lawful_run.specs.Deeds.{colours_synced, manner_of}
 use Rattle.lawful_run.specs.Appends.{Appends, AppendsUnshown, one_unshown, several_unshown, HasNoStamp, none_for_one, none_for_several}
 use Rattle.lawful_run.specs.Moves.{with_places, kept_after_pull}
@@ -87,6 +86,7 @@ hidden_keeps log caller kept colours after h =
 hides_keep : (log : Log) (caller : Caller) (kept : Kept) (colours : List ℕ) (manner : Manner) (after : Kept)
     → Hides log caller kept colours manner after → KeepsReads kept after
 hides_keep log caller kept colours Appending after h = same_kept kept after h
+hides_keep log caller kept colours Guarding after h = same_kept kept after h
 hides_keep log caller kept colours Stopping after h = same_kept kept after h
 hides_keep log caller kept colours Syncing after h = same_kept kept after h
 hides_keep log caller kept colours Moving after h = same_kept kept after h
@@ -104,6 +104,7 @@ refused_keeps log caller kept colours colour shown after r =
 refuses_keep : (log : Log) (caller : Caller) (kept : Kept) (colours : List ℕ) (manner : Manner) (colour : ℕ)
     (shown : Counts) (after : Kept) → Refuses log caller kept colours manner colour shown after → KeepsReads kept after
 refuses_keep log caller kept colours Appending colour shown after r = absurd r
+refuses_keep log caller kept colours Guarding colour shown after r = absurd r
 refuses_keep log caller kept colours Stopping colour shown after r = absurd r
 refuses_keep log caller kept colours Syncing colour shown after r = same_kept kept after r.2
 refuses_keep log caller kept colours Moving colour shown after r = absurd r
@@ -185,6 +186,14 @@ module _ (log : Log) (caller : Caller) (kept : Kept) where
       let s = a.3 in
       reads_keep log caller s.1 (colours_synced caller what) read_stamp raises syncs after s.3.0
       ∙ appends_keep (node_of caller kept a.0 a.1) s.0 row points s.1 s.2
+  explained_keeps what (answers.Changed failed stamp row points read_stamp raises syncs) nodes after e other =
+      let a = e.1.1 in
+      let s = a.3 in
+      reads_keep log caller s.1 (colours_synced caller what) read_stamp raises syncs after s.3.0
+      ∙ appends_keep (node_of caller kept a.0 a.1) s.0 row points s.1 s.2
+  explained_keeps what (answers.Listed names stamp raises syncs) nodes after e other =
+      reads_keep log caller kept (colours_synced caller what) stamp raises syncs after e.4.0
+  explained_keeps what (answers.Moved lined waiting colour events) nodes after e other = so_kept kept _ after e.5 refl
   explained_keeps what answers.NoTx nodes after e other = same_kept kept after e.1
   explained_keeps what (answers.Took value point sync) nodes after e other =
       let s = e.3.3 in

@@ -12,7 +12,6 @@ use Rattle.col_core.specs.History.{line, entry_key}
 use Rattle.col_core.specs.Appending.{StandsUnder}
 use Rattle.col_core.specs.Keeping.{Kept}
 use Rattle.script_text.specs.declared.commands.What.{What}
-use Rattle.script_text.specs.declared.commands.What.TheVariants as whats
 use Rattle.script_text.specs.declared.script.Script.{Script}
 use Rattle.report_text.specs.declared.report.Answer.{Answer}
 use Rattle.report_text.specs.declared.report.Answer.TheVariants as answers
@@ -111,6 +110,12 @@ module _ (script : Script) (report : Report) (run : LawfulRun script report) (cl
       let a = e.1.1 in
       let s = a.3 in
       (a.0, a.1, a.2, (s.0, at_points a.0 a.1 s.0 row points s.1 s.2))
+  returned what (answers.Changed failed stamp row points read_stamp raises syncs) nodes after e n =
+      let a = e.1.1 in
+      let s = a.3 in
+      (a.0, a.1, a.2, (s.0, at_points a.0 a.1 s.0 row points s.1 s.2))
+  returned what (answers.Listed names stamp raises syncs) nodes after e n = absurd (n refl)
+  returned what (answers.Moved lined waiting colour events) nodes after e n = absurd (n refl)
   returned what answers.NoTx nodes after e n = absurd (n refl)
   returned what (answers.Took value point sync) nodes after e n =
       let a = e.3 in

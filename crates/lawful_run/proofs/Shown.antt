@@ -1,8 +1,8 @@
 -- What node lines show.
-use Rattle.std.proofs.Common.{◌≡◌, ℕ, zero, suc, ◌+◌, ◌<◌, ◌≤◌, List, [], ◌∷◌, ◌++◌, length, map, take, drop, Some, slice_get, refl, ap, sym, subst, ◌∙◌, inl, inr, arith}
+use Rattle.std.proofs.Common.{◌≡◌, ℕ, zero, suc, ◌<◌, List, [], ◌∷◌, ◌++◌, length, map, take, drop, Some, slice_get, refl, ap, sym, subst, ◌∙◌, arith}
 use Rattle.std.specs.Prelude.{◌==◌, ◌≢◌}
 use Rattle.std.specs.List.{All, AllZip, Contains, flat_map, range_with_len}
-use Rattle.std.proofs.lemmas.Bool.{eq-eqb, eqb-true, cases_lt}
+use Rattle.std.proofs.lemmas.Bool.{eq-eqb, eqb-true}
 use Rattle.std.proofs.lemmas.List.{length-map}
 use Rattle.std.proofs.lemmas.List.Elements.{All-contains}
 use Rattle.log_node.specs.declared.ids.Key.{Key}
@@ -295,6 +295,12 @@ module _ (script : Script) (report : Report) (fits : IsFitting script) (run : La
       none_shown nodes n item e.0 there
   shown_in client lo kept what (answers.Ruled conflict stamp row points read_stamp raises syncs) nodes after e w n item
       there = none_shown nodes n item e.0 there
+  shown_in client lo kept what (answers.Changed failed stamp row points read_stamp raises syncs) nodes after e w n item
+      there = none_shown nodes n item e.0 there
+  shown_in client lo kept what (answers.Listed names stamp raises syncs) nodes after e w n item there =
+      none_shown nodes n item e.0 there
+  shown_in client lo kept what (answers.Moved lined waiting colour events) nodes after e w n item there =
+      none_shown nodes n item e.0 there
   shown_in client lo kept what answers.NoTx nodes after e w n item there = none_shown nodes n item e.0 there
   shown_in client lo kept what (answers.Took value point sync) nodes after e w n item there =
       none_shown nodes n item e.0 there

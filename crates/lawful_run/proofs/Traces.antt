@@ -19,7 +19,7 @@ use Rattle.col_core.proofs.CallerLemmas.{choice}
 use Rattle.report_text.specs.declared.report.RaisePiece.{RaisePiece}
 use Rattle.report_text.specs.declared.report.SyncPiece.{SyncPiece}
 use Rattle.lawful_run.specs.Callers.{Caller}
-use Rattle.lawful_run.specs.Asks.{Manner, Appending, Stopping, Syncing, Moving, Getting, Reading, Committing, Dequeuing}
+use Rattle.lawful_run.specs.Asks.{Manner, Appending, Guarding, Stopping, Syncing, Moving, Getting, Reading, Committing, Dequeuing}
 use Rattle.col_core.specs.Ids.{IsStepOf}
 use Rattle.lawful_run.specs.Appends.{AreSteps}
 use Rattle.lawful_run.specs.Refusals.{Hides, Refuses}
@@ -234,6 +234,7 @@ module _ (log : Log) (caller : Caller) where
   pub hides : (kept : Kept) (colours : List ℕ) (manner : Manner) (after : Kept)
       → Hides log caller kept colours manner after → Quiet log kept after
   hides kept colours Appending after h = quiet_is h
+  hides kept colours Guarding after h = quiet_is h
   hides kept colours Stopping after h = quiet_is h
   hides kept colours Syncing after h = quiet_is h
   hides kept colours Moving after h = quiet_is h
@@ -250,6 +251,7 @@ module _ (log : Log) (caller : Caller) where
   pub refuses : (kept : Kept) (colours : List ℕ) (manner : Manner) (colour : ℕ) (shown : Counts) (after : Kept)
       → Refuses log caller kept colours manner colour shown after → Quiet log kept after
   refuses kept colours Appending colour shown after r = absurd r
+  refuses kept colours Guarding colour shown after r = absurd r
   refuses kept colours Stopping colour shown after r = absurd r
   refuses kept colours Syncing colour shown after r = quiet_is r.2
   refuses kept colours Moving colour shown after r = absurd r

@@ -67,6 +67,15 @@ explained_use log caller kept what (answers.Ruled conflict stamp row points read
     let s = a.3 in
     inr (uses_then (appends_use log caller kept what a.0 a.1 a.2 _ s.0 row points s.1 (λ f. absurd cc) s.2)
     (read log caller s.1 _ read_stamp raises syncs after s.3.0))
+explained_use log caller kept what (answers.Changed failed stamp row points read_stamp raises syncs) nodes after e =
+    let a = e.1.1 in
+    let s = a.3 in
+    inr (uses_then (appends_use log caller kept what a.0 a.1 a.2 _ s.0 row points s.1 (λ f. absurd cc) s.2)
+    (read log caller s.1 _ read_stamp raises syncs after s.3.0))
+explained_use log caller kept what (answers.Listed names stamp raises syncs) nodes after e =
+    inl (read log caller kept (colours_synced caller what) stamp raises syncs after e.4.0, refl)
+explained_use log caller kept what (answers.Moved lined waiting colour events) nodes after e =
+    inl (quiet_to _ after e.5 (quiet_same log kept _ refl refl), refl)
 explained_use log caller kept what answers.NoTx nodes after e =
     inl (quiet_is e.1, refl)
 explained_use log caller kept what (answers.Took value point sync) nodes after e =

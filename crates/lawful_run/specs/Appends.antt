@@ -6,11 +6,12 @@ use Rattle.log_node.specs.declared.ids.Colours.{Colours}
 use Rattle.log_node.specs.declared.node.At.TheVariants.{Event}
 use Rattle.log_node.specs.declared.node.Node.{Node}
 use Rattle.log_node.specs.Sets.{members}
+use Rattle.log_node.specs.Vectors.{at}
 use Rattle.log_node.specs.declared.marks.Why.TheVariants.{Memory}
 use Rattle.log_node.specs.declared.marks.Outcome.TheVariants.{Gone, Final}
 use Rattle.col_core.specs.declared.Event.TheVariants.{Single}
 use Rattle.col_core.specs.declared.Entry.{Entry}
-use Rattle.col_core.specs.History.{IsAtEnd}
+use Rattle.col_core.specs.History.{entries, open_count, line, IsAtEnd}
 use Rattle.col_core.specs.Ids.{IsStepOf}
 use Rattle.col_core.specs.Rows.{BegunRow}
 use Rattle.col_core.specs.Log.{Log, IsBegunFor, HasOutcome}
@@ -140,3 +141,16 @@ pub record IsGoneForMemory (log : Log) (caller : Caller) (kept : Kept) (node : N
   pub begins : BeginsRow log caller kept node places
   pub outcome : HasOutcome log node (Gone Memory)
   pub settled : IsSettled log caller node
+
+-- After so many events, no fewer than were seen, the own line has this length, and so many entries are open.
+pub record IsSoLong (log : Log) (caller : Caller) (kept : Kept) (colour events lined waiting : ℕ) : Type 0 where
+  pub unseen : kept.seen caller.own colour ≤ events
+  pub there : events ≤ length (log.histories caller.own colour)
+  pub lined_is : lined ≡ length (line (take events (log.histories caller.own colour)))
+  pub waiting_is : waiting ≡ open_count (entries (take events (log.histories caller.own colour)))
+
+-- Right before the event of this point no entry was open, and the line was as long as the client has played.
+abbrev pub WasNext : Log → Caller → Kept → PointPiece → Type 0
+WasNext log caller kept point =
+    (place : ℕ) × (point.at ≡ Event place) × IsSoLong log caller kept point.colour place point.position 0
+    × (point.position ≡ at (kept.starts point.colour) caller.own)

@@ -1,17 +1,12 @@
 -- What commands are of: their objects, the kinds of what they do, and the shards of keys.
-use Rattle.std.specs.Prelude.{◌≡◌, Bool, true, false, ℕ, ◌==◌, List, [], ◌∷◌, ◌++◌, map, Option, Some, None, slice_get}
+use Rattle.std.specs.Prelude.{Bool, true, false, ℕ, ◌==◌, List, [], ◌∷◌, map, Option, Some, None, slice_get}
 use Rattle.std.specs.List.{filter, list_any, range_with_len}
 use Rattle.std.specs.Option.{option_map}
-use Rattle.log_node.specs.declared.ids.Colours.{Colours}
 use Rattle.log_node.specs.declared.forms.Pair.{Pair}
-use Rattle.log_node.specs.declared.forms.Version.{Version}
 use Rattle.log_node.specs.declared.forms.Form.{Form}
 use Rattle.log_node.specs.declared.forms.Form.TheVariants as forms
 use Rattle.log_node.specs.declared.limits.TheConstants.{MAX_COLOURS}
-use Rattle.log_node.specs.Sets.{members}
-use Rattle.object_form.specs.Forms.{form_text}
 use Rattle.object_fold.specs.Nodes.{shard_of}
-use Rattle.col_core.specs.Keeping.{Kept}
 use Rattle.script_text.specs.declared.script.Kind.{Kind}
 use Rattle.script_text.specs.declared.script.Kind.TheVariants as kinds
 use Rattle.script_text.specs.declared.script.Object.{Object}
@@ -32,6 +27,7 @@ object_colours (Some (kinds.Map home colours)) = colours
 object_colours (Some (kinds.Tx home colours)) = colours
 object_colours (Some (kinds.Causal colour)) = colour ∷ []
 object_colours (Some (kinds.Queue home colour)) = colour ∷ []
+object_colours (Some (kinds.Tree home colours)) = colours
 
 -- the colours of the object with this number
 abbrev pub colours_of_object : Caller → ℕ → List ℕ
@@ -44,6 +40,7 @@ object_home (Some (kinds.Map home colours)) = Some home
 object_home (Some (kinds.Tx home colours)) = Some home
 object_home (Some (kinds.Causal colour)) = None
 object_home (Some (kinds.Queue home colour)) = Some home
+object_home (Some (kinds.Tree home colours)) = Some home
 
 -- the home of the object with this number, where it has one
 abbrev pub home_of_object : Caller → ℕ → Option ℕ
@@ -66,6 +63,8 @@ home_asked caller what = object_home (kind_asked caller what)
 pub data Manner : Type 0 where
   -- it appends a node, and answers where that stands
   Appending : Manner
+  -- it appends a node only where nothing has come between, and helps nobody
+  Guarding : Manner
   -- it stops within an append
   Stopping : Manner
   -- it syncs a colour and shows the nodes
@@ -84,6 +83,7 @@ pub data Manner : Type 0 where
 -- a command that appends or makes a stamped read may help the appends of others
 abbrev pub may_help : Manner → Bool
 may_help Appending = true
+may_help Guarding = false
 may_help Stopping = false
 may_help Syncing = false
 may_help Moving = false

@@ -6,6 +6,9 @@ use Rattle.log_node.specs.declared.forms.Version.{Version}
 use Rattle.log_node.specs.declared.forms.Form.TheVariants as forms
 use Rattle.log_node.specs.Sets.{members}
 use Rattle.object_form.specs.Forms.{form_text}
+use Rattle.tree_fold.specs.declared.change.Change.{Change}
+use Rattle.tree_fold.specs.Changes.{change_text, change_keys}
+use Rattle.tree_fold.specs.Readings.{below_root_of, make_of, remove_of, move_of}
 use Rattle.col_core.specs.Keeping.{Kept}
 use Rattle.script_text.specs.declared.script.Kind.{Kind}
 use Rattle.script_text.specs.declared.commands.What.{What}
@@ -15,7 +18,7 @@ use Rattle.script_text.specs.declared.uses.Use.{Use}
 use Rattle.script_text.specs.declared.uses.Use.TheVariants.{OfObject}
 use Rattle.script_text.specs.Commands.{use_of}
 use Rattle.lawful_run.specs.Callers.{Caller}
-use Rattle.lawful_run.specs.Asks.{Manner, Appending, Stopping, Syncing, Moving, Getting, Reading, Committing, Dequeuing, object_colours, kind_asked, shards, rising, keys_of_pairs, put_form}
+use Rattle.lawful_run.specs.Asks.{Manner, Appending, Guarding, Stopping, Syncing, Moving, Getting, Reading, Committing, Dequeuing, object_colours, kind_asked, shards, rising, keys_of_pairs, put_form}
 
 -- which colours a command is of
 pub data Reach : Type 0 where
@@ -62,6 +65,11 @@ deed_of (whats.Read object keys) = record { manner = Reading; syncs = Whole }
 deed_of (whats.Commit object pairs) = record { manner = Committing; syncs = Whole }
 deed_of (whats.Enq object value) = record { manner = Appending; syncs = NoColours }
 deed_of (whats.Deq object) = record { manner = Dequeuing; syncs = Listed }
+deed_of (whats.Only colour text) = record { manner = Guarding; syncs = NoColours }
+deed_of (whats.Mk object path value) = record { manner = Committing; syncs = Whole }
+deed_of (whats.Rm object path) = record { manner = Committing; syncs = Whole }
+deed_of (whats.Mv object source target) = record { manner = Committing; syncs = Whole }
+deed_of (whats.Ls object path) = record { manner = Reading; syncs = Whole }
 
 -- the manner of a command
 abbrev pub manner_of : What → Manner
@@ -80,6 +88,10 @@ pub record Saying : Type 0 where
 abbrev pub says : Reach → List ℕ → Option Saying
 says reach text = Some (record { reach = reach; text = text })
 
+-- the node of a change of a tree: in the shards of the first names of its paths
+abbrev pub says_change : Option Change → Option Saying
+says_change change = option_map (λ (c : Change). record { reach = ShardsOf (change_keys c); text = change_text c }) change
+
 -- What a command on an object of a kind appends, by what the read found that it uses up; nothing where it appends
 -- nothing. A transaction names the versions that were found.
 abbrev pub saying_of : Option Kind → Option (List Version) → What → Option Saying
@@ -95,6 +107,10 @@ saying_of kind found (whats.Commit object pairs) =
     }) found
 saying_of kind found (whats.Enq object value) = says Listed (form_text (forms.Enqueue value))
 saying_of kind found (whats.Deq object) = says Listed (form_text forms.Dequeue)
+saying_of kind found (whats.Only colour text) = says (One colour) text
+saying_of kind found (whats.Mk object path value) = says_change (make_of (below_root_of path) value)
+saying_of kind found (whats.Rm object path) = says_change (remove_of (below_root_of path))
+saying_of kind found (whats.Mv object source target) = says_change (move_of (below_root_of source) (below_root_of target))
 saying_of kind found _ = None
 
 -- what was found by the read that a command uses up

@@ -1,17 +1,22 @@
 -- What the reply to a command says of the log, to a client that keeps what its earlier replies told.
 use Rattle.std.specs.Prelude.{◌≡◌, ◌≢◌, ◌⊎◌, ℕ, List, [], ◌∷◌, ◌++◌, length, Option, Some, None}
-use Rattle.std.specs.List.{AllZip}
+use Rattle.std.specs.List.{All, AllZip}
 use Rattle.log_node.specs.declared.ids.Colours.{Colours}
 use Rattle.log_node.specs.declared.ids.Key.{Key}
 use Rattle.log_node.specs.declared.node.At.TheVariants.{Event}
 use Rattle.log_node.specs.Seen.{PlacedNode}
 use Rattle.log_node.specs.Sets.{members}
+use Rattle.log_node.specs.Vectors.{at}
+use Rattle.object_form.specs.declared.tree_why.TreeWhy.{TreeWhy}
+use Rattle.object_fold.specs.Folds.{told_of}
 use Rattle.object_fold.specs.Nodes.{ObjectNode}
 use Rattle.object_fold.specs.Maps.{values_among}
 use Rattle.object_fold.specs.Transactions.{values_after, versions_after, verdict_of}
-use Rattle.col_core.specs.History.{entry_key}
+use Rattle.tree_fold.specs.Paths.{Path}
+use Rattle.tree_fold.specs.Readings.{path_of}
+use Rattle.tree_fold.specs.Trees.{tree_after, telling, told_under, IsNamesAnswer}
 use Rattle.col_core.specs.Log.{Log}
-use Rattle.col_core.specs.Keeping.{Kept, nothing_kept, kept_after_event, kept_after_sync, with_read}
+use Rattle.col_core.specs.Keeping.{Kept, nothing_kept, kept_after_event, kept_after_look, kept_after_sync, with_read}
 use Rattle.script_text.specs.declared.script.Kind.TheVariants as kinds
 use Rattle.script_text.specs.declared.commands.What.{What}
 use Rattle.script_text.specs.declared.commands.What.TheVariants as whats
@@ -20,16 +25,17 @@ use Rattle.script_text.specs.Commands.{word_of}
 use Rattle.report_text.specs.declared.report.Answer.{Answer}
 use Rattle.report_text.specs.declared.report.Answer.TheVariants as answers
 use Rattle.report_text.specs.declared.report.KeyAnswer.{KeyAnswer}
+use Rattle.report_text.specs.declared.report.PointPiece.{PointPiece}
 use Rattle.report_text.specs.declared.report.ReplyLine.{ReplyLine}
 use Rattle.lawful_run.specs.Callers.{Caller, node_of}
-use Rattle.lawful_run.specs.Asks.{kind_of_object, home_of_object, colours_of_object, home_asked, Appending, Stopping, Committing, Dequeuing, Syncing, Getting, Reading}
-use Rattle.lawful_run.specs.Deeds.{AsksToAppend, colours_synced, manner_of}
-use Rattle.lawful_run.specs.Appends.{Appends, AppendsUnshown, HasNoStamp, HasNoRowLeft}
+use Rattle.lawful_run.specs.Asks.{kind_of_object, home_of_object, colours_of_object, home_asked, Appending, Guarding, Stopping, Committing, Dequeuing, Syncing, Getting, Reading}
+use Rattle.lawful_run.specs.Deeds.{colours_synced, manner_of}
+use Rattle.lawful_run.specs.Appends.{Appends, AppendsUnshown, HasNoStamp, HasNoRowLeft, IsSoLong, WasNext}
 use Rattle.lawful_run.specs.Shapes.{AppendsBy, TellsBehind, TellsRead}
 use Rattle.lawful_run.specs.Stops.{Stops}
 use Rattle.lawful_run.specs.Reads.{Syncs, ShowsPlayed, greatest_stamp, kept_after_piece, ReadsAt, AreKeysRead, ShowsKey}
 use Rattle.lawful_run.specs.Moves.{Pulls, kept_after_pull, Trims}
-use Rattle.lawful_run.specs.Objects.{AreObjectNodes, GetsValue, GetsValues, AreAnswers, TakesFront, shown_verdict}
+use Rattle.lawful_run.specs.Objects.{GetsValue, GetsValues, AreAnswers, TakesFront, shown_verdict}
 use Rattle.lawful_run.specs.Refusals.{FindsNoMemory, Hides, Refuses, IsAway, IsHomeRefusal, kept_before, kept_behind}
 
 -- the command is no stop before the first step, which is answered before anything is tried
@@ -49,12 +55,25 @@ AnswersKeys caller what shown read after objects =
 abbrev pub ShowsVerdict : Option (List ℕ) → ℕ → Key → List ObjectNode → Type 0
 ShowsVerdict conflict stamp own objects = verdict_of objects own ≡ Some (shown_verdict conflict stamp)
 
+-- By the nodes read this is what becomes of the change of a tree that the own node has.
+abbrev pub ShowsChange : Option TreeWhy → ℕ → Key → List ObjectNode → Type 0
+ShowsChange failed stamp own objects = told_of telling objects own ≡ Some (told_under stamp failed)
+
+-- By the nodes read these are the names in the path with this text, or it is not there.
+abbrev pub ShowsNames : List ℕ → Option (List (List ℕ)) → List ObjectNode → Type 0
+ShowsNames text names objects = (path : Path) × (path_of text ≡ Some path) × IsNamesAnswer (tree_after objects) path names
+
+-- A command that answers where its node stands: it is a plain append, or it found that nothing had come between.
+abbrev pub MayStand : Log → Caller → Kept → What → List PointPiece → Type 0
+MayStand log caller kept what points =
+    (manner_of what ≡ Appending) ⊎ ((manner_of what ≡ Guarding) × All (WasNext log caller kept) points)
+
 -- The answer, with its node lines, to what a client asked: what it says of the log, and what the client keeps
 -- afterwards.
 abbrev pub Explains : Log → Caller → Kept → What → Answer → List PlacedNode → Kept → Type 0
 Explains log caller kept what answers.NoMemory nodes after = (nodes ≡ []) × FindsNoMemory log caller kept what after
 Explains log caller kept what (answers.Stood stamp row points) nodes after =
-    (nodes ≡ []) × (manner_of what ≡ Appending)
+    (nodes ≡ []) × MayStand log caller kept what points
     × AppendsBy caller kept what (λ colours text.
     Appends log caller kept (node_of caller kept colours text) stamp row points after)
 Explains log caller kept what (answers.StampEnd colour) nodes after =
@@ -103,6 +122,16 @@ Explains log caller kept what (answers.GotKeys stamp shown raises syncs) nodes a
     (nodes ≡ []) × (read : Kept) × TellsRead log caller kept what stamp raises syncs (AnswersKeys caller what shown read after) read
 Explains log caller kept what (answers.Ruled conflict stamp row points read_stamp raises syncs) nodes after =
     (nodes ≡ []) × TellsBehind log caller kept what row points read_stamp raises syncs (ShowsVerdict conflict stamp) after
+Explains log caller kept what (answers.Changed failed stamp row points read_stamp raises syncs) nodes after =
+    (nodes ≡ []) × TellsBehind log caller kept what row points read_stamp raises syncs (ShowsChange failed stamp) after
+Explains log caller kept what (answers.Listed names stamp raises syncs) nodes after =
+    (nodes ≡ []) × (object : ℕ) × (path : List ℕ) × (what ≡ whats.Ls object path)
+    × TellsRead log caller kept what stamp raises syncs (ShowsNames path names) after
+Explains log caller kept what (answers.Moved lined waiting colour events) nodes after =
+    (nodes ≡ []) × (text : List ℕ) × (what ≡ whats.Only colour text)
+    × IsSoLong log caller kept colour events lined waiting
+    × ((waiting ≢ 0) ⊎ (lined ≢ at (kept.starts colour) caller.own))
+    × (after ≡ kept_after_look kept caller.own colour events)
 Explains log caller kept what answers.NoTx nodes after =
     (nodes ≡ []) × (after ≡ kept) × (object : ℕ) × (pairs : _) × (what ≡ whats.Commit object pairs)
     × (home_of_object caller object ≡ Some caller.own) × (kept.reads object ≡ None)

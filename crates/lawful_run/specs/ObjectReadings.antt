@@ -7,11 +7,16 @@ use Rattle.log_node.specs.declared.ids.Key.{Key}
 use Rattle.log_node.specs.declared.ids.Colours.{Colours}
 use Rattle.log_node.specs.Seen.{PlacedNode}
 use Rattle.log_node.specs.Vectors.{at}
+use Rattle.object_form.specs.declared.tree_why.TreeWhy.{TreeWhy}
+use Rattle.object_fold.specs.Folds.{told_of}
 use Rattle.object_fold.specs.Nodes.{ObjectNode}
 use Rattle.object_fold.specs.Maps.{Value, shard_value, values_among}
 use Rattle.object_fold.specs.Queues.{front_after}
 use Rattle.object_fold.specs.Causal.{ChainNode, IsCausalAnswer}
 use Rattle.object_fold.specs.Transactions.{values_after, verdict_of}
+use Rattle.tree_fold.specs.Paths.{Path}
+use Rattle.tree_fold.specs.Readings.{path_of}
+use Rattle.tree_fold.specs.Trees.{tree_after, telling, told_under, IsNamesAnswer}
 use Rattle.col_core.specs.History.{entry_key}
 use Rattle.col_core.specs.PlayOrder.{Place}
 use Rattle.col_core.specs.RegionOrder.{IsRegionOrder}
@@ -149,3 +154,30 @@ VerdictsAreFolds =
     × (id : Id) × (colours : Colours) × (text : List ℕ) × IsAppend run client n reply id colours text
     × (own : ℕ) × StandsAtPoints report (caller_of script client).own id colours own points
     × (verdict_of nodes (entry_key own id) ≡ Some (shown_verdict conflict stamp))
+
+-- A change of a tree is told what becomes of its own node, where this stands, over all nodes up to the read's stamp that
+-- the closing lines of its colours have.
+abbrev pub ChangesAreFolds : Type 0
+ChangesAreFolds =
+    (script : Script) (report : Report) → IsFitting script → (run : LawfulRun script report)
+    → (client n : ℕ) (reply : ReplyLine) → HasReply report client n reply
+    → (failed : Option TreeWhy) (stamp : ℕ) (row : Option ℕ) (points : List PointPiece)
+    → (read_stamp : ℕ) (raises : List RaisePiece) (syncs : List SyncPiece)
+    → reply.answer ≡ answers.Changed failed stamp row points read_stamp raises syncs
+    → (lines : List (List Key)) → AreClosing report (caller_of script client).own syncs lines
+    → (keys : List Key) × IsRegionOrder lines read_stamp keys × (nodes : List ObjectNode) × AreNodesOf run keys nodes
+    × (id : Id) × (colours : Colours) × (text : List ℕ) × IsAppend run client n reply id colours text
+    × (own : ℕ) × StandsAtPoints report (caller_of script client).own id colours own points
+    × (told_of telling nodes (entry_key own id) ≡ Some (told_under stamp failed))
+
+-- A list of names answers what is in the path after all nodes up to its stamp that the closing lines of its colours have.
+abbrev pub ListsAreFolds : Type 0
+ListsAreFolds =
+    (script : Script) (report : Report) → IsFitting script → (run : LawfulRun script report)
+    → (client n : ℕ) (reply : ReplyLine) → HasReply report client n reply
+    → (names : Option (List (List ℕ))) (stamp : ℕ) (raises : List RaisePiece) (syncs : List SyncPiece)
+    → reply.answer ≡ answers.Listed names stamp raises syncs
+    → (lines : List (List Key)) → AreClosing report (caller_of script client).own syncs lines
+    → (keys : List Key) × IsRegionOrder lines stamp keys × (nodes : List ObjectNode) × AreNodesOf run keys nodes
+    × (object : ℕ) × (text : List ℕ) × Commands script client n (whats.Ls object text)
+    × (path : Path) × (path_of text ≡ Some path) × IsNamesAnswer (tree_after nodes) path names

@@ -75,6 +75,7 @@ pub data NodeTold : Type 0 where
 abbrev pub told : Answer → NodeTold
 told (answers.Stood stamp row points) = UnderAt stamp points
 told (answers.Ruled conflict stamp row points read_stamp raises syncs) = StoodAt points
+told (answers.Changed failed stamp row points read_stamp raises syncs) = StoodAt points
 told (answers.Took value point sync) = StoodAt (point ∷ [])
 told (answers.UnreadTrimmed stamp colour base) = Under stamp
 told (answers.UnreadNoMemory stamp) = Under stamp
@@ -91,6 +92,8 @@ told (answers.Based at base) = Nowhere
 told (answers.Got value sync) = Nowhere
 told (answers.GotMany values sync) = Nowhere
 told (answers.GotKeys stamp keys raises syncs) = Nowhere
+told (answers.Listed names stamp raises syncs) = Nowhere
+told (answers.Moved lined waiting colour events) = Nowhere
 told answers.NoTx = Nowhere
 told (answers.Trimmed colour base) = Nowhere
 told (answers.NotHome home) = Nowhere

@@ -1,6 +1,6 @@
 -- What a command that found no memory may have done, and when an object's home refuses.
-use Rattle.std.specs.Prelude.{◌≡◌, ◌≢◌, ◌⊎◌, ℕ, List, Option, Some, None, ◌≤◌, length}
-use Rattle.std.specs.List.{All, Contains}
+use Rattle.std.specs.Prelude.{◌≡◌, ◌≢◌, ◌⊎◌, ℕ, List, Option, Some, None}
+use Rattle.std.specs.List.{Contains}
 use Rattle.log_node.specs.declared.ids.Colours.{Colours}
 use Rattle.log_node.specs.declared.ids.Counts.{Counts}
 use Rattle.col_core.specs.Log.{Log}
@@ -14,16 +14,17 @@ use Rattle.script_text.specs.Commands.{use_of}
 use Rattle.report_text.specs.declared.report.Answer.{Answer}
 use Rattle.report_text.specs.declared.report.Answer.TheVariants as answers
 use Rattle.lawful_run.specs.Callers.{Caller, node_of}
-use Rattle.lawful_run.specs.Asks.{Manner, Appending, Stopping, Syncing, Moving, Getting, Reading, Committing, Dequeuing}
+use Rattle.lawful_run.specs.Asks.{Manner, Appending, Guarding, Stopping, Syncing, Moving, Getting, Reading, Committing, Dequeuing}
 use Rattle.lawful_run.specs.Deeds.{AsksToAppend, colours_synced, manner_of}
 use Rattle.lawful_run.specs.Appends.{IsGoneForMemory}
 use Rattle.lawful_run.specs.Reads.{HidesSyncs, HidesRead, IsTrimmed, RefusesRead}
-use Rattle.lawful_run.specs.Moves.{OnlyGives, kept_after_giving, GivesFrom, GivesTooLow, with_places}
+use Rattle.lawful_run.specs.Moves.{OnlyGives, kept_after_giving}
 
 -- What a command of this manner may have done in its syncs of these colours that its answer does not show, as where it
 -- found no memory; and what its client then keeps.
 abbrev pub Hides : Log → Caller → Kept → List ℕ → Manner → Kept → Type 0
 Hides log caller kept colours Appending after = after ≡ kept
+Hides log caller kept colours Guarding after = after ≡ kept
 Hides log caller kept colours Stopping after = after ≡ kept
 Hides log caller kept colours Syncing after = after ≡ kept
 Hides log caller kept colours Moving after = after ≡ kept
@@ -36,6 +37,7 @@ Hides log caller kept colours Dequeuing after = HidesSyncs log caller kept colou
 -- lacks are trimmed there, as the base shows; and what its client then keeps. Only a command that syncs is refused so.
 abbrev pub Refuses : Log → Caller → Kept → List ℕ → Manner → ℕ → Counts → Kept → Type 0
 Refuses log caller kept colours Appending colour base after = ⊥
+Refuses log caller kept colours Guarding colour base after = ⊥
 Refuses log caller kept colours Stopping colour base after = ⊥
 Refuses log caller kept colours Syncing colour base after =
     Contains colours colour × IsTrimmed log caller kept colour base × (after ≡ kept)

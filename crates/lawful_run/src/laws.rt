@@ -1,6 +1,6 @@
 // Laws of explanations, and of what a reader takes from a report.
 ghost use Rattle.lawful_run.specs.Laws.{ExplanationsLast, ReadItemsLast};
-ghost use Rattle.lawful_run.specs.ObjectReadings.{CausalGetsAreFolds, DequeuesAreFolds, GetsAreFolds, ReadsAreFolds, ScansAreWhole, VerdictsAreFolds};
+ghost use Rattle.lawful_run.specs.ObjectReadings.{CausalGetsAreFolds, DequeuesAreFolds, GetsAreFolds, ReadsAreFolds, ScansAreWhole, VerdictsAreFolds, ChangesAreFolds, ListsAreFolds};
 ghost use Rattle.lawful_run.specs.Readings.{ClosingLinesRise, NothingElseStands, OneCommand, OneKey, OneOrder, ReturnedAppendsStand, ShownAsAppended, ShownOnce};
 
 /// What a log explains to a client, each later log explains as well.
@@ -82,4 +82,14 @@ pub fn reads_are_folds()
 /// A verdict is that of its transaction over all nodes up to the read's stamp.
 pub fn verdicts_are_folds()
     ensures { VerdictsAreFolds }
+{}
+
+/// A change of a tree is told what becomes of its own node over all nodes up to the read's stamp.
+pub fn changes_are_folds()
+    ensures { ChangesAreFolds }
+{}
+
+/// A list of names answers by all nodes up to its stamp in its colours' closing lines.
+pub fn lists_are_folds()
+    ensures { ListsAreFolds }
 {}

@@ -120,6 +120,10 @@ module _ (log : Log) (caller : Caller) (kept : Kept) (what : What) (after : Kept
   ]
   comes q (answers.Ruled conflict stamp row points read_stamp raises syncs) nodes n e =
       absurd (other_manner Committing e.1.0)
+  comes q (answers.Changed failed stamp row points read_stamp raises syncs) nodes n e =
+      absurd (other_manner Committing e.1.0)
+  comes q (answers.Listed names stamp raises syncs) nodes n e = absurd (subst IsPlainWhat e.3 q)
+  comes q (answers.Moved lined waiting colour events) nodes n e = absurd (subst IsPlainWhat e.2 q)
   comes q answers.NoTx nodes n e = absurd (subst IsPlainWhat e.4 q)
   comes q (answers.Took value point sync) nodes n e = absurd (other_manner Dequeuing e.1)
   comes q (answers.UnreadTrimmed stamp colour base) nodes n e = elim e.1 [

@@ -22,6 +22,9 @@ fn wants_memory(answer: &Answer) -> bool
         | Answer::GotMany { .. }
         | Answer::GotKeys { .. }
         | Answer::Ruled { .. }
+        | Answer::Changed { .. }
+        | Answer::Listed { .. }
+        | Answer::Moved { .. }
         | Answer::NoTx
         | Answer::Took { .. }
         | Answer::UnreadTrimmed { .. }

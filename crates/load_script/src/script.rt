@@ -4,8 +4,8 @@ ghost use Rattle.std.specs.List.{range_with_len};
 ghost use Rattle.load_script.specs.Generated.{home_by_turns, numbered, round_of, rounds_of, load_script};
 
 use crate::commands::command;
-use log_node::{Homes, ListOf, Names, Shape, Text};
-use script_text::{Command, Object, Script};
+use log_node::{Homes, ListOf, Shape, Text};
+use script_text::{Command, NameSet, Objects, Script};
 use std::alloc::{AllocError, Global};
 
 /// The most rounds of a load.
@@ -28,21 +28,21 @@ fn homes(alloc: Global) -> Result<Homes, AllocError>
     Ok(homes)
 }
 
-fn regions(alloc: Global) -> Result<Names, AllocError>
+fn regions(alloc: Global) -> Result<NameSet, AllocError>
     ensures { IfOk result (λ names. names ≡ codes "east" ∷ codes "west" ∷ []) }
 {
-    let mut names = Names::with_capacity(alloc, 2)?;
+    let mut names = NameSet::new(alloc);
     names.push(Text::copied(alloc, b"east")?)?;
     names.push(Text::copied(alloc, b"west")?)?;
     Ok(names)
 }
 
 // Names of a letter and a digit.
-fn numbered(alloc: Global, letter: u8, count: u8) -> Result<Names, AllocError>
+fn numbered(alloc: Global, letter: u8, count: u8) -> Result<NameSet, AllocError>
     requires { count ≤ 10 }
     ensures { IfOk result (λ names. names ≡ numbered letter count) }
 {
-    let mut names = Names::with_capacity(alloc, count as usize)?;
+    let mut names = NameSet::new(alloc);
     for n in 0..count {
         names.push(Text::copied(alloc, &[letter, b'0' + n])?)?;
     }
@@ -93,7 +93,7 @@ pub fn make(alloc: Global, count: u32) -> Result<Script, AllocError>
         regions: regions(alloc)?,
         colours: numbered(alloc, b'c', 4)?,
         clients: numbered(alloc, b'k', CLIENTS)?,
-        objects: ListOf::new(alloc),
+        objects: Objects::new(alloc),
         commands: commands(alloc, count)?,
     })
 }

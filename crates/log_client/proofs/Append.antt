@@ -3,6 +3,8 @@ pub mod Alone
 pub mod AppendCases
 pub mod AppendReplies
 pub mod AppendsNothing
+pub mod NextAnswers
+pub mod NextReplies
 pub mod OwnMore
 pub mod RowCalls
 pub mod RowReplies

@@ -17,6 +17,7 @@ pub use Rattle.log_client.proofs.Object.ObjectCalls.{rests_synced, sync_hidden, 
 pub use Rattle.log_client.proofs.Object.ObjectAppends.{append_left, append_stood, put_refused}
 pub use Rattle.log_client.proofs.Object.ObjectShards.{shard_in, shard_low}
 pub use Rattle.log_client.proofs.Object.ColourSets.{listed_of_store, one_of_store, shard_rising, shards_of_store}
+pub use Rattle.log_client.proofs.Append.NextAnswers.{only_stood, only_moved, only_ended}
 pub use Rattle.log_client.proofs.Append.UnshownAppends.{several_are_unshown, unshown}
 pub use Rattle.log_client.proofs.Object.ObjectReads.{reads_later, all_appended, all_explained, first_kept, all_kept, last_keys, rising_front}
 pub use Rattle.log_client.proofs.Object.ObjectPlaces.{IsPlacedIn, PlayedIn, played_in, stood_there}

@@ -7,6 +7,7 @@ pub mod Growing
 pub mod Between
 pub mod Calls
 pub mod Appends
+pub mod Guarded
 pub mod Inside
 pub mod StampedReads
 pub mod Reading

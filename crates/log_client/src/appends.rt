@@ -142,7 +142,7 @@ impl Client {
     }
 
     // The client's next node.
-    fn next_node(
+    pub(crate) fn next_node(
         &self,
         alloc: Global,
         colours: Colours,

@@ -8,6 +8,7 @@ mod client;
 mod closed;
 mod closing;
 mod faults;
+mod guarded;
 mod laws;
 mod merging;
 mod notes;

@@ -1,1 +1,2 @@
 mod TreeAnswers
+pub mod CallerLemmas

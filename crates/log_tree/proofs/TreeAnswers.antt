@@ -1,7 +1,6 @@
 -- What explains the answers to changes and reads of a tree.
-use Rattle.std.proofs.Common.{◌≡◌, ℕ, ◌<◌, List, [], ◌∷◌, ◌++◌, length, Option, Some, Result, IfOk, ap, sym, subst, ◌∙◌, arith, append-nil}
-use Rattle.std.specs.Prelude.{IsTrue, unwrap_or}
-use Rattle.std.specs.declared.alloc.AllocError.{AllocError}
+use Rattle.std.proofs.Common.{◌≡◌, ℕ, List, Option, Some, ap, sym, subst, ◌∙◌}
+use Rattle.std.specs.Prelude.{unwrap_or}
 use Rattle.log_node.specs.declared.ids.Colours.{Colours}
 use Rattle.log_node.specs.declared.ids.Key.{Key}
 use Rattle.log_node.specs.Sets.{members}
@@ -14,32 +13,22 @@ use Rattle.log_client.specs.declared.answers.Appended.{Appended}
 use Rattle.log_client.specs.declared.answers.StampedRead.{StampedRead}
 use Rattle.log_client.specs.declared.object_fault.ObjectFault.{ObjectFault}
 use Rattle.log_client.specs.Calls.{IsExplained}
+use Rattle.log_client.specs.Clients.{IsClient}
+use Rattle.log_client.specs.Reading.{RestsOn}
+use Rattle.log_client.specs.StampedReads.{ReadsGoOn}
 use Rattle.log_client.specs.Objects.{IsAwayFrom}
 use Rattle.log_client.proofs.CallerLemmas.{explained_less}
 use Rattle.region_fold.specs.Reads.{HasNodesRead, IsOwn, ReadsNodes, TellRefused, TellsOwn}
-use Rattle.region_fold.proofs.CallerLemmas.{told_more}
+use Rattle.region_fold.proofs.CallerLemmas.{colours_later, kept_later, told_more}
 use Rattle.tree_fold.specs.declared.change.Change.{Change}
-use Rattle.tree_fold.specs.declared.change.Change.TheVariants.{Make, Remove, Move}
 use Rattle.tree_fold.specs.declared.told.Told.{Told}
-use Rattle.tree_fold.specs.Changes.{IsChange, change_text}
+use Rattle.tree_fold.specs.Changes.{IsChange, change_keys, change_text}
 use Rattle.tree_fold.specs.Laws.{ChangesReadBack}
-use Rattle.tree_fold.specs.Paths.{Path, is_below_root}
 use Rattle.tree_fold.specs.Readings.{change_of}
-use Rattle.tree_fold.specs.Trees.{told_under, tree_after, why}
-use Rattle.tree_fold.specs.Trees as trees
-use Rattle.log_tree.specs.Folded.{telling}
+use Rattle.tree_fold.specs.Trees.{telling, told_of_change, told_under, tree_after, why}
 use Rattle.log_tree.specs.declared.tree.LogTree.{LogTree}
-use Rattle.log_tree.specs.Trees.{ChangeRefused, Changes, ChangesAs, change_colours, change_keys, first_name}
-
-some_name : (path : Path) (more : List (List ℕ)) → IsTrue (is_below_root path) → 0 < length (first_name path ++ more)
-some_name [] more root = absurd (let f : ⊥ = cc (root) in f)
-some_name (name ∷ names) more below = omega arith
-
--- a change has keys
-pub some_keys : (change : Change) → IsChange change → 0 < length (change_keys change)
-some_keys (Make path value) is = subst (λ (l : List (List ℕ)). 0 < length l) (append-nil (first_name path)) (some_name path [] is.0)
-some_keys (Remove path) is = subst (λ (l : List (List ℕ)). 0 < length l) (append-nil (first_name path)) (some_name path [] is)
-some_keys (Move source target) is = some_name source (first_name target) is.0
+use Rattle.tree_fold.specs.TreeStates.{IsTree}
+use Rattle.log_tree.specs.Trees.{ChangeRefused, Changes, ChangesAs, IsTreeOf, change_colours}
 
 -- the set of the shards of a change's keys, of colours and keys that were read out of where they stand
 pub change_set : (set : Colours) (a b : List ℕ) (keys more : List (List ℕ)) (change : Change)
@@ -48,15 +37,6 @@ pub change_set : (set : Colours) (a b : List ℕ) (keys more : List (List ℕ)) 
 change_set set a b keys more change same colours read are =
     same ∙ (ap (λ (l : List ℕ). shards l more) colours ∙ ap (λ (k : List (List ℕ)). shards b k) (read ∙ are))
 
--- what a node is told when it is fed
-pub tells_change : (nodes : List ObjectNode) (node : ObjectNode) (key : Key) (text : List ℕ)
-    (r : Result (Option Told) AllocError) → node.key ≡ key → node.text ≡ text
-    → IfOk r (λ told. told ≡ trees.told_of_change key.stamp (tree_after nodes) (change_of text))
-    → IfOk r (λ told. told ≡ telling nodes node)
-tells_change nodes node key text r its_key its_text told =
-    subst (λ (t : List ℕ). IfOk r (λ v. v ≡ trees.told_of_change node.key.stamp (tree_after nodes) (change_of t))) (sym its_text)
-    (subst (λ (k : Key). IfOk r (λ v. v ≡ trees.told_of_change k.stamp (tree_after nodes) (change_of text))) (sym its_key) told)
-
 -- a read after which this follows from what is held
 pub reads_so : (s : Store) (c d : Client) (colours : List ℕ) (last : Option Key) (read : StampedRead)
     (Holds Has : List ObjectNode → Type 0) → ((nodes : List ObjectNode) → Holds nodes → Has nodes)
@@ -64,6 +44,14 @@ pub reads_so : (s : Store) (c d : Client) (colours : List ℕ) (last : Option Ke
 reads_so s c d colours last read Holds Has so reads =
     explained_less s c d (HasNodesRead (rising colours) last read Holds) (HasNodesRead (rising colours) last read Has)
     (λ log caller before after r. (r.0, r.1, r.2, r.3, so r.2 r.4)) reads
+
+-- what is kept stays right
+pub tree_later : ReadsGoOn → (s : Store) (c d : Client) → RestsOn s c d → (t : LogTree) → IsClient s c → IsTreeOf c t
+    → IsTreeOf d t
+tree_later law s c d on t is of = record {
+  colours = colours_later s c d on t.colours is of.colours;
+  folds = kept_later IsTree law s c d on (rising t.colours) t.fold.kept of.folds;
+}
 
 -- WHAT A CHANGE IS TOLD
 
@@ -77,7 +65,7 @@ module _ (back : ChangesReadBack) (change : Change) (is : IsChange change) where
       let stamp = own.node.key.stamp in
       let its_change : change_of own.node.text ≡ Some change = ap change_of own.text_is ∙ back change is in
       let same : told_of telling nodes a.stood.key ≡ Some (told_under stamp (why tree change)) =
-      ap (told_among telling nodes) own.among ∙ ap (trees.told_of_change stamp tree) its_change in
+      ap (told_among telling nodes) own.among ∙ ap (told_of_change stamp tree) its_change in
       same ∙ ap (λ (t : Told). Some t) (sym (ap (λ (o : Option Told). unwrap_or o d) (own.answer_is ∙ same)))
 
   pub changes : (s : Store) (c d : Client) (t : LogTree) (set : Colours) (told : Option Told) (other : Told) (a : Appended)

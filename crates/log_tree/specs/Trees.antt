@@ -1,5 +1,5 @@
 -- What a tree keeps beside its client, and what its changes and reads answer.
-use Rattle.std.specs.Prelude.{◌≡◌, ℕ, List, take, ◌++◌, Some}
+use Rattle.std.specs.Prelude.{◌≡◌, ℕ, List, Some}
 use Rattle.log_node.specs.declared.ids.Colours.{Colours}
 use Rattle.log_node.specs.Sets.{members}
 use Rattle.object_fold.specs.Nodes.{ObjectNode}
@@ -19,32 +19,21 @@ use Rattle.log_client.specs.Refusals.{RefusedBy}
 use Rattle.log_client.specs.Objects.{HasColoursOf, IsAwayFrom, LookRefused}
 use Rattle.region_fold.specs.Reads.{HasNodesRead, KeepsFold, ReadsNodes, tell_refusals}
 use Rattle.tree_fold.specs.declared.change.Change.{Change}
-use Rattle.tree_fold.specs.declared.change.Change.TheVariants.{Make, Remove, Move}
 use Rattle.tree_fold.specs.declared.told.Told.{Told}
-use Rattle.tree_fold.specs.Changes.{change_text}
-use Rattle.tree_fold.specs.Paths.{Path}
+use Rattle.tree_fold.specs.Changes.{change_keys, change_text}
+use Rattle.tree_fold.specs.Trees.{telling}
+use Rattle.tree_fold.specs.TreeStates.{IsTree}
 use Rattle.log_tree.specs.declared.tree.LogTree.{LogTree}
-use Rattle.log_tree.specs.Folded.{HasTree, telling}
 
 -- The tree is kept beside the client: its colours are the client's, and what is folded are nodes that the client has read of
 -- all of them.
 pub record IsTreeOf (c : Client) (t : LogTree) : Type 0 where
   pub colours : HasColoursOf c t.colours
-  pub folds : KeepsFold HasTree c (rising t.colours) t.fold.kept
+  pub folds : KeepsFold IsTree c (rising t.colours) t.fold.kept
 
 -- the one tree is the other one, and what is folded may differ
 abbrev pub IsSameTree : LogTree → LogTree → Type 0
 IsSameTree t u = (u.home ≡ t.home) × (u.colours ≡ t.colours)
-
--- the first name of a path; of the root, none
-abbrev pub first_name : Path → List (List ℕ)
-first_name path = take 1 path
-
--- the keys by which the shards of a change are told: the first names of its paths
-abbrev pub change_keys : Change → List (List ℕ)
-change_keys (Make path value) = first_name path
-change_keys (Remove path) = first_name path
-change_keys (Move source target) = first_name source ++ first_name target
 
 -- the shards in which a change of a tree stands
 abbrev pub change_colours : LogTree → Change → List ℕ

@@ -2,7 +2,6 @@
 //! before it.
 #![tactic(auto)]
 
-mod folded;
 mod tree;
 
 pub use tree::LogTree;

@@ -1,5 +1,5 @@
 // The tree over a client.
-ghost use Rattle.std.specs.Prelude.{◌≡◌, ◌++◌, List, map, None, IfOk, IfErr};
+ghost use Rattle.std.specs.Prelude.{◌≡◌, List, length, map, None, IfOk, IfErr};
 ghost use Rattle.lawful_run.specs.Asks.{rising};
 ghost use Rattle.object_fold.specs.Nodes.{ObjectNode};
 ghost use Rattle.append_core.specs.declared.stood.Point.{Point};
@@ -8,18 +8,18 @@ ghost use Rattle.log_client.specs.Reading.{RestsOn};
 ghost use Rattle.log_client.specs.StampedReads.{ReadHidden};
 ghost use Rattle.log_client.specs.Objects.{HasColoursOf, RefusesAway};
 ghost use Rattle.region_fold.specs.Reads.{ShowsEach};
-ghost use Rattle.tree_fold.specs.Changes.{IsChange, change_text};
-ghost use Rattle.log_tree.specs.Folded.{HasTree, NamesAfter, ValueAfter};
-ghost use Rattle.log_tree.specs.Trees.{IsTreeOf, IsSameTree, first_name, change_colours, change_keys, Changes, ChangeRefused, Looks, TreeRefused};
+ghost use Rattle.tree_fold.specs.Changes.{IsChange, change_keys, change_text};
+ghost use Rattle.tree_fold.specs.Trees.{NamesAfter, ValueAfter};
+ghost use Rattle.tree_fold.specs.TreeStates.{IsTree};
+ghost use Rattle.log_tree.specs.Trees.{IsTreeOf, IsSameTree, change_colours, Changes, ChangeRefused, Looks, TreeRefused};
 
-use crate::folded::Folded;
 use fuzzy_io::Gate;
 use log_client::{Appended, Client, ObjectFault, StampedRead, Store, key_shards};
-use log_node::{ColourList, Keys, ListOf, Names, Text};
+use log_node::{ColourList, Names, Text};
 use region_fold::RegionFold;
 use std::alloc::{AllocError, Global};
 use std::sync::Wait;
-use tree_fold::{Change, Path, Told, reads_back, write_change};
+use tree_fold::{Change, Path, Told, TreeFold, change_keys, reads_back, write_change};
 
 /// A tree of names at a home region, for one client, with which all its calls are made. Its changes stand in the shards of the
 /// first names of their paths. What is folded of the nodes that the client read is kept.
@@ -27,33 +27,17 @@ use tree_fold::{Change, Path, Told, reads_back, write_change};
 pub struct LogTree {
     pub(crate) home: u8,
     pub(crate) colours: ColourList,
-    pub(crate) fold: RegionFold<Folded>,
+    pub(crate) fold: RegionFold<TreeFold>,
 }
 
-// The keys and the first name of a path, if it has one.
-fn with_first(alloc: Global, mut keys: Keys, path: &Path) -> Result<Keys, AllocError>
-    ensures { IfOk result (λ more. more ≡ keys ++ first_name path.now) }
+// A copy of the value of a path, if it is there and not the root.
+fn copied_value(alloc: Global, tree: &TreeFold, path: &Path) -> Result<Option<Text>, AllocError>
+    ensures { (nodes : List ObjectNode) → IsTree tree.now nodes
+        → IfOk result (λ value. ValueAfter path.now value nodes) }
 {
-    if let Some(name) = path.names().first() {
-        keys.push(Text::copied(alloc, name.as_bytes())?)?;
-    }
-    Ok(keys)
-}
-
-// The first names of a change's paths, by which its shards are told.
-fn change_keys(alloc: Global, change: &Change) -> Result<Keys, AllocError>
-    ensures { IfOk result (λ keys. keys ≡ change_keys change.now) }
-{
-    match change {
-        Change::Make {
-            path,
-            value: _value,
-        } => with_first(alloc, ListOf::new(alloc), path),
-        Change::Remove { path } => with_first(alloc, ListOf::new(alloc), path),
-        Change::Move { source, target } => {
-            let keys = with_first(alloc, ListOf::new(alloc), source)?;
-            with_first(alloc, keys, target)
-        }
+    match tree.value(path) {
+        Some(value) => Ok(Some(Text::copied(alloc, value.as_bytes())?)),
+        None => Ok(None),
     }
 }
 
@@ -71,6 +55,13 @@ impl LogTree {
         }
     }
 
+    /// How many colours the tree was opened with.
+    pub fn colour_count(&self) -> usize
+        ensures { result ≡ length self.now.colours }
+    {
+        self.colours.len()
+    }
+
     // Reads all colours, where the client is of the home.
     fn look<R: Wait>(
         &mut self,
@@ -85,7 +76,7 @@ impl LogTree {
         ensures tree { IsTreeOf client.new self.new }
         ensures same { IsSameTree self.old self.new }
         ensures ok { IfOk result (λ read. Looks store.now client.old client.new self.old read
-            (HasTree self.new.fold.kept.state)) }
+            (IsTree self.new.fold.kept.state)) }
         ensures shows { IfOk result (ShowsEach client.old client.new self.old.colours) }
         ensures hidden { IfOk result (λ read. ReadHidden store.now client.old client.new
             (rising self.old.colours)) }
@@ -176,7 +167,7 @@ impl LogTree {
         ensures err { IfErr result (TreeRefused store.now client.old client.new self.old) }
     {
         match self.look(rt, alloc, client, store) {
-            Ok(read) => match self.fold.state().tree.names(alloc, path) {
+            Ok(read) => match self.fold.state().names(alloc, path) {
                 Ok(names) => Ok((names, read)),
                 Err(_) => Err(ObjectFault::NoMemory),
             },
@@ -206,7 +197,7 @@ impl LogTree {
         ensures err { IfErr result (TreeRefused store.now client.old client.new self.old) }
     {
         match self.look(rt, alloc, client, store) {
-            Ok(read) => match self.fold.state().value(alloc, path) {
+            Ok(read) => match copied_value(alloc, self.fold.state(), path) {
                 Ok(value) => Ok((value, read)),
                 Err(_) => Err(ObjectFault::NoMemory),
             },

@@ -4,9 +4,11 @@
 mod laws;
 mod pieces;
 mod reading;
+mod tree_why;
 mod writing;
 
 pub use laws::{forms_fit, reads_as_one, reads_back, texts_differ};
 pub use pieces::{are_letters_or_digits, cut, is_word, read_key};
 pub use reading::read_form;
+pub use tree_why::TreeWhy;
 pub use writing::{put_key, write_form};

@@ -2,12 +2,14 @@
 use Rattle.std.specs.Prelude.{ℕ, List, [], ◌∷◌, ◌++◌, Option, Some, None, decimal, codes}
 use Rattle.std.specs.List.{flat_map}
 use Rattle.log_node.specs.Seen.{PlacedNode}
+use Rattle.object_form.specs.declared.tree_why.TreeWhy.{TreeWhy}
+use Rattle.object_form.specs.Reasons.{why_text}
 use Rattle.script_text.specs.Words.{word_text}
 use Rattle.report_text.specs.declared.report.RaisePiece.{RaisePiece}
 use Rattle.report_text.specs.declared.report.SyncPiece.{SyncPiece}
 use Rattle.report_text.specs.declared.report.KeyAnswer.{KeyAnswer}
 use Rattle.report_text.specs.declared.report.Answer.{Answer}
-use Rattle.report_text.specs.declared.report.Answer.TheVariants.{Stood, StampEnd, Full, Stopped, Synced, Scanned, Pulled, SameRegion, Based, Got, GotMany, GotKeys, Ruled, NoTx, Took, UnreadTrimmed, UnreadNoMemory, Trimmed, NotHome, NoMemory}
+use Rattle.report_text.specs.declared.report.Answer.TheVariants.{Stood, StampEnd, Full, Stopped, Synced, Scanned, Pulled, SameRegion, Based, Got, GotMany, GotKeys, Ruled, Changed, Listed, Moved, NoTx, Took, UnreadTrimmed, UnreadNoMemory, Trimmed, NotHome, NoMemory}
 use Rattle.report_text.specs.declared.report.ReplyLine.{ReplyLine}
 use Rattle.report_text.specs.declared.report.ClientReport.{ClientReport}
 use Rattle.report_text.specs.declared.report.Report.{Report}
@@ -43,9 +45,28 @@ abbrev pub verdict_text : Option (List ℕ) → ℕ → List ℕ
 verdict_text None stamp = codes "committed " ++ decimal stamp
 verdict_text (Some key) stamp = codes "conflict " ++ key ++ 32 ∷ decimal stamp
 
+-- `done`, or `failed` and the reason, and the stamp
+abbrev pub change_text : Option TreeWhy → ℕ → List ℕ
+change_text None stamp = codes "done " ++ decimal stamp
+change_text (Some why) stamp = codes "failed " ++ why_text why ++ 32 ∷ decimal stamp
+
+-- names with commas, or a dash where there are none
+abbrev pub listed_or_dash : List (List ℕ) → List ℕ
+listed_or_dash [] = codes "-"
+listed_or_dash (name ∷ names) = listed (λ n. n) (name ∷ names)
+
+-- `ok`, the stamp and the names in a path, or `missing` and the stamp
+abbrev pub names_text : Option (List (List ℕ)) → ℕ → List ℕ
+names_text None stamp = codes "missing " ++ decimal stamp
+names_text (Some names) stamp = codes "ok " ++ decimal stamp ++ 32 ∷ listed_or_dash names
+
 -- the raises and the syncs of a stamped read
 abbrev pub read_text : Report → List RaisePiece → List SyncPiece → List ℕ
 read_text report raises syncs = spaced (raise_text report) raises ++ spaced (sync_text report) syncs
+
+-- a colour, and after how many events it was looked at
+abbrev pub look_text : Report → ℕ → ℕ → List ℕ
+look_text report colour events = colour_name report colour ++ 63 ∷ decimal events
 
 -- what a command was answered: how it ended, and then what there is to tell of that
 abbrev pub answer_text : Report → Answer → List ℕ
@@ -67,6 +88,12 @@ answer_text report (GotKeys stamp keys raises syncs) =
 answer_text report (Ruled conflict stamp row points read_stamp raises syncs) =
     verdict_text conflict stamp ++ row_text row ++ spaced (point_text report) points
     ++ codes " at " ++ decimal read_stamp ++ read_text report raises syncs
+answer_text report (Changed failed stamp row points read_stamp raises syncs) =
+    change_text failed stamp ++ row_text row ++ spaced (point_text report) points
+    ++ codes " at " ++ decimal read_stamp ++ read_text report raises syncs
+answer_text report (Listed names stamp raises syncs) = names_text names stamp ++ read_text report raises syncs
+answer_text report (Moved lined waiting colour events) =
+    codes "moved " ++ decimal lined ++ 32 ∷ decimal waiting ++ 32 ∷ look_text report colour events
 answer_text report NoTx = codes "notx"
 answer_text report (Took value point sync) = value_text value ++ 32 ∷ point_text report point ++ 32 ∷ sync_text report sync
 answer_text report (UnreadTrimmed stamp colour base) =

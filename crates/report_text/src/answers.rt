@@ -1,12 +1,13 @@
 // What a command was answered.
 ghost use Rattle.report_text.specs.Output.{Adds};
-ghost use Rattle.report_text.specs.Replies.{row_text, value_text, values_text, key_answer_text, verdict_text, read_text, answer_text};
+ghost use Rattle.report_text.specs.Replies.{row_text, value_text, values_text, key_answer_text, verdict_text, change_text, listed_or_dash, look_text, names_text, read_text, answer_text};
 
 use crate::names::NameIndex;
 use crate::output::Output;
 use crate::printed::{Printed, print_listed, print_spaced};
 use crate::report::{Answer, KeyAnswer, PointPiece, RaisePiece, SyncPiece};
 use log_node::{ListOf, Names, Text};
+use object_form::TreeWhy;
 
 impl Printed for KeyAnswer {
     ghost text = { λ _ answer. key_answer_text answer };
@@ -71,6 +72,50 @@ fn print_verdict<O: Output>(conflict: &Option<Text>, stamp: u64, names: &NameInd
     out.put_number(stamp);
 }
 
+/// `done`, or `failed` and the reason, and the stamp.
+fn print_change<O: Output>(failed: Option<TreeWhy>, stamp: u64, out: &mut O)
+    ensures { Adds (O.state out.old) (O.state out.new) (change_text failed stamp) }
+{
+    match failed {
+        None => out.put(b"done "),
+        Some(why) => {
+            out.put(b"failed ");
+            out.put(why.as_str().as_bytes());
+            out.put(b" ");
+        }
+    }
+    out.put_number(stamp);
+}
+
+/// `ok`, the stamp, and the names with commas, or a dash where there are none; or `missing` and the stamp.
+fn print_names<O: Output>(found: &Option<Names>, stamp: u64, names: &NameIndex<'_>, out: &mut O)
+    ensures { Adds (O.state out.old) (O.state out.new) (names_text found.now stamp) }
+{
+    match found {
+        None => {
+            out.put(b"missing ");
+            out.put_number(stamp);
+        }
+        Some(found) => {
+            out.put(b"ok ");
+            out.put_number(stamp);
+            out.put(b" ");
+            print_or_dash(found, names, out);
+        }
+    }
+}
+
+/// Names with commas, or a dash where there are none.
+fn print_or_dash<O: Output>(found: &Names, names: &NameIndex<'_>, out: &mut O)
+    ensures { Adds (O.state out.old) (O.state out.new) (listed_or_dash found.now) }
+{
+    if found.is_empty() {
+        out.put(b"-");
+    } else {
+        print_listed(found, names, out);
+    }
+}
+
 /// The raises and the syncs of a stamped read.
 fn print_read<O: Output>(
     raises: &ListOf<RaisePiece>,
@@ -82,6 +127,15 @@ fn print_read<O: Output>(
 {
     print_spaced(raises, names, out);
     print_spaced(syncs, names, out);
+}
+
+/// A colour, and after how many events it was looked at.
+fn print_look<O: Output>(colour: u8, events: u64, names: &NameIndex<'_>, out: &mut O)
+    ensures { Adds (O.state out.old) (O.state out.new) (look_text names.now colour events) }
+{
+    names.put_colour(colour, out);
+    out.put(b"?");
+    out.put_number(events);
 }
 
 impl Printed for Answer {
@@ -176,6 +230,44 @@ impl Printed for Answer {
                 out.put(b" at ");
                 out.put_number(*read_stamp);
                 print_read(raises, syncs, names, out);
+            }
+            Answer::Changed {
+                failed,
+                stamp,
+                row,
+                points,
+                read_stamp,
+                raises,
+                syncs,
+            } => {
+                print_change(*failed, *stamp, out);
+                print_row(*row, out);
+                print_spaced(points, names, out);
+                out.put(b" at ");
+                out.put_number(*read_stamp);
+                print_read(raises, syncs, names, out);
+            }
+            Answer::Listed {
+                names: found,
+                stamp,
+                raises,
+                syncs,
+            } => {
+                print_names(found, *stamp, names, out);
+                print_read(raises, syncs, names, out);
+            }
+            Answer::Moved {
+                length,
+                waiting,
+                colour,
+                events,
+            } => {
+                out.put(b"moved ");
+                out.put_number(*length);
+                out.put(b" ");
+                out.put_number(*waiting);
+                out.put(b" ");
+                print_look(*colour, *events, names, out);
             }
             Answer::NoTx => out.put(b"notx"),
             Answer::Took { value, point, sync } => {

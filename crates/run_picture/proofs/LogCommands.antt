@@ -10,11 +10,12 @@ use Rattle.run_picture.specs.Labels.{IsOfLog}
 pub log_commands : (what : What) → IsOfLog (use_of what) → ((c : Colours) (t : List ℕ) → what ≡ whats.Append c t → ⊥)
     → ((n : ℕ) (c : Colours) (t : List ℕ) → what ≡ whats.Stop n c t → ⊥) → ((c : Colours) → what ≡ whats.Scan c → ⊥)
     → ((c : ℕ) → what ≡ whats.Sync c → ⊥) → ((c : ℕ) → what ≡ whats.Trim c → ⊥)
-    → ((r c : ℕ) → what ≡ whats.Pull r c → ⊥) → ⊥
-log_commands (whats.Append colours text) of append stop scan sync trim pull = append colours text refl
-log_commands (whats.Stop steps colours text) of append stop scan sync trim pull = stop steps colours text refl
-log_commands (whats.Scan colours) of append stop scan sync trim pull = scan colours refl
-log_commands (whats.Sync colour) of append stop scan sync trim pull = sync colour refl
-log_commands (whats.Trim colour) of append stop scan sync trim pull = trim colour refl
-log_commands (whats.Pull region colour) of append stop scan sync trim pull = pull region colour refl
-log_commands _ of append stop scan sync trim pull = of
+    → ((r c : ℕ) → what ≡ whats.Pull r c → ⊥) → ((c : ℕ) (t : List ℕ) → what ≡ whats.Only c t → ⊥) → ⊥
+log_commands (whats.Append colours text) of append stop scan sync trim pull only = append colours text refl
+log_commands (whats.Stop steps colours text) of append stop scan sync trim pull only = stop steps colours text refl
+log_commands (whats.Scan colours) of append stop scan sync trim pull only = scan colours refl
+log_commands (whats.Sync colour) of append stop scan sync trim pull only = sync colour refl
+log_commands (whats.Trim colour) of append stop scan sync trim pull only = trim colour refl
+log_commands (whats.Pull region colour) of append stop scan sync trim pull only = pull region colour refl
+log_commands (whats.Only colour text) of append stop scan sync trim pull only = only colour text refl
+log_commands _ of append stop scan sync trim pull only = of

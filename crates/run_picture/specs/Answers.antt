@@ -4,11 +4,13 @@ use Rattle.std.specs.List.{flat_map, find, enumerate_from}
 use Rattle.log_node.specs.declared.ids.Id.{Id}
 use Rattle.log_node.specs.declared.ids.Counts.{Counts}
 use Rattle.log_node.specs.Vectors.{at}
+use Rattle.object_form.specs.declared.tree_why.TreeWhy.{TreeWhy}
+use Rattle.object_form.specs.Reasons.{why_text}
 use Rattle.script_text.specs.declared.script.Script.{Script}
 use Rattle.report_text.specs.declared.report.PointPiece.{PointPiece}
 use Rattle.report_text.specs.declared.report.KeyAnswer.{KeyAnswer}
 use Rattle.report_text.specs.declared.report.Answer.{Answer}
-use Rattle.report_text.specs.declared.report.Answer.TheVariants.{Stood, StampEnd, Full, Stopped, Synced, Scanned, Pulled, SameRegion, Based, Got, GotMany, GotKeys, Ruled, NoTx, Took, UnreadTrimmed, UnreadNoMemory, Trimmed, NotHome, NoMemory}
+use Rattle.report_text.specs.declared.report.Answer.TheVariants.{Stood, StampEnd, Full, Stopped, Synced, Scanned, Pulled, SameRegion, Based, Got, GotMany, GotKeys, Ruled, Changed, Listed, Moved, NoTx, Took, UnreadTrimmed, UnreadNoMemory, Trimmed, NotHome, NoMemory}
 use Rattle.report_text.specs.declared.report.ColumnReport.{ColumnReport}
 use Rattle.report_text.specs.declared.report.Report.{Report}
 use Rattle.report_text.specs.Names.{client_name}
@@ -97,11 +99,29 @@ ruled_label report id conflict stamp = id_label report id ++ verdict_label confl
 abbrev pub took_label : Report → Option Id → Option (List ℕ) → List ℕ
 took_label report id value = id_label report id ++ value_label value
 
+-- what became of a change of a tree
+abbrev pub told_label : Option TreeWhy → ℕ → List ℕ
+told_label None stamp = texts_joined (codes "done " ∷ decimal stamp ∷ [])
+told_label (Some why) stamp = texts_joined (codes "failed " ∷ text_shown (why_text why) ∷ [])
+
+-- a change's node, and what became of it
+abbrev pub changed_label : Report → Option Id → Option TreeWhy → ℕ → List ℕ
+changed_label report id failed stamp = id_label report id ++ told_label failed stamp
+
+-- the names in a path of a tree, or that it is not there
+abbrev pub listed_label : Option (List (List ℕ)) → List ℕ
+listed_label None = texts_joined (codes "missing" ∷ [])
+listed_label (Some names) = values_label names
+
 -- what a command of a client of this region was answered
 abbrev pub answer_label : Script → Report → ℕ → Answer → List ℕ
 answer_label script report region (Stood stamp _ points) = stood_label report (first_id report region points) stamp
 answer_label script report region (Ruled conflict stamp _ points _ _ _) =
     ruled_label report (first_id report region points) conflict stamp
+answer_label script report region (Changed failed stamp _ points _ _ _) =
+    changed_label report (first_id report region points) failed stamp
+answer_label script report region (Listed names _ _ _) = listed_label names
+answer_label script report region (Moved lined _ _ _) = texts_joined (codes "moved " ∷ decimal lined ∷ [])
 answer_label script report region (Took value point _) = took_label report (id_at report region point) value
 answer_label script report region (Got value _) = value_label value
 answer_label script report region (GotMany values _) = values_label values

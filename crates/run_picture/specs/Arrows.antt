@@ -10,7 +10,7 @@ use Rattle.script_text.specs.declared.script.Script.{Script}
 use Rattle.report_text.specs.declared.report.SyncPiece.{SyncPiece}
 use Rattle.report_text.specs.declared.report.PointPiece.{PointPiece}
 use Rattle.report_text.specs.declared.report.Answer.{Answer}
-use Rattle.report_text.specs.declared.report.Answer.TheVariants.{Stood, StampEnd, Full, Stopped, Synced, Scanned, Pulled, SameRegion, Based, Got, GotMany, GotKeys, Ruled, NoTx, Took, UnreadTrimmed, UnreadNoMemory, Trimmed, NotHome, NoMemory}
+use Rattle.report_text.specs.declared.report.Answer.TheVariants.{Stood, StampEnd, Full, Stopped, Synced, Scanned, Pulled, SameRegion, Based, Got, GotMany, GotKeys, Ruled, Changed, Listed, Moved, NoTx, Took, UnreadTrimmed, UnreadNoMemory, Trimmed, NotHome, NoMemory}
 use Rattle.report_text.specs.declared.report.ClientReport.{ClientReport}
 use Rattle.report_text.specs.declared.report.ColumnReport.{ColumnReport}
 use Rattle.report_text.specs.declared.report.Report.{Report}
@@ -41,6 +41,9 @@ plays (Took _ _ sync) region colour position = is_in region colour position sync
 plays (Scanned _ _ _ syncs) region colour position = is_in_any region colour position syncs
 plays (GotKeys _ _ _ syncs) region colour position = is_in_any region colour position syncs
 plays (Ruled _ _ _ _ _ _ syncs) region colour position = is_in_any region colour position syncs
+plays (Changed _ _ _ _ _ _ syncs) region colour position = is_in_any region colour position syncs
+plays (Listed _ _ _ syncs) region colour position = is_in_any region colour position syncs
+plays (Moved _ _ _ _) region colour position = false
 plays (Stood _ _ _) region colour position = false
 plays (StampEnd _) region colour position = false
 plays (Full _) region colour position = false
@@ -85,7 +88,10 @@ plays_stop report answer region client = plays_any_id report answer region (last
 abbrev pub plays_made : Report → Answer → ℕ → ℕ → Answer → Bool
 plays_made report answer region client (Stood _ _ points) = list_any (plays_point answer region) points
 plays_made report answer region client (Ruled _ _ _ points _ _ _) = list_any (plays_point answer region) points
+plays_made report answer region client (Changed _ _ _ points _ _ _) = list_any (plays_point answer region) points
 plays_made report answer region client (Took _ point _) = plays_point answer region point
+plays_made report answer region client (Listed _ _ _ _) = false
+plays_made report answer region client (Moved _ _ _ _) = false
 plays_made report answer region client (Stopped steps) = nat_lt 0 steps && plays_stop report answer region client
 plays_made report answer region client (StampEnd _) = false
 plays_made report answer region client (Full _) = false

@@ -4,17 +4,19 @@ use Rattle.std.specs.List.{flat_map}
 use Rattle.log_node.specs.declared.ids.Colours.{Colours}
 use Rattle.log_node.specs.declared.forms.Pair.{Pair}
 use Rattle.log_node.specs.Sets.{members}
+use Rattle.object_form.specs.declared.tree_why.TreeWhy.{TreeWhy}
+use Rattle.object_form.specs.Reasons.{why_text}
 use Rattle.script_text.specs.declared.commands.What.{What}
 use Rattle.script_text.specs.declared.commands.What.TheVariants as whats
 use Rattle.script_text.specs.declared.script.Object.{Object}
 use Rattle.script_text.specs.declared.script.Script.{Script}
 use Rattle.script_text.specs.declared.uses.Use.{Use}
 use Rattle.script_text.specs.declared.uses.Use.TheVariants.{OfLog, OfObject}
-use Rattle.script_text.specs.Contents.{Said, Nothing, SaysText, SaysKey, SaysValue, SaysPair, SaysKeys, SaysPairs}
+use Rattle.script_text.specs.Contents.{Said, Nothing, SaysText, SaysKey, SaysValue, SaysPair, SaysKeys, SaysPairs, SaysPath, SaysFolder, SaysPathValue, SaysPaths}
 use Rattle.script_text.specs.Commands.{content_of, use_of, word_of}
 use Rattle.script_text.specs.Words.{word_text}
 use Rattle.report_text.specs.declared.report.Answer.{Answer}
-use Rattle.report_text.specs.declared.report.Answer.TheVariants.{Stood, StampEnd, Full, Stopped, Synced, Scanned, Pulled, SameRegion, Based, Got, GotMany, GotKeys, Ruled, NoTx, Took, UnreadTrimmed, UnreadNoMemory, Trimmed, NotHome, NoMemory}
+use Rattle.report_text.specs.declared.report.Answer.TheVariants.{Stood, StampEnd, Full, Stopped, Synced, Scanned, Pulled, SameRegion, Based, Got, GotMany, GotKeys, Ruled, Changed, Listed, Moved, NoTx, Took, UnreadTrimmed, UnreadNoMemory, Trimmed, NotHome, NoMemory}
 use Rattle.run_picture.specs.Pieces.{text_shown, texts_joined}
 
 -- a name, and no bytes where there is none
@@ -37,6 +39,10 @@ field_label field = texts_joined (codes " " ∷ text_shown field ∷ [])
 -- KEY=VALUE
 abbrev pub pair_label : List ℕ → List ℕ → List ℕ
 pair_label key value = texts_joined (codes " " ∷ text_shown key ∷ codes "=" ∷ text_shown value ∷ [])
+
+-- a path and another one
+abbrev pub paths_label : List ℕ → List ℕ → List ℕ
+paths_label source target = texts_joined (codes " " ∷ text_shown source ∷ codes " " ∷ text_shown target ∷ [])
 
 -- pairs, one after another
 abbrev pub pairs_label : List Pair → List ℕ
@@ -73,6 +79,7 @@ named_label script (whats.Stop _ colours _) = colours_label script colours
 named_label script (whats.Scan colours) = colours_label script colours
 named_label script (whats.Sync colour) = field_label (name_among script.colours colour)
 named_label script (whats.Trim colour) = field_label (name_among script.colours colour)
+named_label script (whats.Only colour _) = field_label (name_among script.colours colour)
 named_label script (whats.Pull region colour) = source_label script region colour
 named_label script _ = []
 
@@ -98,6 +105,10 @@ fields_label (SaysValue value) = field_label value
 fields_label (SaysPair key value) = pair_label key value
 fields_label (SaysKeys keys) = flat_map field_label keys
 fields_label (SaysPairs pairs) = pairs_label pairs
+fields_label (SaysPath path) = field_label path
+fields_label (SaysFolder path) = field_label path
+fields_label (SaysPathValue path value) = pair_label path value
+fields_label (SaysPaths source target) = paths_label source target
 
 -- those of a command
 abbrev pub content_label : What → List ℕ
@@ -120,13 +131,21 @@ saying_label what = saying_by what (content_of what)
 abbrev pub unread_label : What → List ℕ
 unread_label what = texts_joined (text_shown (word_text (word_of what)) ∷ codes ": unread" ∷ [])
 
+-- a command whose change failed for this reason
+abbrev pub failed_label : What → TreeWhy → List ℕ
+failed_label what why = texts_joined (text_shown (word_text (word_of what)) ∷ codes ": " ∷ text_shown (why_text why) ∷ [])
+
 -- What the node says that a command made: what the command says, or what was answered to a `deq`, to a `commit` in a
--- conflict, and to one of these that could not read its object.
+-- conflict, to a change of a tree that failed, and to one of these that could not read its object.
 abbrev pub node_label : What → Answer → List ℕ
 node_label what (Took (Some value) _ _) = texts_joined (codes "deq: " ∷ text_shown value ∷ [])
 node_label what (Took None _ _) = texts_joined (codes "deq: none" ∷ [])
 node_label what (Ruled (Some key) _ _ _ _ _ _) = texts_joined (codes "commit: conflict " ∷ text_shown key ∷ [])
 node_label what (Ruled None _ _ _ _ _ _) = saying_label what
+node_label what (Changed (Some why) _ _ _ _ _ _) = failed_label what why
+node_label what (Changed None _ _ _ _ _ _) = saying_label what
+node_label what (Listed _ _ _ _) = saying_label what
+node_label what (Moved _ _ _ _) = saying_label what
 node_label what (UnreadTrimmed _ _ _) = unread_label what
 node_label what (UnreadNoMemory _) = unread_label what
 node_label what (Stood _ _ _) = saying_label what

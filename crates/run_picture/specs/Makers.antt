@@ -7,7 +7,7 @@ use Rattle.log_node.specs.Order.{same_id}
 use Rattle.script_text.specs.declared.script.Command.{Command}
 use Rattle.report_text.specs.declared.report.PointPiece.{PointPiece}
 use Rattle.report_text.specs.declared.report.Answer.{Answer}
-use Rattle.report_text.specs.declared.report.Answer.TheVariants.{Stood, StampEnd, Full, Stopped, Synced, Scanned, Pulled, SameRegion, Based, Got, GotMany, GotKeys, Ruled, NoTx, Took, UnreadTrimmed, UnreadNoMemory, Trimmed, NotHome, NoMemory}
+use Rattle.report_text.specs.declared.report.Answer.TheVariants.{Stood, StampEnd, Full, Stopped, Synced, Scanned, Pulled, SameRegion, Based, Got, GotMany, GotKeys, Ruled, Changed, Listed, Moved, NoTx, Took, UnreadTrimmed, UnreadNoMemory, Trimmed, NotHome, NoMemory}
 use Rattle.report_text.specs.declared.report.ReplyLine.{ReplyLine}
 use Rattle.report_text.specs.declared.report.RowReport.{RowReport}
 use Rattle.report_text.specs.declared.report.ClientReport.{ClientReport}
@@ -40,7 +40,10 @@ is_last_row report id = is_same id (last_row id.client report.rows)
 abbrev pub makes : Report → ℕ → ℕ → Key → Answer → Bool
 makes report colour position key (Stood _ _ points) = list_any (is_at colour position) points
 makes report colour position key (Ruled _ _ _ points _ _ _) = list_any (is_at colour position) points
+makes report colour position key (Changed _ _ _ points _ _ _) = list_any (is_at colour position) points
 makes report colour position key (Took _ point _) = is_at colour position point
+makes report colour position key (Listed _ _ _ _) = false
+makes report colour position key (Moved _ _ _ _) = false
 makes report colour position key (Stopped steps) = nat_lt 0 steps && is_last_row report key.id
 makes report colour position key (UnreadTrimmed stamp _ _) = stamp == key.stamp
 makes report colour position key (UnreadNoMemory stamp) = stamp == key.stamp

@@ -3,13 +3,14 @@ ghost use Rattle.std.specs.Prelude.{◌≡◌};
 ghost use Rattle.std.specs.List.{flat_map, find, enumerate_from};
 ghost use Rattle.std.specs.Option.{option_copied};
 ghost use Rattle.report_text.specs.Output.{Adds};
-ghost use Rattle.run_picture.specs.Answers.{home_of, column_of, id_at, first_id, id_label, value_label, values_label, found_label, verdict_label, count_label, region_label, based_label, stood_label, ruled_label, took_label, answer_label};
+ghost use Rattle.run_picture.specs.Answers.{home_of, column_of, id_at, first_id, id_label, value_label, values_label, found_label, verdict_label, count_label, region_label, based_label, stood_label, ruled_label, told_label, changed_label, listed_label, took_label, answer_label};
 
 use crate::boxes::client_name;
 use crate::labels::put_fields;
 use crate::marks::count_of;
 use crate::pieces::{Piece, put_all};
-use log_node::{Counts, Id, Text};
+use log_node::{Counts, Id, Names, Text};
+use object_form::TreeWhy;
 use report_text::{Answer, ColumnReport, KeyAnswer, Output, PointPiece, Report};
 use script_text::Script;
 
@@ -190,6 +191,43 @@ fn put_took<O: Output>(report: &Report, id: Option<Id>, value: &Option<Text>, ou
     put_value(value, out);
 }
 
+// What became of a change of a tree.
+fn put_told<O: Output>(failed: Option<TreeWhy>, stamp: u64, out: &mut O)
+    ensures { Adds (O.state out.old) (O.state out.new) (told_label failed stamp) }
+{
+    match failed {
+        Some(why) => put_all(
+            &[Piece::Mark("failed "), Piece::Text(why.as_str().as_bytes())],
+            out,
+        ),
+        None => put_all(&[Piece::Mark("done "), Piece::Number(stamp)], out),
+    }
+}
+
+// A change's node, and what became of it.
+fn put_changed<O: Output>(
+    report: &Report,
+    id: Option<Id>,
+    failed: Option<TreeWhy>,
+    stamp: u64,
+    out: &mut O,
+)
+    ensures { Adds (O.state out.old) (O.state out.new) (changed_label report.now id failed stamp) }
+{
+    put_id(report, id, out);
+    put_told(failed, stamp, out);
+}
+
+// The names in a path of a tree, or that it is not there.
+fn put_listed<O: Output>(names: &Option<Names>, out: &mut O)
+    ensures { Adds (O.state out.old) (O.state out.new) (listed_label names.now) }
+{
+    match names {
+        Some(names) => put_values(names.as_slice(), out),
+        None => put_all(&[Piece::Mark("missing")], out),
+    }
+}
+
 /// What a command of a client of this region was answered.
 pub fn put_answer<O: Output>(
     script: &Script,
@@ -219,6 +257,23 @@ pub fn put_answer<O: Output>(
             first_id(report, region, points.as_slice()),
             conflict,
             *stamp,
+            out,
+        ),
+        Answer::Changed {
+            failed,
+            stamp,
+            points,
+            ..
+        } => put_changed(
+            report,
+            first_id(report, region, points.as_slice()),
+            *failed,
+            *stamp,
+            out,
+        ),
+        Answer::Listed { names, .. } => put_listed(names, out),
+        Answer::Moved { length, .. } => put_all(
+            &[Piece::Mark("moved "), Piece::Number(*length)],
             out,
         ),
         Answer::Took { value, point, .. } => put_took(

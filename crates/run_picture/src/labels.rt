@@ -3,15 +3,16 @@ ghost use Rattle.std.specs.Prelude.{◌≡◌};
 ghost use Rattle.std.specs.List.{flat_map};
 ghost use Rattle.script_text.specs.Commands.{use_of};
 ghost use Rattle.report_text.specs.Output.{Adds};
-ghost use Rattle.run_picture.specs.Labels.{name_among, word_label, field_label, pair_label, pairs_label, colours_label, object_label, source_label, IsOfLog, named_label, subject_label, heading_label, content_label, short_label, saying_label, unread_label, node_label};
+ghost use Rattle.run_picture.specs.Labels.{name_among, word_label, field_label, pair_label, paths_label, pairs_label, colours_label, object_label, source_label, IsOfLog, named_label, subject_label, heading_label, content_label, short_label, saying_label, unread_label, failed_label, node_label};
 
 use crate::pieces::{Piece, put_all};
-use log_node::{Colours, Names, Pair, Text};
+use log_node::{Colours, Pair, Text};
+use object_form::TreeWhy;
 use report_text::{Answer, Output};
-use script_text::{Content, Script, Use, What};
+use script_text::{Content, NameSet, Script, Use, What};
 
 /// The name with this number; nothing where the number names nothing.
-pub fn name_among(names: &Names, number: u8) -> &[u8]
+pub fn name_among(names: &NameSet, number: u8) -> &[u8]
     ensures { result.now ≡ name_among names.now number }
 {
     match names.get(number as usize) {
@@ -44,6 +45,21 @@ fn put_pair<'x, O: Output>(key: &'x [u8], value: &'x [u8], out: &mut O)
             Piece::Text(key),
             Piece::Mark("="),
             Piece::Text(value),
+        ],
+        out,
+    );
+}
+
+// A path and another one.
+fn put_paths<'x, O: Output>(source: &'x [u8], target: &'x [u8], out: &mut O)
+    ensures { Adds (O.state out.old) (O.state out.new) (paths_label source.now target.now) }
+{
+    put_all(
+        &[
+            Piece::Mark(" "),
+            Piece::Text(source),
+            Piece::Mark(" "),
+            Piece::Text(target),
         ],
         out,
     );
@@ -112,6 +128,7 @@ fn put_named<O: Output>(script: &Script, what: &What, out: &mut O)
         What::Scan { colours } => put_colours(script, *colours, out),
         What::Sync { colour } => put_field(name_among(&script.colours, *colour), out),
         What::Trim { colour } => put_field(name_among(&script.colours, *colour), out),
+        What::Only { colour, .. } => put_field(name_among(&script.colours, *colour), out),
         What::Pull { region, colour } => put_source(script, *region, *colour, out),
         _ => unreachable!(),
     }
@@ -147,6 +164,10 @@ pub fn put_content<O: Output>(what: &What, out: &mut O)
         Content::Pair(key, value) => put_pair(key, value, out),
         Content::Keys(keys) => put_fields(keys, out),
         Content::Pairs(pairs) => put_pairs(pairs, out),
+        Content::Path(path) => put_field(path, out),
+        Content::Folder(path) => put_field(path, out),
+        Content::PathValue(path, value) => put_pair(path, value, out),
+        Content::Paths(source, target) => put_paths(source, target, out),
     }
 }
 
@@ -168,6 +189,20 @@ fn put_unread<O: Output>(what: &What, out: &mut O)
     );
 }
 
+// The command's word, and why the change that it asks for failed.
+fn put_failed<O: Output>(what: &What, why: TreeWhy, out: &mut O)
+    ensures { Adds (O.state out.old) (O.state out.new) (failed_label what.now why) }
+{
+    put_all(
+        &[
+            Piece::Text(what.word().as_bytes()),
+            Piece::Mark(": "),
+            Piece::Text(why.as_str().as_bytes()),
+        ],
+        out,
+    );
+}
+
 // What a command says: one that appends a text that alone, and any other its word and its content.
 fn put_saying<O: Output>(what: &What, out: &mut O)
     ensures { Adds (O.state out.old) (O.state out.new) (saying_label what.now) }
@@ -180,11 +215,15 @@ fn put_saying<O: Output>(what: &What, out: &mut O)
         Content::Pair(_, _) => put_short(what, out),
         Content::Keys(_) => put_short(what, out),
         Content::Pairs(_) => put_short(what, out),
+        Content::Path(_) => put_short(what, out),
+        Content::Folder(_) => put_short(what, out),
+        Content::PathValue(_, _) => put_short(what, out),
+        Content::Paths(_, _) => put_short(what, out),
     }
 }
 
 /// What the node says that a command made: what the command says, or what was answered to a `deq`, to a `commit` in a
-/// conflict, and to one of these that could not read its object.
+/// conflict, to a change of a tree that failed, and to one of these that could not read its object.
 pub fn put_node<O: Output>(what: &What, answer: &Answer, out: &mut O)
     ensures { Adds (O.state out.old) (O.state out.new) (node_label what.now answer.now) }
 {
@@ -205,6 +244,13 @@ pub fn put_node<O: Output>(what: &What, answer: &Answer, out: &mut O)
             out,
         ),
         Answer::Ruled { conflict: None, .. } => put_saying(what, out),
+        Answer::Changed {
+            failed: Some(why),
+            ..
+        } => put_failed(what, *why, out),
+        Answer::Changed { failed: None, .. } => put_saying(what, out),
+        Answer::Listed { .. } => put_saying(what, out),
+        Answer::Moved { .. } => put_saying(what, out),
         Answer::UnreadTrimmed { .. } => put_unread(what, out),
         Answer::UnreadNoMemory { .. } => put_unread(what, out),
         Answer::Stood { .. } => put_saying(what, out),

@@ -53,7 +53,10 @@ pub fn makes(report: &Report, colour: u8, position: u64, key: Key, answer: &Answ
     match answer {
         Answer::Stood { points, .. } => are_at(points.as_slice(), colour, position),
         Answer::Ruled { points, .. } => are_at(points.as_slice(), colour, position),
+        Answer::Changed { points, .. } => are_at(points.as_slice(), colour, position),
         Answer::Took { point, .. } => is_at(point, colour, position),
+        Answer::Listed { .. } => false,
+        Answer::Moved { .. } => false,
         Answer::Stopped { steps } => *steps > 0 && is_last_row(report, key.id),
         Answer::UnreadTrimmed { stamp, .. } => *stamp == key.stamp,
         Answer::UnreadNoMemory { stamp } => *stamp == key.stamp,

@@ -50,7 +50,7 @@ module _ (log : Log) (caller : Caller) (kept after : Kept) where
     pub stood : (stamp : ℕ) (row : _) (points : List PointPiece)
         → Appends log caller kept (node_of caller kept colours text) stamp row points after
         → Explains log caller kept (whats.Append colours text) (answers.Stood stamp row points) [] after
-    stood stamp row points is = (refl, refl, (colours, text, (refl, refl), is))
+    stood stamp row points is = (refl, inl refl, (colours, text, (refl, refl), is))
 
     pub ended : (colour : ℕ) → HasNoStamp log caller kept (node_of caller kept colours text) colour after
         → Explains log caller kept (whats.Append colours text) (answers.StampEnd colour) [] after

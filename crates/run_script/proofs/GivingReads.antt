@@ -120,7 +120,7 @@ module _ (s : Store) (c d : Client) (on : RestsOn s c d) (objects : List Object)
               (subst (λ (l : List ℕ). HidesRead log it kept l after) (sym synced) r)),
         ))
 
-    refused_gives_of : (home : ℕ) → home_asked it what ≡ Some home → (fault : ObjectFault)
+    pub refused_gives_of : (home : ℕ) → home_asked it what ≡ Some home → (fault : ObjectFault)
         → (IsAway it (home_asked it what) → IsHomeRefusal (fault_answer fault)) → GetAllRefused home s c d colours fault
         → GivesOf s objects c d what (fault_answer fault) []
     refused_gives_of home homes (faults.NotHome shown) away is = gives_away s c d on objects what may (Some home) shown homes is

@@ -13,6 +13,8 @@ mod GivingGets
 mod FewShown
 mod FewerRows
 mod GivingTold
+mod GivingGuarded
+mod GivingTrees
 mod GivingReads
 mod ReadsFound
 mod ObjectFrames

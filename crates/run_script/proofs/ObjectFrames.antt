@@ -26,6 +26,7 @@ use Rattle.log_client.specs.Reading.{RestsOn}
 use Rattle.log_client.specs.StampedReads.{ReadsGoOn}
 use Rattle.log_map.proofs.CallerLemmas.{map_later}
 use Rattle.log_queue.proofs.CallerLemmas.{queue_later}
+use Rattle.log_tree.proofs.CallerLemmas.{tree_later}
 use Rattle.causal_map.proofs.CallerLemmas.{causal_later}
 use Rattle.atomic_map.proofs.CallerLemmas.{map_later as atomic_later}
 use Rattle.region_fold.proofs.CallerLemmas.{map_later as tx_later}
@@ -45,6 +46,7 @@ kept_later law s c d (opened.Map single several) is on kept =
 kept_later law s c d (opened.Tx map found) is on kept = (tx_later law s c d on map is kept.0, kept.1)
 kept_later law s c d (opened.Causal of) is on kept = causal_later s c d of is on kept
 kept_later law s c d (opened.Queue of) is on kept = queue_later s c d of is on kept
+kept_later law s c d (opened.Tree of) is on kept = tree_later law s c d on of is kept
 
 pub all_later : ReadsGoOn → (s : Store) (c d : Client) (xs : List Opened) → IsClient s c → RestsOn s c d → AreKept c xs
     → AreKept d xs

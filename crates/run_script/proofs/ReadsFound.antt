@@ -9,7 +9,7 @@ use Rattle.col_core.specs.Keeping.{Kept, nothing_kept}
 use Rattle.col_core.specs.Log.{Log}
 use Rattle.col_core.proofs.CallerLemmas.{apart}
 use Rattle.world_laws.proofs.CallerLemmas.{at_updated}
-use Rattle.script_text.specs.Fitting.{is_any_map, is_map, is_queue, is_tx}
+use Rattle.script_text.specs.Fitting.{is_any_map, is_map, is_queue, is_tree, is_tx}
 use Rattle.script_text.specs.declared.script.Kind.{Kind}
 use Rattle.script_text.specs.declared.script.Kind.TheVariants as kinds
 use Rattle.script_text.specs.declared.script.Object.{Object}
@@ -43,6 +43,7 @@ finds_none (opened.Map single several) other = refl
 finds_none (opened.Tx map found) other = absurd (let f : ⊥ = cc (other) in f)
 finds_none (opened.Causal of) other = refl
 finds_none (opened.Queue of) other = refl
+finds_none (opened.Tree of) other = refl
 
 pub finds_same : (x y : Opened) → is_tx (kind_opened x) ≡ false → kind_opened y ≡ kind_opened x
     → versions_in y ≡ versions_in x
@@ -59,6 +60,10 @@ any_map_not_tx _ is = refl
 pub queue_not_tx : (kind : Kind) → IsTrue (is_queue kind) → is_tx kind ≡ false
 queue_not_tx (kinds.Tx home colours) is = absurd (let f : ⊥ = cc (is) in f)
 queue_not_tx _ is = refl
+
+pub tree_not_tx : (kind : Kind) → IsTrue (is_tree kind) → is_tx kind ≡ false
+tree_not_tx (kinds.Tx home colours) is = absurd (let f : ⊥ = cc (is) in f)
+tree_not_tx _ is = refl
 
 -- who keeps nothing keeps the reads of objects of which nothing was read
 pub none_found : (xs : List Opened) → All IsUnfolded xs → HaveReads xs nothing_kept
@@ -91,7 +96,7 @@ reads_with xs n x y kept after at have keeps j =
     (λ other. have j ∙ ap found_in (sym (set_apart xs n j y (λ same. apart (j == n) (eq-eqb j n same) other))))
 
 -- what is kept of reads is the same, of one object too
-keeps_but : (object : ℕ) (found : Option (List Version)) (kept after : Kept) → kept.reads object ≡ found
+pub keeps_but : (object : ℕ) (found : Option (List Version)) (kept after : Kept) → kept.reads object ≡ found
     → after.reads ≡ kept.reads → KeepsReadsBut object found kept after
 keeps_but object found kept after is same n =
     ap (λ (reads : ℕ → Option (List Version)). reads n) same

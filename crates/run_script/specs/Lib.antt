@@ -3,6 +3,7 @@ pub mod Words
 pub mod Refusals
 pub mod TopCall
 pub mod Reading
+pub mod Changing
 pub mod Opened
 pub mod Replying
 pub mod Serving

@@ -17,6 +17,7 @@ use Rattle.script_text.specs.declared.uses.Use.TheVariants.{OfLog, OfObject}
 use Rattle.log_client.specs.declared.client.Client.{Client}
 use Rattle.log_client.specs.Clients.{tracks_of}
 use Rattle.log_map.specs.Maps.{IsMapOf}
+use Rattle.log_tree.specs.Trees.{IsTreeOf}
 use Rattle.log_queue.specs.Queues.{IsQueueOf}
 use Rattle.causal_map.specs.CausalMaps.{IsCausalMapOf}
 use Rattle.atomic_map.specs.Several.{IsAtomicMapOf}
@@ -31,6 +32,7 @@ kind_opened (opened.Map single several) = kinds.Map single.home single.colours
 kind_opened (opened.Tx map found) = kinds.Tx map.home map.colours
 kind_opened (opened.Causal of) = kinds.Causal of.colour
 kind_opened (opened.Queue of) = kinds.Queue of.home of.colour
+kind_opened (opened.Tree of) = kinds.Tree of.home of.colours
 
 -- these are the objects of a script, by number
 abbrev pub AreOf : List Object → List Opened → Type 0
@@ -43,6 +45,7 @@ IsOpenedOf c (opened.Map single several) =
 IsOpenedOf c (opened.Tx map found) = IsTxMapOf c map × IfSome found (λ (t : Tx). AreVersions t.versions)
 IsOpenedOf c (opened.Causal of) = IsCausalMapOf c of
 IsOpenedOf c (opened.Queue of) = IsQueueOf c of
+IsOpenedOf c (opened.Tree of) = IsTreeOf c of
 
 -- the same of each of them
 abbrev pub AreKept : Client → List Opened → Type 0
@@ -56,6 +59,7 @@ versions_in (opened.Map single several) = None
 versions_in (opened.Tx map found) = option_map (λ (t : Tx). t.versions) found
 versions_in (opened.Causal of) = None
 versions_in (opened.Queue of) = None
+versions_in (opened.Tree of) = None
 
 -- the same of one that is opened, or not
 abbrev pub found_in : Option Opened → Option (List Version)

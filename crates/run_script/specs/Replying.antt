@@ -87,3 +87,8 @@ abbrev pub told_answer : {T : Type 0} → (T → Option ℕ → List PointPiece 
 told_answer shown (Ok r) =
     shown r.0 r.1.row (map piece_of r.1.stood.points) r.2.stamp (map raise_piece r.2.raises) (map sync_piece r.2.syncs)
 told_answer shown (Err fault) = fault_answer fault
+
+-- to a list of the names in a path of a tree
+abbrev pub names_answer : Result (Option (List (List ℕ)) × StampedRead) ObjectFault → Answer
+names_answer (Ok r) = answers.Listed r.0 r.1.stamp (map raise_piece r.1.raises) (map sync_piece r.1.syncs)
+names_answer (Err fault) = fault_answer fault

@@ -15,5 +15,6 @@ mod running;
 mod scans;
 mod served;
 mod syncs;
+mod trees;
 
 pub use running::run_beside;

@@ -142,6 +142,8 @@ spells_as one other r c o (fields.Object of) own given next s =
     (s.0, s.1 ∙ ap (λ (made : List Object). name_of (map (λ m. m.name) made) s.0 ∷ []) o, subst (λ (made : List Object). IsTrue (is_one_of of (slice_get made s.0))) o s.2, s.3)
 spells_as one other r c o fields.Key own given next s = s
 spells_as one other r c o fields.Value own given next s = s
+spells_as one other r c o (fields.Path root) own given next s = s
+spells_as one other r c o fields.Target own given next s = s
 spells_as one other r c o (fields.Keys most) own given next s = s
 spells_as one other r c o (fields.Pairs most) own given next s = s
 spells_as one other r c o (fields.Colours most) own given next s =

@@ -25,6 +25,7 @@ IsCausalOf w colour (folds.Map shards) = ⊥
 IsCausalOf w colour (folds.Queue queue) = ⊥
 IsCausalOf w colour (folds.Causal regions) = AreCausalFolds w colour regions.items
 IsCausalOf w colour (folds.Tx fold) = ⊥
+IsCausalOf w colour (folds.Tree fold) = ⊥
 
 -- it is no other
 pub no_other : (w : World) (colour : ℕ) (fold : Fold) → IsCausalOf w colour fold
@@ -33,6 +34,7 @@ no_other w colour (folds.Map shards) f none = f
 no_other w colour (folds.Queue queue) f none = f
 no_other w colour (folds.Causal regions) f none = none regions refl
 no_other w colour (folds.Tx fold) f none = f
+no_other w colour (folds.Tree fold) f none = f
 
 by_kind : (w : World) (colour : ℕ) (fold : Fold) → IsFoldOf w (kinds.Causal colour) fold → IsCausalOf w colour fold
 by_kind w colour (folds.Map shards) (home, colours, is, f) = absurd (let g : ⊥ = cc in g)
@@ -40,6 +42,7 @@ by_kind w colour (folds.Queue queue) (home, other, is, f) = absurd (let g : ⊥ 
 by_kind w colour (folds.Causal regions) (other, is, f) =
     let e : other ≡ colour = cc in subst (λ (c : ℕ). AreCausalFolds w c regions.items) e f
 by_kind w colour (folds.Tx fold) (home, colours, is, f) = absurd (let g : ⊥ = cc in g)
+by_kind w colour (folds.Tree fold) (home, colours, is, f) = absurd (let g : ⊥ = cc in g)
 
 object_of : (found : Option Object) (kind : Kind) → option_map (λ (o : Object). o.kind) found ≡ Some kind
     → (o : Object) × (found ≡ Some o) × (o.kind ≡ kind)
@@ -90,6 +93,7 @@ causal_put w objects all object colour fold f is right =
       by_fold o at (folds.Queue queue) r = absurd r
       by_fold o at (folds.Causal regions) r = (colour, same_kind o at, r)
       by_fold o at (folds.Tx fold) r = absurd r
+      by_fold o at (folds.Tree fold) r = absurd r
 
 -- one object more, with its fold
 pub folds_more : (w : World) (objects : List Object) (all : List Fold) (o : Object) (fold : Fold) → AreFolded w objects all

@@ -13,6 +13,8 @@ use Rattle.object_fold.specs.declared.tx_state.TxState.{TxState}
 use Rattle.object_fold.specs.Nodes.{ObjectNode}
 use Rattle.object_fold.specs.Maps.{Value, shard_value}
 use Rattle.object_fold.specs.States.{IsShardMap, IsValueQueue, IsTxState}
+use Rattle.tree_fold.specs.declared.fold.TreeFold.{TreeFold}
+use Rattle.tree_fold.specs.TreeStates.{IsTree}
 use Rattle.col_core.specs.History.{line}
 use Rattle.world_laws.specs.Worlds.{World}
 use Rattle.world_laws.specs.Laws.{IsReached}
@@ -31,7 +33,7 @@ use Rattle.script_in_order.specs.declared.lines_fold.LinesFold.{LinesFold}
 use Rattle.script_in_order.proofs.LinesFolds.{lines_stay}
 use Rattle.script_in_order.specs.declared.folds.Fold.{Fold}
 use Rattle.script_in_order.specs.declared.folds.Fold.TheVariants as folds
-use Rattle.script_in_order.specs.Folds.{IsKeptLine, IsShardFold, AreShardFolds, IsQueueFold, IsLinesFold, IsFoldOf, AreFolded, ShardsWithin, QueueWithin, IsTxAt, whole_line, nodes_at}
+use Rattle.script_in_order.specs.Folds.{IsKeptLine, IsShardFold, AreShardFolds, IsQueueFold, IsLinesFold, IsFoldOf, AreFolded, ShardsWithin, QueueWithin, IsTxAt, IsTreeAt, whole_line, nodes_at}
 
 module _ (w v : World) (reached : IsReached w) (to : RunsTo w v) where
   line_stays : {F : Type 0} (Holds : F → List ObjectNode → Type 0) (home colour : ℕ) (kept : KeptLine F)
@@ -86,6 +88,12 @@ module _ (w v : World) (reached : IsReached w) (to : RunsTo w v) where
     colours,
     is,
     lines_stay w v reached to IsTxState fold f,
+  )
+  fold_stays kind (folds.Tree fold) (home, colours, is, f) = (
+    home,
+    colours,
+    is,
+    lines_stay w v reached to IsTree fold f,
   )
 
   -- what is folded stays right
@@ -276,6 +284,7 @@ module _ (w : World) (home : ℕ) (colours : List ℕ) where
   only_map (folds.Queue queue) (h, c, e, right) n = let g : ⊥ = cc in g
   only_map (folds.Causal regions) (c, e, right) n = let g : ⊥ = cc in g
   only_map (folds.Tx fold) (h, cs, e, right) n = let g : ⊥ = cc in g
+  only_map (folds.Tree fold) (h, cs, e, right) n = let g : ⊥ = cc in g
 
 -- the fold of a queue
 module _ (w : World) (home colour : ℕ) where
@@ -292,6 +301,7 @@ module _ (w : World) (home colour : ℕ) where
   only_queue (folds.Queue queue) f n = n queue refl
   only_queue (folds.Causal regions) (c, e, right) n = let g : ⊥ = cc in g
   only_queue (folds.Tx fold) (h, cs, e, right) n = let g : ⊥ = cc in g
+  only_queue (folds.Tree fold) (h, cs, e, right) n = let g : ⊥ = cc in g
 
 -- the fold of a transactional map
 module _ (w : World) (home : ℕ) (colours : List ℕ) where
@@ -305,6 +315,7 @@ module _ (w : World) (home : ℕ) (colours : List ℕ) where
   only_tx (folds.Queue queue) (h, c, e, right) n = let g : ⊥ = cc in g
   only_tx (folds.Causal regions) (c, e, right) n = let g : ⊥ = cc in g
   only_tx (folds.Tx tx) f n = n tx refl
+  only_tx (folds.Tree fold) (h, cs, e, right) n = let g : ⊥ = cc in g
 
 -- that of an object
 pub tx_of : (w : World) (objects : List Object) (all : List Fold) (object : ℕ) (fold : Fold) (tx : LinesFold TxState)
@@ -314,6 +325,28 @@ tx_of w objects all object fold tx f at there same =
     tx_fold w at.0 at.1 tx
     (subst (IsFoldOf w (kinds.Tx at.0 at.1)) same
     (fold_there w objects all object (kinds.Tx at.0 at.1) f at.2 fold there))
+
+-- the fold of a tree
+module _ (w : World) (home : ℕ) (colours : List ℕ) where
+  tree_fold : (fold : LinesFold TreeFold) → IsFoldOf w (kinds.Tree home colours) (folds.Tree fold) → IsLinesFold IsTree w fold
+  tree_fold fold (h, cs, e, right) = right
+
+  pub only_tree : (fold : Fold) → IsFoldOf w (kinds.Tree home colours) fold
+      → ((tree : LinesFold TreeFold) → fold ≡ folds.Tree tree → ⊥) → ⊥
+  only_tree (folds.Map shards) (h, cs, e, right) n = let g : ⊥ = cc in g
+  only_tree (folds.Queue queue) (h, c, e, right) n = let g : ⊥ = cc in g
+  only_tree (folds.Causal regions) (c, e, right) n = let g : ⊥ = cc in g
+  only_tree (folds.Tx fold) (h, cs, e, right) n = let g : ⊥ = cc in g
+  only_tree (folds.Tree tree) f n = n tree refl
+
+-- that of an object
+pub tree_of : (w : World) (objects : List Object) (all : List Fold) (object : ℕ) (fold : Fold) (tree : LinesFold TreeFold)
+    → AreFolded w objects all → IsTreeAt objects object → fold ≡ get_or all object fold → fold ≡ folds.Tree tree
+    → IsLinesFold IsTree w tree
+tree_of w objects all object fold tree f at there same =
+    tree_fold w at.0 at.1 tree
+    (subst (IsFoldOf w (kinds.Tree at.0 at.1)) same
+    (fold_there w objects all object (kinds.Tree at.0 at.1) f at.2 fold there))
 
 -- a shard that was folded on is within its bound
 pub within_with : (all : List Fold) (object : ℕ) (shards : Vec (KeptLine ShardMap) Global) (n : ℕ) (fold : KeptLine ShardMap)

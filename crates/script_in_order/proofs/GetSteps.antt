@@ -255,6 +255,20 @@ pub reads_same : (w v : World) (client : ℕ) (cs other : List ℕ) (s : Stamped
 reads_same w v client cs other s same reads =
     subst (λ (l : List ℕ). ReadsStamped w v client l (end_in v client l s)) same reads
 
+-- a stamped read of an object's colours, however their set is written
+pub its_read : (old new : World) (client : ℕ) (colours cs : List ℕ) (s t : Stamped) → colours ≡ cs → s ≡ t
+    → ReadsStamped old new client colours (end_in new client colours s) → ReadsStamped old new client cs (end_in new client cs t)
+its_read old new client colours cs s t is same r =
+    subst (λ (x : Stamped). ReadsStamped old new client cs (end_in new client cs x)) same
+    (subst (λ (l : List ℕ). ReadsStamped old new client l (end_in new client l s)) is r)
+
+-- what is folded, after the read
+pub read_folds : (w v : World) (client : ℕ) (colours : List ℕ) (objects : List Object) (folds : List Fold) (s t : Stamped)
+    → s ≡ t → IsReached w → ReadsStamped w v client colours (end_in v client colours s) → AreFolded w objects folds
+    → AreFolded v objects folds
+read_folds w v client colours objects folds s t same reached reads f =
+    folds_stay w v reached (read_to w v client colours (end_in v client colours s) reads) objects folds f
+
 -- the colours of the set of the keys' shards
 pub set_is : (objects : List Object) (object : ℕ) (o : Object) (set : Colours) (found asked : List (List ℕ))
     → HasObject objects object is_map

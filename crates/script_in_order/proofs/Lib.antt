@@ -32,3 +32,5 @@ mod LinesFolds
 mod LinesFeeds
 mod ReadTold
 mod TxVerdicts
+mod GuardSteps
+mod TreeSteps

@@ -20,7 +20,7 @@ use Rattle.report_text.specs.declared.report.ReplyLine.{ReplyLine}
 use Rattle.script_meaning.specs.States.{State, LastReads, no_reads, StopsAreLast}
 use Rattle.script_meaning.specs.Meaning.{LeadTo, nothing, next}
 use Rattle.object_form.specs.Laws.{ReadsBack}
-use Rattle.script_meaning.proofs.CallerLemmas.{lead_shape, reads_fit}
+use Rattle.script_meaning.proofs.CallerLemmas.{lead_shape, reads_fit, TreesReadBack}
 use Rattle.script_in_order.specs.Doing.{IsFit}
 use Rattle.script_in_order.specs.Runs.{RepliesView, RunView, no_replies, replies_at, found_at, state_of, asks, IsDone}
 use Rattle.script_in_order.specs.Transacting.{AreFit}
@@ -69,8 +69,8 @@ module _ (script : Script) (fits : IsFitting script) (place : ℕ) (code : RunVi
   pub next_reads : length (replies_at code.replies command.client).reads ≡ length script.objects
   next_reads = run.reads command.client caller
 
-  pub next_rests : ReadsBack → StopsAreLast script → AreFit (found_at (replies_at code.replies command.client).reads)
-  next_rests back last = reads_fit back script fits last run.leads (drop place script.commands)
+  pub next_rests : ReadsBack → TreesReadBack → StopsAreLast script → AreFit (found_at (replies_at code.replies command.client).reads)
+  next_rests back tree last = reads_fit back tree script fits last run.leads (drop place script.commands)
       (sym (take-append-drop place script.commands)) command.client
 
   -- the run after the command

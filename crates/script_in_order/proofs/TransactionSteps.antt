@@ -1,6 +1,6 @@
 -- Reads of transactional maps, and commits, by what their calls did.
 use Rattle.std.proofs.Common.{◌≡◌, ◌≢◌, ℕ, zero, suc, Bool, true, false, List, [], ◌∷◌, ◌++◌, length, map, set, get_or, ◌<◌, ◌≤◌, Option, Some, None, Result, Ok, Err, option_map, length-set, refl, ap, sym, subst, ◌∙◌}
-use Rattle.std.specs.Prelude.{IfOk, IfSome, if◌then◌else◌}
+use Rattle.std.specs.Prelude.{IfOk, IfSome, ◌||◌, if◌then◌else◌}
 use Rattle.std.specs.List.{All}
 use Rattle.std.specs.declared.alloc.AllocError.{AllocError}
 use Rattle.log_node.specs.declared.ids.Counts.{Counts}
@@ -10,7 +10,7 @@ use Rattle.col_core.proofs.CallerLemmas.{In}
 use Rattle.script_text.specs.declared.script.Kind.{Kind}
 use Rattle.script_text.specs.declared.script.Kind.TheVariants as kinds
 use Rattle.script_in_order.specs.Folds.{IsTxAt}
-use Rattle.script_text.specs.Fitting.{AreBelow, HasColours, AreObjectColours, IsKindWithin, UsesOne, UsesObject, HasObject, is_tx}
+use Rattle.script_text.specs.Fitting.{AreBelow, HasColours, AreObjectColours, IsKindWithin, UsesOne, UsesObject, HasObject, is_tx, is_tree}
 use Rattle.script_text.specs.Grammar.{are_pairs}
 use Rattle.lawful_run.specs.Asks.{object_colours, keys_of_pairs}
 use Rattle.lawful_run.specs.Refusals.{before_by, behind_by}
@@ -58,36 +58,36 @@ use Rattle.script_in_order.specs.Transacting.{AreFit, LeavesForCommit, Transacts
 use Rattle.script_in_order.proofs.HelpsAndClears.{found_with, finds_all}
 use Rattle.script_in_order.proofs.StampedWholes.{finds_same}
 use Rattle.script_in_order.proofs.TxVerdicts.{tells_verdict}
-use Rattle.script_in_order.proofs.ObjectSteps.{each_below, kind_is, has_some, are_low}
+use Rattle.script_in_order.proofs.ObjectSteps.{each_below, has_kind, kind_is, has_some, are_low}
 
--- THE COLOURS OF A TRANSACTIONAL MAP
+-- THE COLOURS OF AN OBJECT THAT IS READ WHOLE
 
 module _ (regions count : ℕ) (few : count ≤ MAX_COLOURS) (objects : List Object)
-    (all : All (λ (o : Object). IsKindWithin regions count o.kind) objects) (object : ℕ)
-    (has : HasObject objects object is_tx) (other : Object) (set : Colours)
+    (all : All (λ (o : Object). IsKindWithin regions count o.kind) objects) (object : ℕ) {test : Kind → Bool}
+    (has : HasObject objects object test) (other : Object) (set : Colours)
     (is : set ≡ set_of (object_colours (Some (get_or objects object other).kind))) where
   own : AreObjectColours count (object_colours (kind_in objects object))
-  own = object_has objects regions count all object is_tx has
+  own = object_has objects regions count all object test has
 
-  pub tx_members : members set ≡ rising_colours objects object
-  tx_members =
+  pub whole_members : members set ≡ rising_colours objects object
+  whole_members =
       ap members (is ∙ ap (λ (k : Option Kind). set_of (object_colours k)) (kind_is objects object other has))
       ∙ members-set_of (object_colours (kind_in objects object))
 
-  pub tx_low : AreBelow count set
-  tx_low = each_below count set (λ c i. rising_below count few (object_colours (kind_in objects object)) own c
-      (subst (λ (l : List ℕ). In c l) tx_members i))
+  pub whole_low : AreBelow count set
+  whole_low = each_below count set (λ c i. rising_below count few (object_colours (kind_in objects object)) own c
+      (subst (λ (l : List ℕ). In c l) whole_members i))
 
-  pub tx_some : members set ≢ []
-  tx_some e =
+  pub whole_some : members set ≢ []
+  whole_some e =
       let first = rising_some count few (object_colours (kind_in objects object)) own in
-      subst (λ (l : List ℕ). In first.0 l) (sym tx_members ∙ e) first.1
+      subst (λ (l : List ℕ). In first.0 l) (sym whole_members ∙ e) first.1
 
--- such a map it is
+-- such a map is told what becomes of nodes
 pub tx_is : (objects : List Object) (object : ℕ) (other : Object) → HasObject objects object is_tx
-    → is_tx (get_or objects object other).kind ≡ true
+    → (is_tx (get_or objects object other).kind || is_tree (get_or objects object other).kind) ≡ true
 tx_is objects object other has =
-    ap (λ (o : Object). is_tx o.kind) (at_or objects object has.found other has.there) ∙ has.kind
+    ap (λ (b : Bool). b || is_tree (get_or objects object other).kind) (has_kind objects object other has)
 
 its_kinds : (kind : Kind) → is_tx kind ≡ true → (home : ℕ) × (colours : List ℕ) × (kind ≡ kinds.Tx home colours)
 its_kinds (kinds.Tx home of) is = (home, of, refl)

@@ -7,6 +7,7 @@ use Rattle.object_fold.specs.declared.queue.ValueQueue.{ValueQueue}
 use Rattle.object_fold.specs.declared.shard_map.ShardMap.{ShardMap}
 use Rattle.object_fold.specs.Nodes.{ObjectNode}
 use Rattle.object_fold.specs.States.{IsShardMap, IsValueQueue, IsTxState}
+use Rattle.tree_fold.specs.TreeStates.{IsTree}
 use Rattle.col_core.specs.History.{line}
 use Rattle.playback.specs.Merging.{merged, up_to}
 use Rattle.world_laws.specs.Worlds.{World, home_of, home_history}
@@ -89,6 +90,8 @@ IsFoldOf w kind (folds.Causal regions) =
     (colour : ℕ) × (kind ≡ kinds.Causal colour) × AreCausalFolds w colour regions.items
 IsFoldOf w kind (folds.Tx fold) =
     (home : ℕ) × (colours : List ℕ) × (kind ≡ kinds.Tx home colours) × IsLinesFold IsTxState w fold
+IsFoldOf w kind (folds.Tree fold) =
+    (home : ℕ) × (colours : List ℕ) × (kind ≡ kinds.Tree home colours) × IsLinesFold IsTree w fold
 
 -- there is a right one for each of the objects
 pub record AreFolded (w : World) (objects : List Object) (all : List Fold) : Type 0 where
@@ -130,3 +133,7 @@ IsQueueAt w client objects object colour = kind_in objects object ≡ Some (kind
 -- the object is a transactional map
 abbrev pub IsTxAt : List Object → ℕ → Type 0
 IsTxAt objects object = (home : ℕ) × (colours : List ℕ) × (kind_in objects object ≡ Some (kinds.Tx home colours))
+
+-- the object is a tree
+abbrev pub IsTreeAt : List Object → ℕ → Type 0
+IsTreeAt objects object = (home : ℕ) × (colours : List ℕ) × (kind_in objects object ≡ Some (kinds.Tree home colours))

@@ -10,12 +10,14 @@ ghost use Rattle.script_in_order.specs.Runs.{reply_of};
 use crate::appends::append_asked;
 use crate::folds::Folds;
 use crate::gets::{get, get_keys};
+use crate::guarded::append_next;
 use crate::moves::{pull, trim};
 use crate::object_appends::{delete, enqueue, put, put_all};
 use crate::queues::dequeue;
 use crate::scans::scan;
 use crate::stops::stop;
 use crate::syncs::sync;
+use crate::trees::{list_names, make, relocate, remove};
 use log_node::{Items, ListOf};
 use report_text::{Answer, ReplyLine};
 use script_text::{Command, Object, What};
@@ -67,6 +69,23 @@ pub fn answer(
         ),
         What::Enq { object, value } => enqueue(alloc, objects, command, *object, value, world),
         What::Deq { object } => dequeue(alloc, objects, command, *object, world, folds),
+        What::Only { colour, text } => append_next(alloc, objects, command, *colour, text, world),
+        What::Mk {
+            object,
+            path,
+            value,
+        } => make(alloc, objects, command, *object, path, value, world, folds),
+        What::Rm { object, path } => remove(alloc, objects, command, *object, path, world, folds),
+        What::Mv {
+            object,
+            source,
+            target,
+        } => relocate(
+            alloc, objects, command, *object, source, target, world, folds,
+        ),
+        What::Ls { object, path } => list_names(
+            alloc, objects, command, *object, path, world, folds,
+        ),
         What::Read { .. } | What::Commit { .. } => unreachable!(),
     }
 }

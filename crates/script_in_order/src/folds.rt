@@ -8,6 +8,7 @@ ghost use Rattle.object_fold.specs.Transactions.{value_of, writes_after, version
 ghost use Rattle.object_fold.specs.Maps.{shard_value};
 ghost use Rattle.object_fold.specs.Nodes.{keyed_node};
 ghost use Rattle.object_fold.specs.Queues.{front_after};
+ghost use Rattle.tree_fold.specs.Trees.{tree_after};
 ghost use Rattle.col_core.specs.History.{line};
 ghost use Rattle.world_laws.specs.Worlds.{World as Meant};
 ghost use Rattle.script_text.specs.Fitting.{AreBelow, IsKindWithin, IsFitting};
@@ -17,8 +18,9 @@ ghost use Rattle.script_meaning.specs.CausalGets.{causal_values};
 ghost use Rattle.script_meaning.specs.Dequeues.{object_node_at};
 ghost use Rattle.script_meaning.specs.Gets.{key_answers};
 ghost use Rattle.script_meaning.specs.Stamped.{keys_read};
+ghost use Rattle.script_meaning.specs.Trees.{names_in};
 ghost use Rattle.script_in_order.specs.CausalFolds.{held_nodes, cut_to_play, AreCausalFolds};
-ghost use Rattle.script_in_order.specs.Folds.{nodes_at, AreThere, IsKeptLine, IsShardFold, AreShardFolds, IsQueueFold, IsFoldOf, AreFolded, ShardsWithin, QueueWithin, MayFold, IsTxAt};
+ghost use Rattle.script_in_order.specs.Folds.{nodes_at, AreThere, IsKeptLine, IsShardFold, AreShardFolds, IsQueueFold, IsFoldOf, AreFolded, ShardsWithin, QueueWithin, MayFold, IsTxAt, IsTreeAt};
 
 use crate::causal::values;
 use crate::lines_fold::{LinesFold, LinesRead};
@@ -28,6 +30,7 @@ use report_text::KeyAnswer;
 use script_text::{Kind, Object, Script};
 use std::alloc::{AllocError, Global};
 use std::marker::Model;
+use tree_fold::{Path, TreeFold};
 use world_code::World;
 
 /// What of one object is folded.
@@ -41,6 +44,8 @@ pub enum Fold {
     Causal(Vec<CausalMap>),
     /// Of a transactional map.
     Tx(LinesFold<TxState>),
+    /// Of a tree.
+    Tree(LinesFold<TreeFold>),
 }
 
 /// What is folded of each object, by the object's number.
@@ -195,6 +200,10 @@ fn open_fold(alloc: Global, kind: &Kind, shape: &Shape) -> Result<Fold, AllocErr
             home: _home,
             colours: _colours,
         } => Ok(Fold::Tx(LinesFold::open(alloc))),
+        Kind::Tree {
+            home: _home,
+            colours: _colours,
+        } => Ok(Fold::Tree(LinesFold::open(alloc))),
         Kind::Causal { colour: _colour } => Ok(Fold::Causal(open_causal(alloc, shape.regions)?)),
     }
 }
@@ -316,6 +325,30 @@ impl Folds {
     {
         match &mut self.of[object as usize] {
             Fold::Tx(fold) => fold.found(alloc, world, read, keys),
+            _ => unreachable!(),
+        }
+    }
+
+    /// The names in a path after the nodes that are read of a tree, where there is such a path. The fold goes on from where it
+    /// is; without memory it may begin anew.
+    pub fn names(
+        &mut self,
+        alloc: Global,
+        world: &World,
+        object: u8,
+        read: LinesRead,
+        path: &Option<Path>,
+    ) -> Result<Option<Names>, AllocError>
+        requires client { read.client < length world.now.shape.homes }
+        requires within { AreBelow world.now.shape.colours read.colours }
+        requires may { (objects : List Object) × IsTreeAt objects object × AreFolded (world_of world.now) objects self.old }
+        ensures names { IfOk result (λ names. names ≡ names_in (tree_after (map (object_node_at (world_of world.now))
+            (keys_read (world_of world.now) read.client read.stamp (members read.colours)))) path.now) }
+        ensures folded { (objects : List Object) → IsTreeAt objects object → AreFolded (world_of world.now) objects self.old
+            → AreFolded (world_of world.now) objects self.new }
+    {
+        match &mut self.of[object as usize] {
+            Fold::Tree(fold) => fold.names(alloc, world, read, path),
             _ => unreachable!(),
         }
     }

@@ -24,9 +24,10 @@ fn object_home(objects: &[Object], object: u8) -> Option<u8>
     match objects.get(object as usize) {
         None => None,
         Some(found) => match &found.kind {
-            Kind::Map { home, .. } | Kind::Tx { home, .. } | Kind::Queue { home, .. } => Some(
-                *home,
-            ),
+            Kind::Map { home, .. }
+            | Kind::Tx { home, .. }
+            | Kind::Tree { home, .. }
+            | Kind::Queue { home, .. } => Some(*home),
             Kind::Causal { .. } => None,
         },
     }

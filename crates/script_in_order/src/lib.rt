@@ -7,6 +7,7 @@ mod causal;
 mod clears;
 mod folds;
 mod gets;
+mod guarded;
 mod homes;
 mod in_order;
 mod lines_fold;
@@ -24,6 +25,8 @@ mod stops;
 mod syncs;
 mod told;
 mod transactions;
+mod tree_answers;
+mod trees;
 mod tx_answers;
 
 pub use in_order::run_in_order;

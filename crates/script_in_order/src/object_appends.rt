@@ -1,9 +1,9 @@
 // What commands of objects append: the text of a form, on the colours of the shards.
-ghost use Rattle.std.specs.Prelude.{◌≡◌, ◌<◌, ◌∷◌, [], IsTrue, IfOk, OnErr, Some, length, slice_get};
+ghost use Rattle.std.specs.Prelude.{◌≡◌, ◌<◌, ◌||◌, ◌∷◌, [], IsTrue, IfOk, OnErr, Some, length, slice_get};
 ghost use Rattle.log_node.specs.Sets.{members, set_of};
 ghost use Rattle.object_form.specs.Forms.{IsForm, form_text};
 ghost use Rattle.object_fold.specs.Nodes.{shard_of};
-ghost use Rattle.script_text.specs.Fitting.{AreBelow, AreObjectColours, HasColours, UsesObject, is_queue};
+ghost use Rattle.script_text.specs.Fitting.{AreBelow, AreObjectColours, HasColours, UsesObject, is_tx, is_tree, is_queue};
 ghost use Rattle.lawful_run.specs.Asks.{object_colours, keys_of_pairs, put_form};
 ghost use Rattle.world_code.specs.WorldView.{world_of};
 ghost use Rattle.script_meaning.specs.Appends.{appended};
@@ -29,6 +29,10 @@ pub fn shard(kind: &Kind, key: &[u8]) -> u8
             colours,
         } => shard_of(colours.as_slice(), key),
         Kind::Tx {
+            home: _home,
+            colours,
+        } => shard_of(colours.as_slice(), key),
+        Kind::Tree {
             home: _home,
             colours,
         } => shard_of(colours.as_slice(), key),
@@ -70,6 +74,25 @@ fn pair_shards(kind: &Kind, pairs: &[Pair]) -> Colours
         set = set.with(shard(kind, pair.key.as_bytes()));
     }
     set
+}
+
+/// The set of all colours of an object that is told what becomes of nodes.
+pub fn all_colours(kind: &Kind) -> Colours
+    requires telling { IsTrue (is_tx kind.now || is_tree kind.now) }
+    requires colours { AreObjectColours MAX_COLOURS (object_colours (Some kind.now)) }
+    ensures { result ≡ set_of (object_colours (Some kind.now)) }
+{
+    match kind {
+        Kind::Tx {
+            home: _home,
+            colours,
+        } => Colours::of(colours.as_slice()),
+        Kind::Tree {
+            home: _home,
+            colours,
+        } => Colours::of(colours.as_slice()),
+        _ => unreachable!(),
+    }
 }
 
 // The set of a queue's colour.

@@ -53,8 +53,8 @@ fn column_reports(
     for columns in regions {
         push_columns(
             alloc,
-            &script.regions,
-            &script.colours,
+            script.regions.as_list(),
+            script.colours.as_list(),
             columns.into_columns(),
             &mut reports,
         )?;
@@ -79,7 +79,7 @@ pub fn report(
     let rows = row_reports(alloc, &world)?;
     Ok(Report {
         version: script.version,
-        clients: client_reports(alloc, &script.clients, replies)?,
+        clients: client_reports(alloc, script.clients.as_list(), replies)?,
         rows,
         columns: column_reports(alloc, script, world.into_columns())?,
     })

@@ -19,6 +19,7 @@ use log_node::{ListOf, MAX_ROWS, Shape};
 use object_form::reads_back;
 use script_text::{Command, Object, Script};
 use std::alloc::{AllocError, Global};
+use tree_fold::{names_are_answered, reads_back as changes_read_back};
 use world_code::World;
 
 // How many of the commands the client asks.
@@ -147,6 +148,8 @@ pub fn do_next(
     ensures folded { AreFolded (world_of world.new) script.now.objects folds.new }
 {
     reads_back();
+    changes_read_back();
+    names_are_answered();
     let command = &script.commands.as_slice()[place];
     do_command(
         alloc,

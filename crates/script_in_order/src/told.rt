@@ -9,11 +9,13 @@
 ghost use Rattle.std.specs.Prelude.{◌≡◌, ◌≢◌, ◌<◌, [], IfOk, OnErr, length};
 ghost use Rattle.log_node.specs.Sets.{members};
 ghost use Rattle.object_fold.specs.declared.verdict.Verdict.TheVariants.{Committed};
+ghost use Rattle.tree_fold.specs.declared.told.Told.TheVariants.{Done};
 ghost use Rattle.script_text.specs.Fitting.{AreBelow, HasColours};
 ghost use Rattle.world_laws.specs.Worlds.{World as Meant};
 ghost use Rattle.world_code.specs.WorldView.{world_of};
 ghost use Rattle.script_meaning.specs.Stamped.{keys_read};
 ghost use Rattle.script_meaning.specs.Transactions.{verdict_answer};
+ghost use Rattle.script_meaning.specs.Trees.{change_answer};
 ghost use Rattle.script_in_order.specs.Folds.{IsLinesFold};
 ghost use Rattle.script_in_order.specs.Stamped.{ReadsStamped, end_in};
 ghost use Rattle.script_in_order.specs.Telling.{AppendsAndTells, TellsAt, tells_by, told_in};
@@ -26,6 +28,7 @@ use object_fold::{NodeFold, TxState, Verdict};
 use report_text::{Answer, PointPiece, Points, RaisePiece, SyncPiece};
 use script_text::Command;
 use std::alloc::{AllocError, Global};
+use tree_fold::{Told, TreeFold};
 use world_code::World;
 
 /// An object whose nodes are told something, and how a report shows that.
@@ -93,6 +96,39 @@ impl Shown for TxState {
 
     fn untold(own: Key) -> Verdict {
         Verdict::Committed { stamp: own.stamp }
+    }
+}
+
+impl Shown for TreeFold {
+    ghost shown = { change_answer };
+
+    ghost untold = { λ own. Done own.stamp };
+
+    fn show(
+        told: Told,
+        row: Option<u32>,
+        points: ListOf<PointPiece>,
+        read_stamp: u64,
+        raises: ListOf<RaisePiece>,
+        syncs: ListOf<SyncPiece>,
+    ) -> Answer {
+        let (failed, stamp) = match told {
+            Told::Done { stamp } => (None, stamp),
+            Told::Failed { stamp, why } => (Some(why), stamp),
+        };
+        Answer::Changed {
+            failed,
+            stamp,
+            row,
+            points,
+            read_stamp,
+            raises,
+            syncs,
+        }
+    }
+
+    fn untold(own: Key) -> Told {
+        Told::Done { stamp: own.stamp }
     }
 }
 

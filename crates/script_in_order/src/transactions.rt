@@ -1,8 +1,7 @@
 // Transactions: reads of transactional maps, and commits that rest on them.
-ghost use Rattle.std.specs.Prelude.{◌≡◌, ◌<◌, ◌++◌, List, [], Option, IsTrue, IfOk, IfSome, OnErr, Some, None, length, map};
-ghost use Rattle.log_node.specs.Sets.{set_of};
+ghost use Rattle.std.specs.Prelude.{◌≡◌, ◌<◌, ◌++◌, List, [], Option, IfOk, IfSome, OnErr, Some, None, length, map};
 ghost use Rattle.object_form.specs.Forms.{AreVersions};
-ghost use Rattle.script_text.specs.Fitting.{AreObjectColours, UsesObject, is_tx};
+ghost use Rattle.script_text.specs.Fitting.{AreObjectColours, UsesObject};
 ghost use Rattle.lawful_run.specs.Asks.{object_colours, keys_of_pairs};
 ghost use Rattle.world_code.specs.WorldView.{world_of};
 ghost use Rattle.script_meaning.specs.Objects.{shard_set};
@@ -15,7 +14,7 @@ ghost use Rattle.script_in_order.specs.Transacting.{LeavesForCommit};
 use crate::folds::{Fold, Folds};
 use crate::homes::refusing_home;
 use crate::lines_fold::LinesRead;
-use crate::object_appends::{copied_pairs, shard};
+use crate::object_appends::{all_colours, copied_pairs, shard};
 use crate::stamped::{Stamped, stamped_read};
 use crate::told::append_and_tell;
 use log_node::{Colours, Form, Keys, MAX_COLOURS, Pair, Pairs, Version, Versions};
@@ -39,21 +38,6 @@ pub fn transaction_of(what: &What) -> Option<u8>
             read: ReadUse::UsesUp,
         } => Some(object),
         _ => None,
-    }
-}
-
-// The set of all colours of a transactional map.
-fn all_colours(kind: &Kind) -> Colours
-    requires tx { IsTrue (is_tx kind.now) }
-    requires colours { AreObjectColours MAX_COLOURS (object_colours (Some kind.now)) }
-    ensures { result ≡ set_of (object_colours (Some kind.now)) }
-{
-    match kind {
-        Kind::Tx {
-            home: _home,
-            colours,
-        } => Colours::of(colours.as_slice()),
-        _ => unreachable!(),
     }
 }
 

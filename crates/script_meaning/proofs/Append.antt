@@ -1,6 +1,7 @@
 -- Appends.
 pub mod AppendCases
 pub mod AppendFinal
+pub mod AppendNext
 pub mod AppendOne
 pub mod AppendRuns
 pub mod AppendSeveral

@@ -18,6 +18,7 @@ use Rattle.script_meaning.specs.Telling.{ReadAnswer, appended_and_told}
 use Rattle.script_meaning.proofs.Run.GrantedCommands.{append_extends, telling_extends, single_runs}
 use Rattle.script_meaning.proofs.Run.DoneCommands.{done_extends}
 use Rattle.script_meaning.proofs.Run.InvariantHolds.{runs_lead}
+pub use Rattle.script_meaning.proofs.Tree.TreeLaws.{TreesReadBack}
 pub use Rattle.script_meaning.proofs.World.Lines.{final_stays}
 pub use Rattle.script_meaning.proofs.World.Rows.{standing_as}
 pub use Rattle.script_meaning.proofs.Run.HelpGrants.{single_same, all_cleared_same}
@@ -44,12 +45,12 @@ lead_shape script (next {commands} {state} command grants leads) =
     ∙ ((run_grows state.world more.steps).shape ∙ lead_shape script leads)
 
 -- what a kept read found is such as the text of a transaction may name
-pub reads_fit : ReadsBack → (script : Script) → IsFitting script → StopsAreLast script
+pub reads_fit : ReadsBack → TreesReadBack → (script : Script) → IsFitting script → StopsAreLast script
     → {commands : List Command} {state : State} → LeadTo script commands state → (rest : List Command)
     → script.commands ≡ commands ++ rest → (client object : ℕ) (versions : List Version)
     → state.reads client object ≡ Some versions → AreVersions versions
-reads_fit back script fits last leads rest is client object versions found =
-    (runs_lead back script fits last leads rest is).versions client object versions found
+reads_fit back tree script fits last leads rest is client object versions found =
+    (runs_lead back tree script fits last leads rest is).versions client object versions found
 
 -- what an append to one colour leads to, and that it leaves the shape
 pub single_to : (grants : Grants) (w : World) (command : Command) (text : List ℕ) (c : ℕ)

@@ -8,4 +8,5 @@ mod Move
 mod Read
 mod Stop
 mod Transaction
+mod Tree
 pub mod CallerLemmas

@@ -9,5 +9,7 @@ pub mod CausalGets
 pub mod Gets
 pub mod Telling
 pub mod Transactions
+pub mod Guards
+pub mod Trees
 pub mod Meaning
 pub mod Laws

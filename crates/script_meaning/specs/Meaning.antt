@@ -6,6 +6,7 @@ use Rattle.log_node.specs.declared.marks.Why.TheVariants.{Memory}
 use Rattle.log_node.specs.declared.marks.Mark.TheVariants as marks
 use Rattle.log_node.specs.declared.marks.ColourMark.{ColourMark}
 use Rattle.log_node.specs.Standings.{Standing, queue_of}
+use Rattle.tree_fold.specs.Readings.{below_root_of, make_of, remove_of, move_of}
 use Rattle.col_core.specs.History.{clock, entries, line}
 use Rattle.world_laws.specs.Worlds.{World, cut_after, base_after}
 use Rattle.world_laws.specs.Laws.{rows_of_region}
@@ -30,6 +31,8 @@ use Rattle.script_meaning.specs.Objects.{caller_in, refusing_home, put_into, del
 use Rattle.script_meaning.specs.Dequeues.{dequeued}
 use Rattle.script_meaning.specs.Gets.{got, got_keys}
 use Rattle.script_meaning.specs.Transactions.{read_in, committed}
+use Rattle.script_meaning.specs.Guards.{appended_next}
+use Rattle.script_meaning.specs.Trees.{changed, names_listed}
 
 -- the state after a command that was granted memory before it did anything
 abbrev pub done_one : List Object → Grants → State → Command → What → State
@@ -55,6 +58,14 @@ done_one objects grants state command (whats.Commit object pairs) =
 done_one objects grants state command (whats.Enq object value) =
     enqueued_in objects grants state command object value
 done_one objects grants state command (whats.Deq object) = dequeued objects grants state command object
+done_one objects grants state command (whats.Only colour text) = appended_next state command colour text
+done_one objects grants state command (whats.Mk object path value) =
+    changed objects grants state command object (make_of (below_root_of path) value)
+done_one objects grants state command (whats.Rm object path) =
+    changed objects grants state command object (remove_of (below_root_of path))
+done_one objects grants state command (whats.Mv object source target) =
+    changed objects grants state command object (move_of (below_root_of source) (below_root_of target))
+done_one objects grants state command (whats.Ls object path) = names_listed objects grants state command object path
 
 -- the same, unless the home of the command's object refuses it
 abbrev pub done_from : Option ℕ → List Object → Grants → State → Command → State

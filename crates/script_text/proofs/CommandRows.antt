@@ -5,7 +5,7 @@ use Rattle.script_text.specs.declared.script.Object.{Object}
 use Rattle.script_text.specs.declared.commands.Word.{Word}
 use Rattle.script_text.specs.declared.commands.Word.TheVariants as words
 use Rattle.script_text.specs.declared.table.Kinds.{Kinds}
-use Rattle.script_text.specs.declared.table.TheConstants.{MAP, ANY_MAP, TX, QUEUE}
+use Rattle.script_text.specs.declared.table.TheConstants.{MAP, ANY_MAP, TX, QUEUE, TREE}
 use Rattle.script_text.specs.declared.given.Given.{Given}
 use Rattle.script_text.specs.declared.item.Item.{Item}
 use Rattle.script_text.specs.Commands.{what_of}
@@ -23,7 +23,7 @@ has_object of made object ok = pick (slice_get made object) refl ok where
   pick None e f = no f
   pick (Some o) e f = record { found = o; there = e; kind = f }
 
--- a row for each word of an object: the object is there, and the keys and values behind it may be
+-- a row for each word of an object: the object is there, and the keys, values and paths behind it may be
 pub uses_of : (before : List Item) (args : List (List ℕ)) (word : Word) (given : Given)
     → SpellAll before (row_fields word) args nothing given → UsesObject (objects before) (what_of word given)
 uses_of before args words.Put given s =
@@ -62,4 +62,22 @@ uses_of before args words.Enq given s =
 uses_of before args words.Deq given s =
     subst (λ (g : Given). UsesObject (objects before) (what_of words.Deq g)) (sym (s.2.1 ∙ s.1.3))
     (has_object QUEUE (objects before) s.1.0 s.1.2, tt)
+uses_of before args words.Mk given s =
+    let whole = s.2.2.2.1 ∙ (s.2.2.1.3 ∙ ap (λ (g : Given). record g { value = s.2.2.1.0 })
+    (s.2.1.3 ∙ ap (λ (g : Given). record g { path = s.2.1.0 }) s.1.3)) in
+    subst (λ (g : Given). UsesObject (objects before) (what_of words.Mk g)) (sym whole)
+    (has_object TREE (objects before) s.1.0 s.1.2, (s.2.1.2, s.2.2.1.2))
+uses_of before args words.Rm given s =
+    let whole = s.2.2.1 ∙ (s.2.1.3 ∙ ap (λ (g : Given). record g { path = s.2.1.0 }) s.1.3) in
+    subst (λ (g : Given). UsesObject (objects before) (what_of words.Rm g)) (sym whole)
+    (has_object TREE (objects before) s.1.0 s.1.2, s.2.1.2)
+uses_of before args words.Mv given s =
+    let whole = s.2.2.2.1 ∙ (s.2.2.1.3 ∙ ap (λ (g : Given). record g { target = s.2.2.1.0 })
+    (s.2.1.3 ∙ ap (λ (g : Given). record g { path = s.2.1.0 }) s.1.3)) in
+    subst (λ (g : Given). UsesObject (objects before) (what_of words.Mv g)) (sym whole)
+    (has_object TREE (objects before) s.1.0 s.1.2, (s.2.1.2, s.2.2.1.2))
+uses_of before args words.Ls given s =
+    let whole = s.2.2.1 ∙ (s.2.1.3 ∙ ap (λ (g : Given). record g { path = s.2.1.0 }) s.1.3) in
+    subst (λ (g : Given). UsesObject (objects before) (what_of words.Ls g)) (sym whole)
+    (has_object TREE (objects before) s.1.0 s.1.2, s.2.1.2)
 uses_of before args _ given s = tt

@@ -14,6 +14,7 @@ use Rattle.script_text.specs.declared.table.Sort.{Sort}
 use Rattle.script_text.specs.declared.table.Field.{Field}
 use Rattle.script_text.specs.declared.table.Field.TheVariants as fields
 use Rattle.script_text.specs.declared.table.Kinds.{Kinds}
+use Rattle.script_text.specs.declared.table.TheConstants.{TX}
 use Rattle.script_text.specs.declared.table.Last.TheVariants as lasts
 use Rattle.script_text.specs.declared.given.Given.{Given}
 use Rattle.script_text.specs.declared.item.Item.{Item}
@@ -217,7 +218,7 @@ commit_given : (before : List Item) (args : List (List ℕ)) (given : Given) →
 unfolding given_at
 commit_given before args given e =
     let k = known_of before in
-    let tx : Kinds = record { map = false; tx = true; causal = false; queue = false } in
+    let tx : Kinds = TX in
     let a = bind_ok (taken_at k (fields.Object tx) (take 1 args) nothing) (λ next. given_at k (fields.Pairs 2 ∷ []) (drop 1 args) next) given e in
     let b = bind_ok (taken_at k (fields.Pairs 2) (drop 1 args) a.0) (λ next. given_at k [] [] next) given a.2 in
     let last : b.0 ≡ given = ok_is b.0 given b.2 in

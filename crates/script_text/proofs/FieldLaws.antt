@@ -1,22 +1,23 @@
 -- Keys, pairs, numbers and objects in a line are read exactly.
-use Rattle.std.proofs.Common.{◌≡◌, ℕ, zero, suc, ◌<◌, Bool, true, false, not, ◌&&◌, List, [], ◌∷◌, ◌++◌, length, get_or, map, Some, Result, Ok, Err, refl, sym, ap, ◌∙◌, inl, inr, arith}
+use Rattle.std.proofs.Common.{◌≡◌, ℕ, zero, suc, ◌<◌, Bool, true, false, not, ◌&&◌, List, [], ◌∷◌, ◌++◌, length, get_or, map, Option, None, Some, Result, Ok, Err, refl, sym, ap, ◌∙◌, inl, inr, arith}
 use Rattle.std.specs.Prelude.{slice_get}
 use Rattle.std.specs.List.{list_all}
+use Rattle.std.specs.Option.{option_map}
 use Rattle.std.specs.Str.{bytes_eq}
 use Rattle.std.proofs.lemmas.Bool.{cases_Bool, and_parts, not-true, not-false}
 use Rattle.std.proofs.lemmas.Slice.Eq.{bytes_eq-Decides}
-use Rattle.std.proofs.lemmas.List.{map_push, get_or-map}
+use Rattle.std.proofs.lemmas.List.{map_push, length-map}
 use Rattle.log_node.specs.declared.forms.Pair.{Pair}
 use Rattle.script_text.specs.declared.script.Object.{Object}
 use Rattle.script_text.specs.declared.script.Reason.{Reason}
 use Rattle.script_text.specs.declared.script.Reason.TheVariants as reasons
 use Rattle.script_text.specs.declared.table.Kinds.{Kinds}
 use Rattle.script_text.specs.Table.{is_of}
-use Rattle.script_text.specs.Pieces.{is_key, is_number, number_value, is_among, number_of, name_of}
+use Rattle.script_text.specs.Pieces.{is_key, is_path, is_number, number_value, is_among, number_of, name_of}
 use Rattle.script_text.specs.Grammar.{are_new_names, are_new_keys, is_one_of, has_equals, key_in, value_in, pair_of, SpellsNumber}
-use Rattle.script_text.specs.Readings.{◌>>=◌, refuse, each_at, value_at, key_at, new_pair_at, pair_at, digits_at, object_at, with_none, with_one, with_two}
+use Rattle.script_text.specs.Readings.{◌>>=◌, refuse, each_at, value_at, path_at, key_at, new_pair_at, pair_at, digits_at, object_at, with_none, with_one, with_two}
 use Rattle.script_text.proofs.EachLemmas.{refused_ok, bind_ok, ok_is}
-use Rattle.script_text.proofs.NameLemmas.{each_ok_cons, each_ok_nil, each_cons, each_nil, first_apart, new_parts}
+use Rattle.script_text.proofs.NameLemmas.{suc_some, number_found, each_ok_cons, each_ok_nil, each_cons, each_nil, first_apart, new_parts}
 
 pub value_ok : (field value : List ℕ) → value_at field ≡ Ok value → (is_key field ≡ true) × (value ≡ field)
 unfolding value_at
@@ -27,6 +28,16 @@ value_ok field value e =
 pub value_again : (field : List ℕ) → is_key field ≡ true → value_at field ≡ Ok field
 unfolding value_at
 value_again field h = rw h refl
+
+pub path_ok : (root : Bool) (field path : List ℕ) → path_at root field ≡ Ok path → (is_path root field ≡ true) × (path ≡ field)
+unfolding path_at
+path_ok root field path e =
+    let r = refused_ok (not (is_path root field)) reasons.BadPath (Ok field) path e in
+    (not-false (is_path root field) r.0, sym (ok_is field path r.1))
+
+pub path_again : (root : Bool) (field : List ℕ) → is_path root field ≡ true → path_at root field ≡ Ok field
+unfolding path_at
+path_again root field h = rw h refl
 
 pub key_ok : (earlier : List (List ℕ)) (field key : List ℕ) → key_at earlier field ≡ Ok key → (is_key field ≡ true) × (is_among earlier field ≡ false) × (key ≡ field)
 unfolding key_at
@@ -185,22 +196,39 @@ refused_suc true why i = refl
 refused_suc false why i = refl
 
 -- the first object of the name is the one that is read
-pub object_first : (of : Kinds) (os : List Object) (field : List ℕ) (i : ℕ) (o : Object) → i < length os → ((k : ℕ) → k < i → bytes_eq field (get_or (object_names_of os) k []) ≡ false)
-    → get_or os i o ≡ o → bytes_eq field o.name ≡ true → object_at of os field ≡ refuse (not (is_of of o.kind)) reasons.WrongObject (Ok i)
+pub object_found : (of : Kinds) (os : List Object) (field : List ℕ) (i : ℕ) (o : Object) → number_of (object_names_of os) field ≡ Some i → get_or os i o ≡ o
+    → object_at of os field ≡ refuse (not (is_of of o.kind)) reasons.WrongObject (Ok i)
 unfolding object_at
-object_first of [] field i o lt none at here = absurd (omega arith)
-object_first of (p ∷ os) field zero o lt none at here = rw (at, here) refl
-object_first of (p ∷ os) field (suc i) o lt none at here =
-    let later = object_first of os field i o (omega arith) (λ k h. none (suc k) (omega arith)) at here in
-    rw (none 0 (omega arith), later) (refused_suc (not (is_of of o.kind)) reasons.WrongObject i)
+object_found of [] field i o e there = absurd cc
+object_found of (p ∷ os) field i o e there = elim (cases_Bool (bytes_eq field p.name)) [
+  | inl same ↦
+      let first : Some 0 ≡ Some i = rw same at e in
+      let z : 0 ≡ i = cc in
+      let here : p ≡ o = rw (← z) at there in
+      rw (← z, same, here) refl
+  | inr apart ↦
+      let m = suc_some (number_of (object_names_of os) field) i (rw apart at e) in
+      let later = object_found of os field m.0 o m.1 (rw m.2 at there) in
+      rw (m.2, apart, later) (refused_suc (not (is_of of o.kind)) reasons.WrongObject m.0)
+]
 
-pub object_none : (of : Kinds) (os : List Object) (field : List ℕ) → ((k : ℕ) → k < length os → bytes_eq field (get_or (object_names_of os) k []) ≡ false) → object_at of os field ≡ Err reasons.UnknownObject
+pub object_unknown : (of : Kinds) (os : List Object) (field : List ℕ) → number_of (object_names_of os) field ≡ None → object_at of os field ≡ Err reasons.UnknownObject
 unfolding object_at
-object_none of [] field none = refl
-object_none of (o ∷ os) field none = rw (none 0 (omega arith), object_none of os field (λ k h. none (suc k) (omega arith))) refl
+object_unknown of [] field e = refl
+object_unknown of (o ∷ os) field e = elim (cases_Bool (bytes_eq field o.name)) [
+  | inl same ↦ absurd (no_zero 0 (rw same at e))
+  | inr apart ↦ rw (apart, object_unknown of os field (none_more (number_of (object_names_of os) field) (rw apart at e))) refl
+] where
+  no_zero : (n : ℕ) → Some n ≡ None → ⊥
+  no_zero n e = cc
 
-pub object_name_read : (os : List Object) (i : ℕ) (o : Object) → i < length os → o ≡ get_or os i o → get_or (object_names_of os) i [] ≡ o.name
-object_name_read os i o lt at = get_or-map (λ (o : Object). o.name) os i o [] lt ∙ ap (λ (o : Object). o.name) (sym at)
+  none_more : (o : Option ℕ) → option_map suc o ≡ None → o ≡ None
+  none_more None e = refl
+  none_more (Some j) e = absurd cc
+
+-- a number that is found is that of an object
+pub object_below : (os : List Object) (field : List ℕ) (i : ℕ) → number_of (object_names_of os) field ≡ Some i → i < length os
+object_below os field i e = let below = (number_found (object_names_of os) field i e).0 in let same = length-map os (λ (o : Object). o.name) in omega arith
 
 -- ---- so many fields
 

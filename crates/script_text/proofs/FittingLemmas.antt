@@ -289,6 +289,8 @@ kind_within before few fields.Text own given next s w = rw s.3 (record { set = w
 kind_within before few (fields.Object of) own given next s w = rw s.3 (record { set = w.set; colour = w.colour; region = w.region })
 kind_within before few fields.Key own given next s w = rw s.3 (record { set = w.set; colour = w.colour; region = w.region })
 kind_within before few fields.Value own given next s w = rw s.3 (record { set = w.set; colour = w.colour; region = w.region })
+kind_within before few (fields.Path root) own given next s w = rw s.3 (record { set = w.set; colour = w.colour; region = w.region })
+kind_within before few fields.Target own given next s w = rw s.3 (record { set = w.set; colour = w.colour; region = w.region })
 kind_within before few (fields.Keys most) own given next s w = rw s.1 (record { set = w.set; colour = w.colour; region = w.region })
 kind_within before few (fields.Pairs most) own given next s w = rw s.2 (record { set = w.set; colour = w.colour; region = w.region })
 kind_within before few (fields.Colours most) own given next s w = rw s.4 (record { set = w.set; colour = w.colour; region = w.region })
@@ -322,6 +324,7 @@ what_within before client words.Scan args given s e w =
     (has_given 1 (length (region_names before)) (length (colour_names before)) given (omega (arith, same, some)) w, w.set.low)
 what_within before client words.Pull args given s e w = (w.region, w.colour)
 what_within before client words.Trim args given s e w = w.colour
+what_within before client words.Only args given s e w = w.colour
 what_within before client _ args given s e w = tt
 
 is_within : (before : List Item) (client : ℕ) (args : List (List ℕ)) (what : What) → 0 < length (region_names before) → 0 < length (colour_names before) → length (colour_names before) ≤ MAX_COLOURS

@@ -3,7 +3,7 @@ use Rattle.std.proofs.Common.{◌≡◌, ℕ, zero, suc, ◌<◌, Bool, true, fa
 use Rattle.std.specs.List.{list_any, list_all}
 use Rattle.std.proofs.lemmas.Bool.{and_parts, ne_eqb, ltb-true, leb-true}
 use Rattle.script_text.specs.declared.item.Item.{Item}
-use Rattle.script_text.specs.Pieces.{is_name, is_key, is_text, is_number, is_between, is_letter_or_digit, is_among, name_of, names_in}
+use Rattle.script_text.specs.Pieces.{is_name, is_key, is_path, is_text, is_number, is_between, is_letter_or_digit, is_among, name_of, names_in}
 use Rattle.script_text.specs.Items.{region_names, colour_names}
 use Rattle.script_text.specs.Grammar.{are_new_names, are_new_keys, are_new_numbers, are_colours, is_region, is_colour, has_equals}
 use Rattle.script_text.specs.Known.{known_of}
@@ -29,6 +29,10 @@ between_full most field h =
 
 pub key_full : (field : List ℕ) → is_key field ≡ true → is_empty field ≡ false
 key_full field h = between_full 16 field (and_parts (is_between 1 16 (length field)) (list_all is_letter_or_digit field) h).0
+
+pub path_full : (root : Bool) (field : List ℕ) → is_path root field ≡ true → is_empty field ≡ false
+path_full root [] h = absurd cc
+path_full root (b ∷ bs) h = ne_eqb (suc (length bs)) 0 (λ e. omega arith)
 
 pub text_full : (field : List ℕ) → is_text field ≡ true → is_empty field ≡ false
 text_full field h = between_full 200 field (and_parts (is_between 1 200 (length field)) (list_all (is_between 33 126) field) h).0

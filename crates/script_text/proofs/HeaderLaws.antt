@@ -166,6 +166,7 @@ sort_kind sorts.Map given = refl
 sort_kind sorts.Tx given = refl
 sort_kind sorts.Causal given = refl
 sort_kind sorts.Queue given = refl
+sort_kind sorts.Tree given = refl
 
 sort_ok : (version : ℕ) (word : List ℕ) (sort : Sort) → sort_at version word ≡ Some sort → word ≡ sort_text sort
 sort_ok version word sort e =
@@ -434,6 +435,7 @@ few_fields : (before : List Item) (sort : Sort) (args : List (List ℕ)) (given 
     → length args ≤ (limits_of before).colours + 1
 few_fields before sorts.Map args given l s = few_sharded before args s.2.1.0 l s.2.1.1 s.2.1.2
 few_fields before sorts.Tx args given l s = few_sharded before args s.2.1.0 l s.2.1.1 s.2.1.2
+few_fields before sorts.Tree args given l s = few_sharded before args s.2.1.0 l s.2.1.1 s.2.1.2
 few_fields before sorts.Causal args given l s =
     let one = one_more args in
     let last = ap length s.2.0 in

@@ -22,15 +22,15 @@ use Rattle.script_text.specs.Table.{own_in, later_in, at_most, own_fields, later
 use Rattle.script_text.specs.Grammar.{Spells, SpellAll, are_colours, are_keys, are_pairs, are_new_keys, are_new_numbers, is_colour, has_equals, key_in, value_in, pair_of, is_one_of}
 use Rattle.script_text.specs.Faults.{when, kind_tests, colour_fields, key_field, pair_field}
 use Rattle.script_text.specs.Known.{known_of}
-use Rattle.script_text.specs.Readings.{each_at, number_at, colours_at, colours_set_at, text_at, value_at, key_at, pair_at, digits_at, object_at}
+use Rattle.script_text.specs.Readings.{each_at, number_at, colours_at, colours_set_at, text_at, value_at, path_at, key_at, pair_at, digits_at, object_at}
 use Rattle.script_text.specs.CommandReadings.{taken_at, given_at}
 use Rattle.script_text.proofs.EachLemmas.{refused_ok, bind_ok, ok_is}
 use Rattle.script_text.proofs.NameLemmas.{named, number_ok, number_at_again, colours_ok, colours_again}
-use Rattle.script_text.proofs.FieldLaws.{value_ok, value_again, key_ok, key_again, keys_ok, keys_again, ArePairFields, pairs_ok, pairs_again, digits_ok, digits_again, object_ok, object_again, object_within}
+use Rattle.script_text.proofs.FieldLaws.{value_ok, value_again, path_ok, path_again, key_ok, key_again, keys_ok, keys_again, ArePairFields, pairs_ok, pairs_again, digits_ok, digits_again, object_ok, object_again, object_within}
 use Rattle.script_text.proofs.KnownLaws.{IsLawful}
-use Rattle.script_text.proofs.TestLaws.{Tests, tests_ok, tests_refuse, tests_last, number_tests, text_tests, value_tests, key_tests, pair_tests, each_tests, colours_tests}
+use Rattle.script_text.proofs.TestLaws.{Tests, tests_ok, tests_refuse, tests_last, number_tests, text_tests, value_tests, path_tests, key_tests, pair_tests, each_tests, colours_tests}
 use Rattle.script_text.proofs.TestLaws as laws
-use Rattle.script_text.proofs.FullLaws.{is_empty, any_empty, number_full, key_full, text_full, cols_full, colour_full, region_full, name_of_full, keys_full, pairs_full, named_full}
+use Rattle.script_text.proofs.FullLaws.{is_empty, any_empty, number_full, key_full, path_full, text_full, cols_full, colour_full, region_full, name_of_full, keys_full, pairs_full, named_full}
 
 -- ---- texts, colours, objects and pairs
 
@@ -119,6 +119,12 @@ put_key given t = record given { key = t }
 unfoldable pub put_value : Given → List ℕ → Given
 put_value given t = record given { value = t }
 
+unfoldable pub put_path : Given → List ℕ → Given
+put_path given t = record given { path = t }
+
+unfoldable pub put_target : Given → List ℕ → Given
+put_target given t = record given { target = t }
+
 unfoldable pub put_keys : Given → List (List ℕ) → Given
 put_keys given ks = record given { keys = ks }
 
@@ -136,7 +142,7 @@ single (a ∷ args) h = refl
 
 pub kind_ok : (before : List Item) (field : Field) (args : List (List ℕ)) (given next : Given) → has field (own_fields field args) ≡ true
     → taken_at (known_of before) field (own_fields field args) given ≡ Ok next → Spells before field (own_fields field args) given next
-unfolding taken_at colours_set_at put_number put_colours put_set put_colour put_region put_object put_text put_key put_value put_keys put_pairs put_order
+unfolding taken_at colours_set_at put_number put_colours put_set put_colour put_region put_object put_text put_key put_value put_path put_target put_keys put_pairs put_order
 kind_ok before fields.Steps args given next h e =
     let f = first_in (take 1 args) in
     let b = bind_ok (digits_at 3 f) (λ n. Ok (put_number given n)) next e in
@@ -180,6 +186,16 @@ kind_ok before fields.Value args given next h e =
     let b = bind_ok (value_at f) (λ t. Ok (put_value given t)) next e in
     let v = value_ok f b.0 b.1 in
     (f, single args h, v.0, sym (ok_is (put_value given b.0) next b.2) ∙ ap (put_value given) v.1)
+kind_ok before (fields.Path root) args given next h e =
+    let f = first_in (take 1 args) in
+    let b = bind_ok (path_at root f) (λ t. Ok (put_path given t)) next e in
+    let p = path_ok root f b.0 b.1 in
+    (f, single args h, p.0, sym (ok_is (put_path given b.0) next b.2) ∙ ap (put_path given) p.1)
+kind_ok before fields.Target args given next h e =
+    let f = first_in (take 1 args) in
+    let b = bind_ok (path_at false f) (λ t. Ok (put_target given t)) next e in
+    let p = path_ok false f b.0 b.1 in
+    (f, single args h, p.0, sym (ok_is (put_target given b.0) next b.2) ∙ ap (put_target given) p.1)
 kind_ok before (fields.Keys most) args given next h e =
     let b = bind_ok (each_at key_at [] args) (λ ks. Ok (put_keys given ks)) next e in
     let k = keys_ok [] args b.0 b.1 in
@@ -212,6 +228,8 @@ kind_again before fields.Text own given next l s = (rw s.1 refl, rw (s.1, text_a
 kind_again before (fields.Object of) own given next l s = (rw s.1 refl, rw (s.1, object_read before of s.0 l s.2, s.3) refl)
 kind_again before fields.Key own given next l s = (rw s.1 refl, rw (s.1, key_again [] s.0 s.2 refl, s.3) refl)
 kind_again before fields.Value own given next l s = (rw s.1 refl, rw (s.1, value_again s.0 s.2, s.3) refl)
+kind_again before (fields.Path root) own given next l s = (rw s.1 refl, rw (s.1, path_again root s.0 s.2, s.3) refl)
+kind_again before fields.Target own given next l s = (rw s.1 refl, rw (s.1, path_again false s.0 s.2, s.3) refl)
 kind_again before (fields.Keys most) own given next l s =
     let p = and_parts (is_between 1 most (length own)) (are_new_keys [] own) s.0 in
     (p.0, rw (keys_again [] own p.1, s.1) refl)
@@ -233,6 +251,8 @@ kind_full before fields.Text own given next l s = rw (s.1, text_full s.0 s.2) re
 kind_full before (fields.Object of) own given next l s = rw (s.1, name_of_full [] (object_names before) s.0 l.objects (object_within of (objects before) s.0 s.2)) refl
 kind_full before fields.Key own given next l s = rw (s.1, key_full s.0 s.2) refl
 kind_full before fields.Value own given next l s = rw (s.1, key_full s.0 s.2) refl
+kind_full before (fields.Path root) own given next l s = rw (s.1, path_full root s.0 s.2) refl
+kind_full before fields.Target own given next l s = rw (s.1, path_full false s.0 s.2) refl
 kind_full before (fields.Keys most) own given next l s = keys_full [] own (and_parts (is_between 1 most (length own)) (are_new_keys [] own) s.0).1
 kind_full before (fields.Pairs most) own given next l s = pairs_full own s.0
 kind_full before (fields.Colours most) own given next l s =
@@ -241,7 +261,7 @@ kind_full before (fields.Colours most) own given next l s =
 
 -- the first test that fails is the reason of the reading
 pub kind_faults : (before : List Item) (field : Field) (own : List (List ℕ)) (given : Given) → Tests (kind_tests before field own) (taken_at (known_of before) field own given)
-unfolding taken_at colours_set_at digits_at put_number put_colours put_set put_colour put_region put_object put_text put_key put_value put_keys put_pairs put_order
+unfolding taken_at colours_set_at digits_at put_number put_colours put_set put_colour put_region put_object put_text put_key put_value put_path put_target put_keys put_pairs put_order
 kind_faults before fields.Steps own given =
     let f = first_in own in
     tests_last (when (not (is_number 3 f)) reasons.BadNumber ∷ []) (digits_at 3 f) (put_number given)
@@ -256,6 +276,8 @@ kind_faults before fields.Text own given = tests_last (kind_tests before fields.
 kind_faults before (fields.Object of) own given = tests_last (kind_tests before (fields.Object of) own) (object_at of (objects before) (first_in own)) (put_object given) (laws.object_tests before of (first_in own))
 kind_faults before fields.Key own given = tests_last (kind_tests before fields.Key own) (key_at [] (first_in own)) (put_key given) (key_tests [] (first_in own))
 kind_faults before fields.Value own given = tests_last (kind_tests before fields.Value own) (value_at (first_in own)) (put_value given) (value_tests (first_in own))
+kind_faults before (fields.Path root) own given = tests_last (kind_tests before (fields.Path root) own) (path_at root (first_in own)) (put_path given) (path_tests root (first_in own))
+kind_faults before fields.Target own given = tests_last (kind_tests before fields.Target own) (path_at false (first_in own)) (put_target given) (path_tests false (first_in own))
 kind_faults before (fields.Keys most) own given = tests_last (kind_tests before (fields.Keys most) own) (each_at key_at [] own) (put_keys given) (each_tests key_field key_at key_tests [] own)
 kind_faults before (fields.Pairs most) own given = tests_last (kind_tests before (fields.Pairs most) own) (each_at pair_at [] own) (put_pairs given) (each_tests pair_field pair_at pair_tests [] own)
 kind_faults before (fields.Colours most) own given = tests_last (colour_fields before own) (colours_at (colour_names before) own) (put_order given) (colours_tests before own)

@@ -25,7 +25,7 @@ any_fields field (o ∷ fields) = rw (any_fields field fields) refl
 
 -- ---- numbers of names
 
-suc_some : (o : Option ℕ) (n : ℕ) → option_map suc o ≡ Some n → (m : ℕ) × (o ≡ Some m) × (n ≡ suc m)
+pub suc_some : (o : Option ℕ) (n : ℕ) → option_map suc o ≡ Some n → (m : ℕ) × (o ≡ Some m) × (n ≡ suc m)
 suc_some None n e = absurd cc
 suc_some (Some m) n e = (m, refl, cc)
 

@@ -79,6 +79,10 @@ kind_is before args sorts.Tx given s =
     let whole = s.2.2.1 ∙ (s.2.1.4 ∙ ap (λ (g : Given). record g { order = s.2.1.0 }) s.1.3) in
     subst (λ (g : Given). IsKindWithin (length (region_names before)) (length (colour_names before)) (kind_of sorts.Tx g))
     (sym whole) (ltb-true _ _ s.1.2, colours_within before s.2.1.0 s.2.1.2)
+kind_is before args sorts.Tree given s =
+    let whole = s.2.2.1 ∙ (s.2.1.4 ∙ ap (λ (g : Given). record g { order = s.2.1.0 }) s.1.3) in
+    subst (λ (g : Given). IsKindWithin (length (region_names before)) (length (colour_names before)) (kind_of sorts.Tree g))
+    (sym whole) (ltb-true _ _ s.1.2, colours_within before s.2.1.0 s.2.1.2)
 kind_is before args sorts.Causal given s =
     subst (λ (g : Given). IsKindWithin (length (region_names before)) (length (colour_names before)) (kind_of sorts.Causal g))
     (sym (s.2.1 ∙ s.1.3)) (ltb-true _ _ s.1.2)

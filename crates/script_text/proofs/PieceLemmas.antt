@@ -1,14 +1,12 @@
--- How lines and numbers of names are found from the front.
-use Rattle.std.proofs.Common.{◌≡◌, ◌≢◌, sym, ap, ℕ, zero, suc, ◌+◌, ◌<◌, ◌≤◌, true, false, eqb, List, [], ◌∷◌, length, get_or, take, drop, Some, None, refl, arith, add-one, lit<, ◌*◌, ◌-◌, ◌^◌, leb, ltb, inl, inr}
+-- How lines and names are found from the front.
+use Rattle.std.proofs.Common.{◌≡◌, ℕ, zero, suc, ◌+◌, ◌<◌, ◌≤◌, true, false, eqb, List, [], ◌∷◌, length, get_or, take, drop, refl, arith, add-one, lit<, ◌*◌, ◌-◌, ◌^◌, leb, ltb, inl, inr}
 use Rattle.std.specs.List.{list_any, list_all}
-use Rattle.std.specs.Str.{bytes_eq}
 use Rattle.std.proofs.Math.Bool.{and-false}
 use Rattle.std.proofs.lemmas.Bool.{ne_eqb, eq-eqb, and_parts, leb-true, le-leb, both_ways, false_from_ne_true, eqb-false, cases_Bool, ltb-true, ltb-false}
 use Rattle.std.proofs.lemmas.List.{take_all}
-use Rattle.std.proofs.lemmas.Slice.Eq.{bytes_eq-Decides}
 use Rattle.std.proofs.lemmas.List.Sums.{fold_more}
 use Rattle.std.proofs.Math.Nat.{pow-le-pow_right, pow-suc}
-use Rattle.script_text.specs.Pieces.{lines_of, fields_of, names_in, is_between, is_ascii_line, number_of, is_digit, number_value}
+use Rattle.script_text.specs.Pieces.{lines_of, fields_of, names_in, is_between, is_ascii_line, is_digit, number_value}
 
 pub lines_first : (bs : List ℕ) (i : ℕ) → i < length bs → ((k : ℕ) → k < i → get_or bs k 0 ≡ 10 → ⊥) → get_or bs i 0 ≡ 10 → lines_of bs ≡ take i bs ∷ lines_of (drop (i + 1) bs)
 lines_first [] i lt none here = absurd (omega arith)
@@ -24,24 +22,6 @@ lines_last b (c ∷ bs) none = rw (ne_eqb b 10 (none 0 (omega arith)), lines_las
 pub lines_all : (bs : List ℕ) → 0 < length bs → ((k : ℕ) → k < length bs → get_or bs k 0 ≡ 10 → ⊥) → lines_of bs ≡ bs ∷ []
 lines_all [] some none = absurd (omega arith)
 lines_all (b ∷ bs) some none = lines_last b bs none
-
-pub number_first : (names : List (List ℕ)) (name : List ℕ) (i : ℕ) → i < length names → ((k : ℕ) → k < i → bytes_eq name (get_or names k []) ≡ false) → bytes_eq name (get_or names i []) ≡ true → number_of names name ≡ Some i
-number_first [] name i lt none here = absurd (omega arith)
-number_first (first ∷ names) name zero lt none here = rw here refl
-number_first (first ∷ names) name (suc i) lt none here =
-    rw (none 0 (omega arith), number_first names name i (omega arith) (λ k h. none (suc k) (omega arith)) here) refl
-
-pub number_none : (names : List (List ℕ)) (name : List ℕ) → ((k : ℕ) → k < length names → bytes_eq name (get_or names k []) ≡ false) → number_of names name ≡ None
-number_none [] name none = refl
-number_none (first ∷ names) name none = rw (none 0 (omega arith), number_none names name (λ k h. none (suc k) (omega arith))) refl
-
--- ---- names that differ
-
-pub unlike_length : (xs ys : List ℕ) → length xs ≢ length ys → false ≡ bytes_eq xs ys
-unlike_length xs ys apart = sym (false_from_ne_true (bytes_eq xs ys) (λ e. apart (ap length ((bytes_eq-Decides xs ys).0 e))))
-
-pub unlike_at : (xs ys : List ℕ) (i : ℕ) → get_or xs i 0 ≢ get_or ys i 0 → false ≡ bytes_eq xs ys
-unlike_at xs ys i apart = sym (false_from_ne_true (bytes_eq xs ys) (λ e. apart (ap (λ (zs : List ℕ). get_or zs i 0) ((bytes_eq-Decides xs ys).0 e))))
 
 -- ---- numbers
 

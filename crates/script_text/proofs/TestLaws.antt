@@ -10,11 +10,11 @@ use Rattle.script_text.specs.declared.script.Reason.TheVariants as reasons
 use Rattle.script_text.specs.declared.table.Kinds.{Kinds}
 use Rattle.script_text.specs.declared.item.Item.{Item}
 use Rattle.script_text.specs.Table.{is_of}
-use Rattle.script_text.specs.Pieces.{is_name, is_key, is_text, is_among, number_of}
+use Rattle.script_text.specs.Pieces.{is_name, is_key, is_path, is_text, is_among, number_of}
 use Rattle.script_text.specs.Items.{colour_names, objects}
 use Rattle.script_text.specs.Grammar.{has_equals, key_in, value_in}
-use Rattle.script_text.specs.Faults.{when, first_of, each_field, new_name, colour_field, colour_fields, text_field, value_field, key_field, pair_field, is_unknown, is_other, object_field}
-use Rattle.script_text.specs.Readings.{◌>>=◌, refuse, found_or, number_at, new_name_at, each_at, colour_at, text_at, value_at, key_at, new_pair_at, pair_at, object_at, with_none, with_one, with_two}
+use Rattle.script_text.specs.Faults.{when, first_of, each_field, new_name, colour_field, colour_fields, text_field, value_field, path_field, key_field, pair_field, is_unknown, is_other, object_field}
+use Rattle.script_text.specs.Readings.{◌>>=◌, refuse, found_or, number_at, new_name_at, each_at, colour_at, text_at, value_at, path_at, key_at, new_pair_at, pair_at, object_at, with_none, with_one, with_two}
 use Rattle.script_text.proofs.EachLemmas.{Reader}
 
 -- where a value is read no test holds; else the reason is that of the first that does
@@ -84,6 +84,10 @@ text_tests field = tests_refuse (not (is_text field)) reasons.TextLength [] (Ok 
 pub value_tests : (field : List ℕ) → Tests (value_field field) (value_at field)
 unfolding value_at
 value_tests field = tests_refuse (not (is_key field)) reasons.BadValue [] (Ok field) (λ _. tests_ok field)
+
+pub path_tests : (root : Bool) (field : List ℕ) → Tests (path_field root field) (path_at root field)
+unfolding path_at
+path_tests root field = tests_refuse (not (is_path root field)) reasons.BadPath [] (Ok field) (λ _. tests_ok field)
 
 pub key_tests : (earlier : List (List ℕ)) (field : List ℕ) → Tests (key_field earlier field) (key_at earlier field)
 unfolding key_at

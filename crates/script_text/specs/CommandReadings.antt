@@ -1,5 +1,5 @@
 -- What a command line gives.
-use Rattle.std.specs.Prelude.{ℕ, ◌+◌, ◌*◌, ◌==◌, nat_lt, not, List, [], ◌∷◌, Option, Some, None, Result, Ok, Err}
+use Rattle.std.specs.Prelude.{false, ℕ, ◌+◌, ◌*◌, ◌==◌, nat_lt, not, List, [], ◌∷◌, Option, Some, None, Result, Ok, Err}
 use Rattle.std.specs.List.{list_any}
 use Rattle.script_text.specs.declared.commands.What.{What}
 use Rattle.script_text.specs.declared.commands.What.TheVariants as whats
@@ -19,7 +19,7 @@ use Rattle.script_text.specs.Pieces.{first_in, names_in}
 use Rattle.script_text.specs.Reads.{holds}
 use Rattle.script_text.specs.Table.{word_at, row_fields, last_of, own_fields, later_fields, fits, nothing}
 use Rattle.script_text.specs.Commands.{what_of}
-use Rattle.script_text.specs.Readings.{◌>>=◌, refuse, number_at, each_at, colours_at, colours_set_at, text_at, value_at, key_at, pair_at, digits_at, object_at}
+use Rattle.script_text.specs.Readings.{◌>>=◌, refuse, number_at, each_at, colours_at, colours_set_at, text_at, value_at, path_at, key_at, pair_at, digits_at, object_at}
 
 -- what is given after the fields of one kind
 unfoldable pub taken_at : Known → Field → List (List ℕ) → Given → Result Given Reason
@@ -31,6 +31,8 @@ taken_at known fields.Text own given = text_at (first_in own) >>= λ t. Ok (reco
 taken_at known (fields.Object of) own given = object_at of known.script.objects (first_in own) >>= λ o. Ok (record given { object = o })
 taken_at known fields.Key own given = key_at [] (first_in own) >>= λ k. Ok (record given { key = k })
 taken_at known fields.Value own given = value_at (first_in own) >>= λ v. Ok (record given { value = v })
+taken_at known (fields.Path root) own given = path_at root (first_in own) >>= λ p. Ok (record given { path = p })
+taken_at known fields.Target own given = path_at false (first_in own) >>= λ p. Ok (record given { target = p })
 taken_at known (fields.Keys most) own given = each_at key_at [] own >>= λ ks. Ok (record given { keys = ks })
 taken_at known (fields.Pairs most) own given = each_at pair_at [] own >>= λ ps. Ok (record given { pairs = ps })
 taken_at known (fields.Colours most) own given = colours_at known.script.colours own >>= λ ns. Ok (record given { order = ns })

@@ -4,7 +4,7 @@ use Rattle.script_text.specs.declared.commands.What.{What}
 use Rattle.script_text.specs.declared.commands.What.TheVariants as whats
 use Rattle.script_text.specs.declared.commands.Word.{Word}
 use Rattle.script_text.specs.declared.commands.Word.TheVariants as words
-use Rattle.script_text.specs.declared.commands.TheConstants.{APPEND, STOP, SYNC, SCAN, PULL, TRIM, PUT, GET, DEL, PUTALL, GETALL, READ, COMMIT, ENQ, DEQ}
+use Rattle.script_text.specs.declared.commands.TheConstants.{APPEND, STOP, SYNC, SCAN, PULL, TRIM, PUT, GET, DEL, PUTALL, GETALL, READ, COMMIT, ENQ, DEQ, ONLY, MK, RM, MV, LS}
 use Rattle.script_text.specs.declared.given.Given.{Given}
 use Rattle.script_text.specs.declared.table.Field.{Field}
 use Rattle.script_text.specs.declared.table.Last.{Last}
@@ -13,7 +13,7 @@ use Rattle.script_text.specs.declared.uses.NodeOf.TheVariants.{NoNode, OneColour
 use Rattle.script_text.specs.declared.uses.ReadUse.TheVariants.{Leaves, Takes, UsesUp}
 use Rattle.script_text.specs.declared.uses.Use.{Use}
 use Rattle.script_text.specs.declared.uses.Use.TheVariants.{OfLog, OfObject}
-use Rattle.script_text.specs.Contents.{Said, Nothing, SaysText, SaysKey, SaysValue, SaysPair, SaysKeys, SaysPairs}
+use Rattle.script_text.specs.Contents.{Said, Nothing, SaysText, SaysKey, SaysValue, SaysPair, SaysKeys, SaysPairs, SaysPath, SaysFolder, SaysPathValue, SaysPaths}
 
 -- a word, its text, the fields after it, what is tested then, and the first version that has the word
 abbrev pub Row : Type 0
@@ -36,6 +36,11 @@ row_of words.Read = READ
 row_of words.Commit = COMMIT
 row_of words.Enq = ENQ
 row_of words.Deq = DEQ
+row_of words.Only = ONLY
+row_of words.Mk = MK
+row_of words.Rm = RM
+row_of words.Mv = MV
+row_of words.Ls = LS
 
 -- the word of what a command asks for
 abbrev pub word_of : What → Word
@@ -54,6 +59,11 @@ word_of (whats.Read _ _) = words.Read
 word_of (whats.Commit _ _) = words.Commit
 word_of (whats.Enq _ _) = words.Enq
 word_of (whats.Deq _) = words.Deq
+word_of (whats.Only _ _) = words.Only
+word_of (whats.Mk _ _ _) = words.Mk
+word_of (whats.Rm _ _) = words.Rm
+word_of (whats.Mv _ _ _) = words.Mv
+word_of (whats.Ls _ _) = words.Ls
 
 -- what a command asks for, by what its fields give
 abbrev pub what_of : Word → Given → What
@@ -72,6 +82,11 @@ what_of words.Read g = whats.Read g.object g.keys
 what_of words.Commit g = whats.Commit g.object g.pairs
 what_of words.Enq g = whats.Enq g.object g.value
 what_of words.Deq g = whats.Deq g.object
+what_of words.Only g = whats.Only g.colour g.text
+what_of words.Mk g = whats.Mk g.object g.path g.value
+what_of words.Rm g = whats.Rm g.object g.path
+what_of words.Mv g = whats.Mv g.object g.path g.target
+what_of words.Ls g = whats.Ls g.object g.path
 
 -- what it has to do with an object, and with the reads that commits may use up
 abbrev pub use_of : What → Use
@@ -90,6 +105,11 @@ use_of (whats.Read object keys) = OfObject object Takes
 use_of (whats.Commit object pairs) = OfObject object UsesUp
 use_of (whats.Enq object value) = OfObject object Leaves
 use_of (whats.Deq object) = OfObject object Leaves
+use_of (whats.Only colour text) = OfLog false
+use_of (whats.Mk object path value) = OfObject object Leaves
+use_of (whats.Rm object path) = OfObject object Leaves
+use_of (whats.Mv object source target) = OfObject object Leaves
+use_of (whats.Ls object path) = OfObject object Leaves
 
 -- which node it appends
 abbrev pub node_of : What → NodeOf
@@ -108,6 +128,11 @@ node_of (whats.Read object keys) = NoNode
 node_of (whats.Commit object pairs) = Several
 node_of (whats.Enq object value) = Several
 node_of (whats.Deq object) = Several
+node_of (whats.Only colour text) = OneColour
+node_of (whats.Mk object path value) = OneColour
+node_of (whats.Rm object path) = OneColour
+node_of (whats.Mv object source target) = Several
+node_of (whats.Ls object path) = NoNode
 
 -- what it says, beside what it is about
 abbrev pub content_of : What → Said
@@ -126,3 +151,8 @@ content_of (whats.Read object keys) = SaysKeys keys
 content_of (whats.Commit object pairs) = SaysPairs pairs
 content_of (whats.Enq object value) = SaysValue value
 content_of (whats.Deq object) = Nothing
+content_of (whats.Only colour text) = SaysText text
+content_of (whats.Mk object path value) = SaysPathValue path value
+content_of (whats.Rm object path) = SaysPath path
+content_of (whats.Mv object source target) = SaysPaths source target
+content_of (whats.Ls object path) = SaysFolder path

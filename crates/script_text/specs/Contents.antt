@@ -13,6 +13,14 @@ pub data Said : Type 0 where
   SaysPair : (key value : List ℕ) → Said
   SaysKeys : (keys : List (List ℕ)) → Said
   SaysPairs : (pairs : List Pair) → Said
+  -- a path below the root
+  SaysPath : (path : List ℕ) → Said
+  -- a path, which may be the root
+  SaysFolder : (path : List ℕ) → Said
+  -- a path below the root, and its value
+  SaysPathValue : (path value : List ℕ) → Said
+  -- two paths below the root
+  SaysPaths : (source target : List ℕ) → Said
 
 -- what is lent of a command, as bytes
 abbrev pub said_by : Content → Said
@@ -23,3 +31,7 @@ said_by (contents.Value value) = SaysValue value.now
 said_by (contents.Pair key value) = SaysPair key.now value.now
 said_by (contents.Keys keys) = SaysKeys keys.now
 said_by (contents.Pairs pairs) = SaysPairs pairs.now
+said_by (contents.Path path) = SaysPath path.now
+said_by (contents.Folder path) = SaysFolder path.now
+said_by (contents.PathValue path value) = SaysPathValue path.now value.now
+said_by (contents.Paths source target) = SaysPaths source.now target.now

@@ -1,5 +1,5 @@
 -- What holds of the numbers in a script: each names something, and the shape keeps its limits.
-use Rattle.std.specs.Prelude.{◌≡◌, Bool, IsTrue, ℕ, ◌+◌, ◌*◌, ◌<◌, ◌≤◌, ◌^◌, List, [], ◌∷◌, length, Some, slice_get}
+use Rattle.std.specs.Prelude.{◌≡◌, Bool, true, false, IsTrue, ℕ, ◌+◌, ◌*◌, ◌<◌, ◌≤◌, ◌^◌, List, [], ◌∷◌, length, Some, slice_get}
 use Rattle.std.specs.List.{All}
 use Rattle.log_node.specs.declared.node.Shape.{Shape}
 use Rattle.log_node.specs.declared.ids.Colours.{Colours}
@@ -16,13 +16,13 @@ use Rattle.script_text.specs.declared.limits.Limits.{Limits}
 use Rattle.script_text.specs.declared.table.Field.{Field}
 use Rattle.script_text.specs.declared.table.Field.TheVariants as fields
 use Rattle.script_text.specs.declared.table.Kinds.{Kinds}
-use Rattle.script_text.specs.declared.table.TheConstants.{NONE, MAP, ANY_MAP, TX, QUEUE}
-use Rattle.script_text.specs.Contents.{Said, SaysKey, SaysValue, SaysPair, SaysKeys, SaysPairs}
+use Rattle.script_text.specs.declared.table.TheConstants.{NONE, MAP, ANY_MAP, TX, QUEUE, TREE}
+use Rattle.script_text.specs.Contents.{Said, SaysKey, SaysValue, SaysPair, SaysKeys, SaysPairs, SaysPath, SaysFolder, SaysPathValue, SaysPaths}
 use Rattle.script_text.specs.Commands.{word_of, use_of, content_of}
 use Rattle.script_text.specs.Table.{row_fields, is_of}
 use Rattle.script_text.specs.declared.uses.Use.{Use}
 use Rattle.script_text.specs.declared.uses.Use.TheVariants.{OfLog, OfObject}
-use Rattle.script_text.specs.Pieces.{is_key}
+use Rattle.script_text.specs.Pieces.{is_key, is_path}
 use Rattle.script_text.specs.Versions.{is_version, limits_in}
 use Rattle.script_text.specs.Grammar.{are_keys, are_pairs}
 
@@ -55,6 +55,7 @@ IsWithin regions colours (whats.Sync colour) = colour < colours
 IsWithin regions colours (whats.Scan set) = HasColours 1 set × AreBelow colours set
 IsWithin regions colours (whats.Pull region colour) = (region < regions) × (colour < colours)
 IsWithin regions colours (whats.Trim colour) = colour < colours
+IsWithin regions colours (whats.Only colour text) = colour < colours
 IsWithin regions colours _ = Unit {0}
 
 -- one colour or more, each below this number
@@ -68,6 +69,7 @@ IsKindWithin regions colours (kinds.Map home of) = (home < regions) × AreObject
 IsKindWithin regions colours (kinds.Tx home of) = (home < regions) × AreObjectColours colours of
 IsKindWithin regions colours (kinds.Causal colour) = colour < colours
 IsKindWithin regions colours (kinds.Queue home colour) = (home < regions) × (colour < colours)
+IsKindWithin regions colours (kinds.Tree home of) = (home < regions) × AreObjectColours colours of
 
 -- a map with a home
 abbrev pub is_map : Kind → Bool
@@ -84,6 +86,10 @@ is_tx = is_of TX
 -- a queue
 abbrev pub is_queue : Kind → Bool
 is_queue = is_of QUEUE
+
+-- a tree
+abbrev pub is_tree : Kind → Bool
+is_tree = is_of TREE
 
 -- there is an object with this number, of such a kind
 pub record HasObject (objects : List Object) (object : ℕ) (test : Kind → Bool) : Type 0 where
@@ -107,16 +113,20 @@ most_keys (fields.Keys most ∷ _) = most
 most_keys (fields.Pairs most ∷ _) = most
 most_keys (_ ∷ later) = most_keys later
 
--- keys and values may be such, and of several keys there are at most so many
+-- keys, values and paths may be such, and of several keys there are at most so many
 abbrev pub AreWords : ℕ → Said → Type 0
 AreWords most (SaysKey key) = IsTrue (is_key key)
 AreWords most (SaysValue value) = IsTrue (is_key value)
 AreWords most (SaysPair key value) = IsTrue (is_key key) × IsTrue (is_key value)
 AreWords most (SaysKeys keys) = IsTrue (are_keys most keys)
 AreWords most (SaysPairs pairs) = IsTrue (are_pairs most pairs)
+AreWords most (SaysPath path) = IsTrue (is_path false path)
+AreWords most (SaysFolder path) = IsTrue (is_path true path)
+AreWords most (SaysPathValue path value) = IsTrue (is_path false path) × IsTrue (is_key value)
+AreWords most (SaysPaths source target) = IsTrue (is_path false source) × IsTrue (is_path false target)
 AreWords most _ = Unit {0}
 
--- the keys and values of a command may be
+-- the keys, values and paths of a command may be
 abbrev pub HasWords : What → Type 0
 HasWords what = AreWords (most_keys (row_fields (word_of what))) (content_of what)
 

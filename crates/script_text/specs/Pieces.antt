@@ -1,9 +1,9 @@
 -- The pieces that stand in a script's bytes: lines, fields, names, keys, texts and numbers.
 use Rattle.std.specs.Prelude.{Bool, false, ℕ, zero, suc, ◌+◌, ◌*◌, ◌-◌, ◌==◌, nat_le, nat_lt, ◌&&◌, ◌||◌, List, [], ◌∷◌, length, Option, Some, None, if◌then◌else◌}
 use Rattle.std.specs.List.{list_any, list_all, fold, slice_split, onto_first}
-use Rattle.std.specs.Str.{bytes_eq}
 use Rattle.std.specs.Option.{option_map}
-use Rattle.script_text.specs.declared.limits.TheConstants.{MAX_NAME, MAX_KEY}
+use Rattle.std.specs.Str.{bytes_eq}
+use Rattle.script_text.specs.declared.limits.TheConstants.{MAX_NAME, MAX_KEY, MAX_PATH_NAMES, MAX_PATH_NAME}
 use Rattle.log_node.specs.declared.limits.TheConstants.{MAX_TEXT}
 
 -- the lines: each ends with a line feed or with the bytes
@@ -52,6 +52,25 @@ is_name (b ∷ bs) = is_letter b && list_all is_letter_or_digit bs && nat_lt (le
 -- a key or a value of an object: 1 to 16 letters and digits
 abbrev pub is_key : List ℕ → Bool
 is_key bytes = is_between 1 MAX_KEY (length bytes) && list_all is_letter_or_digit bytes
+
+-- a name in a path of a tree: 1 to 8 letters and digits
+abbrev pub is_path_name : List ℕ → Bool
+is_path_name bytes = is_between 1 MAX_PATH_NAME (length bytes) && list_all is_letter_or_digit bytes
+
+-- the names between slashes
+abbrev pub path_names : List ℕ → List (List ℕ)
+path_names bytes = slice_split (λ b. b == 47) bytes
+
+-- behind the first slash of a path: 1 to 4 names, or nothing where the path may be the root
+abbrev pub is_path_behind : Bool → List ℕ → Bool
+is_path_behind root [] = root
+is_path_behind root (b ∷ bs) =
+    nat_le (length (path_names (b ∷ bs))) MAX_PATH_NAMES && list_all is_path_name (path_names (b ∷ bs))
+
+-- a path of a tree: a slash before each name; where it may be the root, also a slash alone
+abbrev pub is_path : Bool → List ℕ → Bool
+is_path root [] = false
+is_path root (b ∷ bs) = (b == 47) && is_path_behind root bs
 
 -- 1 to 200 bytes, none a blank
 abbrev pub is_text : List ℕ → Bool

@@ -11,7 +11,7 @@ use Rattle.script_text.specs.declared.script.Reason.TheVariants as reasons
 use Rattle.script_text.specs.declared.fault.Fault.{Fault}
 use Rattle.script_text.specs.declared.fault.Fault.TheVariants as faults
 use Rattle.script_text.specs.declared.table.Kinds.{Kinds}
-use Rattle.script_text.specs.Pieces.{is_name, is_key, is_text, is_number, number_value, is_among, number_of}
+use Rattle.script_text.specs.Pieces.{is_name, is_key, is_path, is_text, is_number, number_value, is_among, number_of}
 use Rattle.script_text.specs.Table.{is_of}
 use Rattle.script_text.specs.Grammar.{has_equals, key_in, value_in}
 
@@ -99,6 +99,10 @@ text_at field = refuse (not (is_text field)) reasons.TextLength (Ok field)
 -- a value of an object
 unfoldable pub value_at : List ℕ → Result (List ℕ) Reason
 value_at field = refuse (not (is_key field)) reasons.BadValue (Ok field)
+
+-- a path of a tree, which may be the root
+unfoldable pub path_at : Bool → List ℕ → Result (List ℕ) Reason
+path_at root field = refuse (not (is_path root field)) reasons.BadPath (Ok field)
 
 -- a key that is none of the earlier ones
 unfoldable pub key_at : List (List ℕ) → List ℕ → Result (List ℕ) Reason

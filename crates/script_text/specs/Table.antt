@@ -10,7 +10,7 @@ use Rattle.script_text.specs.declared.table.Field.TheVariants as fields
 use Rattle.script_text.specs.declared.table.Kinds.{Kinds}
 use Rattle.script_text.specs.declared.table.Last.{Last}
 use Rattle.script_text.specs.declared.commands.TheConstants.{WORDS}
-use Rattle.script_text.specs.declared.table.TheConstants.{MAP_LINE, TX_LINE, CAUSAL_LINE, QUEUE_LINE, SORTS}
+use Rattle.script_text.specs.declared.table.TheConstants.{MAP_LINE, TX_LINE, CAUSAL_LINE, QUEUE_LINE, TREE_LINE, SORTS}
 use Rattle.script_text.specs.declared.table.Sort.{Sort}
 use Rattle.script_text.specs.declared.table.Sort.TheVariants as sorts
 use Rattle.script_text.specs.declared.given.Given.{Given}
@@ -43,6 +43,7 @@ is_of of (kinds.Map _ _) = of.map
 is_of of (kinds.Tx _ _) = of.tx
 is_of of (kinds.Causal _) = of.causal
 is_of of (kinds.Queue _ _) = of.queue
+is_of of (kinds.Tree _ _) = of.tree
 
 -- how many last fields a kind of field may take, or nothing where it is one field
 abbrev pub at_most : Field → Option ℕ
@@ -54,6 +55,8 @@ at_most fields.Text = None
 at_most (fields.Object _) = None
 at_most fields.Key = None
 at_most fields.Value = None
+at_most (fields.Path _) = None
+at_most fields.Target = None
 at_most (fields.Keys most) = Some most
 at_most (fields.Pairs most) = Some most
 at_most (fields.Colours most) = Some most
@@ -104,6 +107,8 @@ nothing = record {
   text = [];
   key = [];
   value = [];
+  path = [];
+  target = [];
   keys = [];
   pairs = [];
   order = [];
@@ -121,6 +126,7 @@ sort_row sorts.Map = MAP_LINE
 sort_row sorts.Tx = TX_LINE
 sort_row sorts.Causal = CAUSAL_LINE
 sort_row sorts.Queue = QUEUE_LINE
+sort_row sorts.Tree = TREE_LINE
 
 -- the word of an object's line
 abbrev pub sort_text : Sort → List ℕ
@@ -148,6 +154,7 @@ sort_of (kinds.Map _ _) = sorts.Map
 sort_of (kinds.Tx _ _) = sorts.Tx
 sort_of (kinds.Causal _) = sorts.Causal
 sort_of (kinds.Queue _ _) = sorts.Queue
+sort_of (kinds.Tree _ _) = sorts.Tree
 
 -- what an object is, by what its fields give
 abbrev pub kind_of : Sort → Given → Kind
@@ -155,3 +162,4 @@ kind_of sorts.Map g = kinds.Map g.region g.order
 kind_of sorts.Tx g = kinds.Tx g.region g.order
 kind_of sorts.Causal g = kinds.Causal g.colour
 kind_of sorts.Queue g = kinds.Queue g.region g.colour
+kind_of sorts.Tree g = kinds.Tree g.region g.order

@@ -90,8 +90,7 @@ pub fn caller(known: &Known, name: &[u8]) -> Result<u8, Fault>
     requires { IsSmall known.now }
     ensures { Gives result (caller_at known.now name.now) }
 {
-    let clients = known.script.clients.as_slice();
-    let client = number_at(clients, name, Reason::UnknownClient)?;
+    let client = number_at(&known.script.clients, name, Reason::UnknownClient)?;
     if is_stopped(known.stopped.as_slice(), client) {
         return Err(Fault::Refused(Reason::ClientStopped));
     }

@@ -8,7 +8,7 @@ ghost use Rattle.script_text.specs.Words.{word_text};
 ghost use Rattle.script_text.specs.Table.{row_fields, last_of, since_of};
 
 use crate::given::Given;
-use crate::table::{ANY_MAP, Field, Last, MAP, QUEUE, Row, TX};
+use crate::table::{ANY_MAP, Field, Last, MAP, QUEUE, Row, TREE, TX};
 use crate::uses::{Content, NodeOf, ReadUse, Use};
 use log_node::{Colours, Keys, Pairs, Text};
 
@@ -73,6 +73,28 @@ pub enum What {
     Deq {
         object: u8,
     },
+    Only {
+        colour: u8,
+        text: Text,
+    },
+    Mk {
+        object: u8,
+        path: Text,
+        value: Text,
+    },
+    Rm {
+        object: u8,
+        path: Text,
+    },
+    Mv {
+        object: u8,
+        source: Text,
+        target: Text,
+    },
+    Ls {
+        object: u8,
+        path: Text,
+    },
 }
 
 /// A command's word.
@@ -93,6 +115,11 @@ pub enum Word {
     Commit,
     Enq,
     Deq,
+    Only,
+    Mk,
+    Rm,
+    Mv,
+    Ls,
 }
 
 const OF_ANY_MAP: Field = Field::Object { kinds: ANY_MAP };
@@ -102,6 +129,10 @@ const OF_MAP: Field = Field::Object { kinds: MAP };
 const OF_TX: Field = Field::Object { kinds: TX };
 
 const OF_QUEUE: Field = Field::Object { kinds: QUEUE };
+
+const OF_TREE: Field = Field::Object { kinds: TREE };
+
+const BELOW_ROOT: Field = Field::Path { root: false };
 
 pub const APPEND: Row = (
     Word::Append,
@@ -193,8 +224,42 @@ pub const ENQ: Row = (
 
 pub const DEQ: Row = (Word::Deq, b"deq", &[OF_QUEUE], Last::Nothing, 1);
 
+pub const ONLY: Row = (
+    Word::Only,
+    b"only",
+    &[Field::Colour, Field::Text],
+    Last::Nothing,
+    2,
+);
+
+pub const MK: Row = (
+    Word::Mk,
+    b"mk",
+    &[OF_TREE, BELOW_ROOT, Field::Value],
+    Last::Nothing,
+    2,
+);
+
+pub const RM: Row = (Word::Rm, b"rm", &[OF_TREE, BELOW_ROOT], Last::Nothing, 2);
+
+pub const MV: Row = (
+    Word::Mv,
+    b"mv",
+    &[OF_TREE, BELOW_ROOT, Field::Target],
+    Last::Nothing,
+    2,
+);
+
+pub const LS: Row = (
+    Word::Ls,
+    b"ls",
+    &[OF_TREE, Field::Path { root: true }],
+    Last::Nothing,
+    2,
+);
+
 /// All words.
-pub const WORDS: [Word; 15] = [
+pub const WORDS: [Word; 20] = [
     Word::Append,
     Word::Stop,
     Word::Sync,
@@ -210,6 +275,11 @@ pub const WORDS: [Word; 15] = [
     Word::Commit,
     Word::Enq,
     Word::Deq,
+    Word::Only,
+    Word::Mk,
+    Word::Rm,
+    Word::Mv,
+    Word::Ls,
 ];
 
 impl Word {
@@ -236,6 +306,11 @@ impl Word {
             Word::Commit => COMMIT,
             Word::Enq => ENQ,
             Word::Deq => DEQ,
+            Word::Only => ONLY,
+            Word::Mk => MK,
+            Word::Rm => RM,
+            Word::Mv => MV,
+            Word::Ls => LS,
         }
     }
 }
@@ -261,6 +336,11 @@ impl What {
             What::Commit { .. } => Word::Commit,
             What::Enq { .. } => Word::Enq,
             What::Deq { .. } => Word::Deq,
+            What::Only { .. } => Word::Only,
+            What::Mk { .. } => Word::Mk,
+            What::Rm { .. } => Word::Rm,
+            What::Mv { .. } => Word::Mv,
+            What::Ls { .. } => Word::Ls,
         }
     }
 
@@ -272,7 +352,9 @@ impl What {
             What::Append { .. } | What::Sync { .. } | What::Scan { .. } => Use::OfLog {
                 stops: false,
             },
-            What::Pull { .. } | What::Trim { .. } => Use::OfLog { stops: false },
+            What::Pull { .. } | What::Trim { .. } | What::Only { .. } => Use::OfLog {
+                stops: false,
+            },
             What::Stop { .. } => Use::OfLog { stops: true },
             What::Put { object, .. }
             | What::Get { object, .. }
@@ -280,7 +362,11 @@ impl What {
             | What::PutAll { object, .. }
             | What::GetAll { object, .. }
             | What::Enq { object, .. }
-            | What::Deq { object } => Use::OfObject {
+            | What::Deq { object }
+            | What::Mk { object, .. }
+            | What::Rm { object, .. }
+            | What::Mv { object, .. }
+            | What::Ls { object, .. } => Use::OfObject {
                 object: *object,
                 read: ReadUse::Leaves,
             },
@@ -302,11 +388,12 @@ impl What {
         match self {
             What::Append { colours, .. } => NodeOf::Named { colours: *colours },
             What::Put { .. } | What::Del { .. } => NodeOf::OneColour,
+            What::Only { .. } | What::Mk { .. } | What::Rm { .. } => NodeOf::OneColour,
             What::Stop { .. } | What::PutAll { .. } | What::Commit { .. } => NodeOf::Several,
-            What::Enq { .. } | What::Deq { .. } => NodeOf::Several,
+            What::Enq { .. } | What::Deq { .. } | What::Mv { .. } => NodeOf::Several,
             What::Sync { .. } | What::Scan { .. } | What::Pull { .. } => NodeOf::NoNode,
             What::Trim { .. } | What::Get { .. } | What::GetAll { .. } => NodeOf::NoNode,
-            What::Read { .. } => NodeOf::NoNode,
+            What::Read { .. } | What::Ls { .. } => NodeOf::NoNode,
         }
     }
 
@@ -315,7 +402,9 @@ impl What {
         ensures { said_by result ≡ content_of self.now }
     {
         match self {
-            What::Append { text, .. } | What::Stop { text, .. } => Content::Text(text.as_bytes()),
+            What::Append { text, .. } | What::Stop { text, .. } | What::Only { text, .. } => {
+                Content::Text(text.as_bytes())
+            }
             What::Put { key, value, .. } => Content::Pair(key.as_bytes(), value.as_bytes()),
             What::Get { key, .. } | What::Del { key, .. } => Content::Key(key.as_bytes()),
             What::PutAll { pairs, .. } | What::Commit { pairs, .. } => Content::Pairs(
@@ -325,6 +414,10 @@ impl What {
             What::Enq { value, .. } => Content::Value(value.as_bytes()),
             What::Sync { .. } | What::Scan { .. } | What::Pull { .. } => Content::Nothing,
             What::Trim { .. } | What::Deq { .. } => Content::Nothing,
+            What::Mk { path, value, .. } => Content::PathValue(path.as_bytes(), value.as_bytes()),
+            What::Rm { path, .. } => Content::Path(path.as_bytes()),
+            What::Mv { source, target, .. } => Content::Paths(source.as_bytes(), target.as_bytes()),
+            What::Ls { path, .. } => Content::Folder(path.as_bytes()),
         }
     }
 }
@@ -394,6 +487,28 @@ impl Given {
                 value: given.value,
             },
             Word::Deq => What::Deq { object },
+            Word::Only => What::Only {
+                colour: given.colour,
+                text: given.text,
+            },
+            Word::Mk => What::Mk {
+                object,
+                path: given.path,
+                value: given.value,
+            },
+            Word::Rm => What::Rm {
+                object,
+                path: given.path,
+            },
+            Word::Mv => What::Mv {
+                object,
+                source: given.path,
+                target: given.target,
+            },
+            Word::Ls => What::Ls {
+                object,
+                path: given.path,
+            },
         }
     }
 }

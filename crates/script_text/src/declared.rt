@@ -1,6 +1,5 @@
 // The header's lines of objects.
-ghost use Rattle.std.specs.Prelude.{◌≡◌, map};
-ghost use Rattle.script_text.specs.Pieces.{is_among};
+ghost use Rattle.std.specs.Prelude.{◌≡◌};
 ghost use Rattle.script_text.specs.Known.{IsSmall};
 ghost use Rattle.script_text.specs.Table.{sort_at};
 ghost use Rattle.script_text.specs.Readings.{Gives, fields_in};
@@ -17,12 +16,6 @@ use crate::table::{Sort, fits};
 use log_node::Text;
 use std::alloc::Global;
 
-fn is_object(objects: &[Object], name: &[u8]) -> bool
-    ensures { result ≡ is_among (map (λ o. o.name) objects.now) name.now }
-{
-    objects.iter().any(|other| name == other.name.as_bytes())
-}
-
 /// A new object's name, where there is room for one.
 #[tactic(auto, unfolding(crate::specs::HeaderReadings::object_name_at, crate::specs::Readings::new_name_at))]
 fn object_name(alloc: Global, known: &Known, field: &[u8]) -> Result<Text, Fault>
@@ -34,7 +27,7 @@ fn object_name(alloc: Global, known: &Known, field: &[u8]) -> Result<Text, Fault
     if !is_name(field) {
         return Err(Fault::Refused(Reason::BadName));
     }
-    if is_object(known.script.objects.as_slice(), field) {
+    if known.script.objects.has(field) {
         return Err(Fault::Refused(Reason::NameRepeated));
     }
     Ok(Text::copied(alloc, field)?)

@@ -53,7 +53,7 @@ fn append(alloc: Global, known: &Known, args: &[u8]) -> Result<Option<What>, All
     if !is_text(text) {
         return Ok(None);
     }
-    let Ok((colours, _)) = colour_set(known.script.colours.as_slice(), cols) else {
+    let Ok((colours, _)) = colour_set(&known.script.colours, cols) else {
         return Ok(None);
     };
     let text = Text::copied(alloc, text)?;

@@ -12,6 +12,7 @@ use crate::keys::{key_at, keys_at, pairs_at, steps_at, value_at};
 use crate::known::Known;
 use crate::names::{colour_numbers, colour_set, text_at};
 use crate::objects::object_at;
+use crate::paths::path_at;
 use crate::script::Kind;
 use crate::table::{Field, Sort};
 use log_node::{ColourList, Colours, Keys, ListOf, Pairs, Text};
@@ -30,6 +31,8 @@ pub struct Given {
     pub text: Text,
     pub key: Text,
     pub value: Text,
+    pub path: Text,
+    pub target: Text,
     pub keys: Keys,
     pub pairs: Pairs,
     pub order: ColourList,
@@ -59,6 +62,8 @@ impl Given {
             text: Text::empty(alloc),
             key: Text::empty(alloc),
             value: Text::empty(alloc),
+            path: Text::empty(alloc),
+            target: Text::empty(alloc),
             keys: ListOf::new(alloc),
             pairs: ListOf::new(alloc),
             order: ListOf::new(alloc),
@@ -82,7 +87,7 @@ impl Given {
         match field {
             Field::Steps => self.number = steps_at(first(own))?,
             Field::Cols => {
-                let (colours, count) = colour_set(known.script.colours.as_slice(), first(own))?;
+                let (colours, count) = colour_set(&known.script.colours, first(own))?;
                 self.colours = colours;
                 self.count = count;
             }
@@ -90,14 +95,16 @@ impl Given {
             Field::Region => self.region = known.region_at(first(own))?,
             Field::Text => self.text = text_at(alloc, first(own))?,
             Field::Object { kinds } => {
-                self.object = object_at(kinds, known.script.objects.as_slice(), first(own))?;
+                self.object = object_at(kinds, &known.script.objects, first(own))?;
             }
             Field::Key => self.key = key_at(alloc, first(own))?,
             Field::Value => self.value = value_at(alloc, first(own))?,
+            Field::Path { root } => self.path = path_at(alloc, root, first(own))?,
+            Field::Target => self.target = path_at(alloc, false, first(own))?,
             Field::Keys { .. } => self.keys = keys_at(alloc, own)?,
             Field::Pairs { .. } => self.pairs = pairs_at(alloc, own)?,
             Field::Colours { .. } => {
-                self.order = colour_numbers(alloc, known.script.colours.as_slice(), own)?;
+                self.order = colour_numbers(alloc, &known.script.colours, own)?;
             }
         }
         Ok(())
@@ -155,6 +162,7 @@ impl Given {
             Sort::Tx => Kind::Tx { home, colours },
             Sort::Causal => Kind::Causal { colour },
             Sort::Queue => Kind::Queue { home, colour },
+            Sort::Tree => Kind::Tree { home, colours },
         }
     }
 }

@@ -81,9 +81,8 @@ fn client_named(alloc: Global, known: &Known, field: &[u8], region: &[u8]) -> Re
     requires { IsSmall known.now }
     ensures { Gives result (client_named_at known.now field.now region.now) }
 {
-    let name = new_name(alloc, known.script.clients.as_slice(), field)?;
-    let regions = known.script.regions.as_slice();
-    let home = number_at(regions, region, Reason::UnknownRegion)?;
+    let name = new_name(alloc, &known.script.clients, field)?;
+    let home = number_at(&known.script.regions, region, Reason::UnknownRegion)?;
     Ok(Item::Client { name, home })
 }
 

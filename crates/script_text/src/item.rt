@@ -1,13 +1,14 @@
 // What a line of a script says.
+use crate::name_set::NameSet;
 use crate::script::{Command, Object};
-use log_node::{Names, Text};
+use log_node::Text;
 
 /// What one line says that is not passed over.
 #[derive(Drop)]
 pub enum Item {
     Version { version: u8 },
-    Regions { names: Names },
-    Colours { names: Names },
+    Regions { names: NameSet },
+    Colours { names: NameSet },
     Rows { number: u32 },
     Client { name: Text, home: u8 },
     Declared { object: Object },

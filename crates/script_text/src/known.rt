@@ -9,7 +9,9 @@ use crate::commands::What;
 use crate::fault::Fault;
 use crate::item::{Item, Stage};
 use crate::limits::{VERSION_1, limits_in};
+use crate::name_set::NameSet;
 use crate::names::number_at;
+use crate::objects::Objects;
 use crate::reads::HeldReads;
 use crate::script::{Command, Reason, Script};
 use log_node::{ListOf, Shape};
@@ -41,10 +43,10 @@ impl Known {
                     homes: ListOf::new(alloc),
                     rows: VERSION_1.unsaid_rows,
                 },
-                regions: ListOf::new(alloc),
-                colours: ListOf::new(alloc),
-                clients: ListOf::new(alloc),
-                objects: ListOf::new(alloc),
+                regions: NameSet::new(alloc),
+                colours: NameSet::new(alloc),
+                clients: NameSet::new(alloc),
+                objects: Objects::new(alloc),
                 commands: ListOf::with_capacity(alloc, room)?,
             },
             stopped: ListOf::new(alloc),
@@ -57,7 +59,7 @@ impl Known {
         requires { IsSmall self.now }
         ensures { Gives result (number_at reasons.UnknownRegion self.now.script.regions field.now) }
     {
-        number_at(self.script.regions.as_slice(), field, Reason::UnknownRegion)
+        number_at(&self.script.regions, field, Reason::UnknownRegion)
     }
 
     /// The number of the colour that a field names.
@@ -65,7 +67,7 @@ impl Known {
         requires { IsSmall self.now }
         ensures { Gives result (number_at reasons.UnknownColour self.now.script.colours field.now) }
     {
-        number_at(self.script.colours.as_slice(), field, Reason::UnknownColour)
+        number_at(&self.script.colours, field, Reason::UnknownColour)
     }
 
     /// What is known after one more item.

@@ -54,6 +54,12 @@ pub const MAX_NAME: usize = 12;
 /// The most bytes of a key or a value.
 pub const MAX_KEY: usize = 16;
 
+/// The most names of a path in a tree.
+pub const MAX_PATH_NAMES: usize = 4;
+
+/// The most bytes of a name in a path.
+pub const MAX_PATH_NAME: usize = 8;
+
 /// The most digits of a number of rows.
 pub const ROWS_DIGITS: usize = 10;
 

@@ -5,32 +5,33 @@ ghost use Rattle.script_text.specs.Pieces.{is_among, names_in};
 ghost use Rattle.script_text.specs.Readings.{Gives, fields_in, number_at, new_name_at, new_names_at, colour_at, fresh_colour_at, colours_at, colours_set_at, text_at};
 
 use crate::fault::Fault;
-use crate::pieces::{behind, comma_front, is_among, is_name, is_text, number_of};
+use crate::name_set::NameSet;
+use crate::pieces::{behind, comma_front, is_name, is_text};
 use crate::script::Reason;
-use log_node::{ColourList, Colours, ListOf, Names, Text};
+use log_node::{ColourList, Colours, ListOf, Text};
 use std::alloc::Global;
 
 /// A name that is new among these.
 #[tactic(auto, unfolding(crate::specs::Readings::new_name_at))]
-pub fn new_name(alloc: Global, names: &[Text], field: &[u8]) -> Result<Text, Fault>
+pub fn new_name(alloc: Global, names: &NameSet, field: &[u8]) -> Result<Text, Fault>
     ensures { Gives result (new_name_at names.now field.now) }
 {
     if !is_name(field) {
         return Err(Fault::Refused(Reason::BadName));
     }
-    if is_among(names, field) {
+    if names.has(field) {
         return Err(Fault::Refused(Reason::NameRepeated));
     }
     Ok(Text::copied(alloc, field)?)
 }
 
 /// New names, each apart from those before it.
-pub fn new_names(alloc: Global, fields: &[&[u8]]) -> Result<Names, Fault>
+pub fn new_names(alloc: Global, fields: &[&[u8]]) -> Result<NameSet, Fault>
     ensures { Gives result (new_names_at (fields_in fields.now)) }
 {
-    let mut names = ListOf::new(alloc);
+    let mut names = NameSet::new(alloc);
     for field in fields {
-        let name = new_name(alloc, names.as_slice(), field)?;
+        let name = new_name(alloc, &names, field)?;
         names.push(name)?;
     }
     Ok(names)
@@ -39,11 +40,11 @@ pub fn new_names(alloc: Global, fields: &[&[u8]]) -> Result<Names, Fault>
 /// The number of a name among these, or else the reason.
 #[tactic(auto, unfolding(crate::specs::Readings::number_at))]
 #[inline(always)]
-pub fn number_at(names: &[Text], field: &[u8], why: Reason) -> Result<u8, Fault>
+pub fn number_at(names: &NameSet, field: &[u8], why: Reason) -> Result<u8, Fault>
     requires { length names.now ≤ 256 }
     ensures { Gives result (number_at why names.now field.now) }
 {
-    match number_of(names, field) {
+    match names.number_of(field) {
         Some(number) => Ok(number),
         None => Err(Fault::Refused(why)),
     }
@@ -57,7 +58,7 @@ fn is_repeated(earlier: &[&[u8]], field: &[u8]) -> bool
 
 /// The number of a colour that none of the earlier fields names.
 #[tactic(auto, unfolding(crate::specs::Readings::colour_at))]
-fn colour_at(names: &[Text], earlier: &[&[u8]], field: &[u8]) -> Result<u8, Fault>
+fn colour_at(names: &NameSet, earlier: &[&[u8]], field: &[u8]) -> Result<u8, Fault>
     requires { length names.now ≤ 256 }
     ensures value { Gives result (colour_at names.now (fields_in earlier.now) field.now) }
     ensures below { IfOk result (λ c. c < length names.now) }
@@ -70,7 +71,7 @@ fn colour_at(names: &[Text], earlier: &[&[u8]], field: &[u8]) -> Result<u8, Faul
 }
 
 /// The numbers of distinct colours.
-pub fn colour_numbers(alloc: Global, names: &[Text], fields: &[&[u8]]) -> Result<ColourList, Fault>
+pub fn colour_numbers(alloc: Global, names: &NameSet, fields: &[&[u8]]) -> Result<ColourList, Fault>
     requires { length names.now ≤ 256 }
     ensures { Gives result (colours_at names.now (fields_in fields.now)) }
 {
@@ -84,7 +85,7 @@ pub fn colour_numbers(alloc: Global, names: &[Text], fields: &[&[u8]]) -> Result
 
 /// The number of a colour that is not in the set.
 #[tactic(auto, unfolding(crate::specs::Readings::fresh_colour_at))]
-fn new_colour(names: &[Text], set: Colours, field: &[u8]) -> Result<u8, Fault>
+fn new_colour(names: &NameSet, set: Colours, field: &[u8]) -> Result<u8, Fault>
     requires { length names.now ≤ MAX_COLOURS }
     ensures value { Gives result (fresh_colour_at names.now set field.now) }
     ensures below { IfOk result (λ c. c < length names.now) }
@@ -99,7 +100,7 @@ fn new_colour(names: &[Text], set: Colours, field: &[u8]) -> Result<u8, Fault>
 /// The set of the colours whose names stand between commas, and their number.
 #[tactic(auto, unfolding(crate::specs::Readings::colours_set_at))]
 #[inline]
-pub fn colour_set(names: &[Text], cols: &[u8]) -> Result<(Colours, usize), Fault>
+pub fn colour_set(names: &NameSet, cols: &[u8]) -> Result<(Colours, usize), Fault>
     requires { length names.now ≤ MAX_COLOURS }
     ensures value { Gives result (colours_set_at names.now (names_in cols.now)) }
     ensures few { IfOk result (λ s. s.1 ≤ MAX_COLOURS) }

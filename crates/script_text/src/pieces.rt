@@ -1,9 +1,8 @@
 // The pieces of a script's bytes: lines, fields, and what a field may be.
 ghost use Rattle.std.specs.Prelude.{◌≡◌, ◌<◌, ◌≤◌, ◌==◌, ◌↔◌, [], ◌∷◌, ℕ, true, false, ◌+◌, length, drop, map, slice_index_or, Ok, IfOk, IsNone, IfSome, IsTrue};
 ghost use Rattle.std.specs.List.{list_all};
-ghost use Rattle.std.specs.Str.{bytes_eq};
 ghost use Rattle.script_text.specs.declared.limits.TheConstants.{ROWS_DIGITS};
-ghost use Rattle.script_text.specs.Pieces.{lines_of, fields_of, is_between, is_ascii_line, is_letter_or_digit, is_name, is_key, is_text, is_among, is_digit, is_number, number_value, number_of};
+ghost use Rattle.script_text.specs.Pieces.{lines_of, fields_of, is_between, is_ascii_line, is_letter_or_digit, is_name, is_key, is_text, is_among, is_digit, is_number, number_value};
 ghost use Rattle.script_text.specs.Grammar.{has_equals, key_in, value_in};
 ghost use Rattle.script_text.specs.Readings.{fields_in};
 
@@ -95,7 +94,8 @@ pub fn is_ascii_line(line: &[u8]) -> bool
     line.iter().all(|b| matches!(*b, b' '..=b'~'))
 }
 
-fn are_letters_or_digits(bytes: &[u8]) -> bool
+/// Whether each byte is a small letter or a digit.
+pub fn are_letters_or_digits(bytes: &[u8]) -> bool
     ensures { result ≡ list_all is_letter_or_digit bytes.now }
 {
     bytes
@@ -145,38 +145,6 @@ pub fn is_among(names: &[Text], name: &[u8]) -> bool
     ensures { result ≡ is_among names.now name.now }
 {
     names.iter().any(|other| name == other.as_bytes())
-}
-
-// Whether a field is this name. Names that differ mostly differ in their length or in their last byte.
-#[tactic(auto, using(crate::proofs::PieceLemmas::unlike_length, crate::proofs::PieceLemmas::unlike_at))]
-#[inline(always)]
-fn is_same(field: &[u8], name: &[u8]) -> bool
-    ensures { result ≡ bytes_eq field.now name.now }
-{
-    let len = field.len();
-    if len != name.len() {
-        return false;
-    }
-    if len > 0 {
-        if field[len - 1] != name[len - 1] {
-            return false;
-        }
-    }
-    field == name
-}
-
-/// The number of a name among these.
-#[inline(always)]
-pub fn number_of(names: &[Text], name: &[u8]) -> Option<u8>
-    requires { length names.now ≤ 256 }
-    ensures { result ≡ number_of names.now name.now }
-{
-    for (number, other) in names.iter().enumerate() {
-        if is_same(name, other.as_bytes()) {
-            return Some(number as u8);
-        }
-    }
-    None
 }
 
 /// The key and the value about the first `=`.

@@ -15,6 +15,7 @@ pub struct Kinds {
     pub tx: bool,
     pub causal: bool,
     pub queue: bool,
+    pub tree: bool,
 }
 
 /// What one field, or the last ones, may be.
@@ -30,6 +31,10 @@ pub enum Field {
     Object { kinds: Kinds },
     Key,
     Value,
+    /// A path of a tree; whether it may be the root.
+    Path { root: bool },
+    /// A second path, which is not the root.
+    Target,
     /// One to this many distinct keys, which are the last fields.
     Keys { most: usize },
     /// One to this many pairs with distinct keys, which are the last fields.
@@ -56,6 +61,7 @@ pub const NONE: Kinds = Kinds {
     tx: false,
     causal: false,
     queue: false,
+    tree: false,
 };
 
 pub const MAP: Kinds = Kinds { map: true, ..NONE };
@@ -71,6 +77,8 @@ pub const QUEUE: Kinds = Kinds {
     queue: true,
     ..NONE
 };
+
+pub const TREE: Kinds = Kinds { tree: true, ..NONE };
 
 impl Word {
     /// The word itself.
@@ -105,6 +113,7 @@ pub enum Sort {
     Tx,
     Causal,
     Queue,
+    Tree,
 }
 
 /// The word of an object's line, the fields after the object's name, and the first version that has the line.
@@ -125,8 +134,10 @@ pub const CAUSAL_LINE: SortRow = (b"causal", &[Field::Colour], 1);
 
 pub const QUEUE_LINE: SortRow = (b"queue", &[Field::Region, Field::Colour], 1);
 
+pub const TREE_LINE: SortRow = (b"tree", SHARDED, 2);
+
 /// All sorts.
-pub const SORTS: [Sort; 4] = [Sort::Map, Sort::Tx, Sort::Causal, Sort::Queue];
+pub const SORTS: [Sort; 5] = [Sort::Map, Sort::Tx, Sort::Causal, Sort::Queue, Sort::Tree];
 
 impl Sort {
     /// The row of an object's line.
@@ -140,6 +151,7 @@ impl Sort {
             Sort::Tx => TX_LINE,
             Sort::Causal => CAUSAL_LINE,
             Sort::Queue => QUEUE_LINE,
+            Sort::Tree => TREE_LINE,
         }
     }
 
@@ -170,6 +182,7 @@ impl Field {
             Field::Keys { most } | Field::Pairs { most } | Field::Colours { most } => Some(most),
             Field::Steps | Field::Cols | Field::Colour | Field::Region | Field::Text => None,
             Field::Object { .. } | Field::Key | Field::Value => None,
+            Field::Path { .. } | Field::Target => None,
         }
     }
 

@@ -46,4 +46,12 @@ pub enum Content<'a> {
     Pair(&'a [u8], &'a [u8]),
     Keys(&'a [Text]),
     Pairs(&'a [Pair]),
+    /// A path below the root.
+    Path(&'a [u8]),
+    /// A path, which may be the root.
+    Folder(&'a [u8]),
+    /// A path below the root, and its value.
+    PathValue(&'a [u8], &'a [u8]),
+    /// A path below the root, and another one.
+    Paths(&'a [u8], &'a [u8]),
 }

@@ -35,6 +35,7 @@ impl Reason {
             Reason::BadKey => "bad key",
             Reason::KeyRepeated => "key repeated",
             Reason::BadValue => "bad value",
+            Reason::BadPath => "bad path",
         }
     }
 }

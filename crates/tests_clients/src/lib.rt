@@ -1,5 +1,5 @@
 //! Tests of what clients of a store do and no command asks for: what they tell one another, trims by a snapshot of another column,
-//! and trees of names.
+//! appends that may only stand next, and trees of names.
 #![tactic(auto)]
 
 #[cfg(test)]

@@ -1,5 +1,6 @@
 // Rows that were worked out by hand.
 mod clients;
+mod guarded;
 mod made;
 mod shown;
 mod trees;

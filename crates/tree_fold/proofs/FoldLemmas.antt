@@ -1,13 +1,15 @@
 -- One more change, and one more node.
-use Rattle.std.proofs.Common.{◌≡◌, ℕ, List, [], ◌∷◌, ◌++◌, Option, Some, None, Result, Ok, Err, ap, sym, ◌∙◌}
-use Rattle.std.specs.Prelude.{OnOk}
+use Rattle.std.proofs.Common.{◌≡◌, ℕ, List, [], ◌∷◌, ◌++◌, Option, Some, None, Result, Ok, Err, refl, ap, sym, subst, ◌∙◌}
+use Rattle.std.specs.Prelude.{IfOk, OnOk}
+use Rattle.std.specs.declared.alloc.AllocError.{AllocError}
 use Rattle.std.proofs.lemmas.List.Sums.{fold_push}
+use Rattle.log_node.specs.declared.ids.Key.{Key}
 use Rattle.object_fold.specs.Nodes.{ObjectNode}
 use Rattle.tree_fold.specs.declared.change.Change.{Change}
-use Rattle.tree_fold.specs.declared.told.TreeWhy.{TreeWhy}
+use Rattle.object_form.specs.declared.tree_why.TreeWhy.{TreeWhy}
 use Rattle.tree_fold.specs.declared.told.Told.{Told}
 use Rattle.tree_fold.specs.Readings.{change_of}
-use Rattle.tree_fold.specs.Trees.{Tree, why, changed, tree_by, tree_with, tree_after, told_under, told_of_change}
+use Rattle.tree_fold.specs.Trees.{Tree, why, changed, tree_by, tree_with, tree_after, told_under, told_of_change, telling}
 use Rattle.tree_fold.specs.TreeStates.{SameTree}
 use Rattle.tree_fold.specs.Orders.{AreTreeEntries, MakesChange}
 use Rattle.tree_fold.proofs.TreeLemmas.{why_same}
@@ -40,3 +42,17 @@ told_same es stamp nodes change o told same e h =
 -- the tree after one more node
 pub one_more : (nodes : List ObjectNode) (node : ObjectNode) → tree_after (nodes ++ node ∷ []) ≡ tree_with (tree_after nodes) (change_of node.text)
 one_more nodes node = fold_push (λ (tree : Tree) (n : ObjectNode). tree_with tree (change_of n.text)) [] nodes node
+
+-- what is told over trees with the same values
+pub told_of_same : (a b : Tree) → SameTree a b → (stamp : ℕ) (o : Option Change) → told_of_change stamp a o ≡ told_of_change stamp b o
+told_of_same a b same stamp None = refl
+told_of_same a b same stamp (Some change) = ap (λ (w : Option TreeWhy). Some (told_under stamp w)) (why_same a b same change)
+
+-- what a node is told when it is fed
+pub tells_change : (nodes : List ObjectNode) (node : ObjectNode) (key : Key) (text : List ℕ)
+    (r : Result (Option Told) AllocError) → node.key ≡ key → node.text ≡ text
+    → IfOk r (λ told. told ≡ told_of_change key.stamp (tree_after nodes) (change_of text))
+    → IfOk r (λ told. told ≡ telling nodes node)
+tells_change nodes node key text r its_key its_text told =
+    subst (λ (t : List ℕ). IfOk r (λ v. v ≡ told_of_change node.key.stamp (tree_after nodes) (change_of t))) (sym its_text)
+    (subst (λ (k : Key). IfOk r (λ v. v ≡ told_of_change k.stamp (tree_after nodes) (change_of text))) (sym its_key) told)

@@ -9,3 +9,6 @@ mod MoveLemmas
 mod FoldLemmas
 mod NamesLemmas
 mod TopLemmas
+mod ListedLemmas
+mod TextLemmas
+pub mod CallerLemmas

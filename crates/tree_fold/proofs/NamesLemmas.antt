@@ -10,17 +10,17 @@ use Rattle.std.proofs.lemmas.Bool.{cases_Bool}
 use Rattle.std.proofs.lemmas.List.{drop_at}
 use Rattle.std.proofs.lemmas.Slice.Eq.{bytes_eq-Decides}
 use Rattle.tree_fold.specs.declared.entries.Entry.{Entry}
-use Rattle.tree_fold.specs.Paths.{Path, begins_with, is_same}
+use Rattle.tree_fold.specs.Paths.{Path, begins_with, is_same, sole}
 use Rattle.tree_fold.specs.Trees.{Tree, value_in, is_there, NamesRise, AreNamesIn}
 use Rattle.tree_fold.specs.TreeStates.{SameTree}
-use Rattle.tree_fold.specs.Orders.{path_order, PathsRise, IsBranch, sole, next_names}
+use Rattle.tree_fold.specs.Orders.{path_order, PathsRise, IsBranch, next_names}
 use Rattle.tree_fold.proofs.OrderLemmas.{same_names, begins_is, begins_front, same_is, same_self, order_front}
 use Rattle.tree_fold.proofs.EntryLemmas.{Over, rises_left, rises_right}
 use Rattle.tree_fold.proofs.TreeLemmas.{alike, there_same, begins_apart}
 use Rattle.tree_fold.proofs.DoneLemmas.{branch_parts, branch_any}
 
 -- the path is this one name
-abbrev is_sole : List ℕ → Path → Bool
+abbrev pub is_sole : List ℕ → Path → Bool
 is_sole name [] = false
 is_sole name (n ∷ []) = bytes_eq name n
 is_sole name (n ∷ m ∷ ns) = false
@@ -34,7 +34,7 @@ sole_self : (name : List ℕ) → is_sole name (name ∷ []) ≡ true
 sole_self name = (bytes_eq-Decides name name).1 refl
 
 -- a path with one more name, by what stands behind the front
-same_sole : (front : Path) (name : List ℕ) (path : Path) → begins_with front path ≡ true → is_same (front ++ name ∷ []) path ≡ is_sole name (drop (length front) path)
+pub same_sole : (front : Path) (name : List ℕ) (path : Path) → begins_with front path ≡ true → is_same (front ++ name ∷ []) path ≡ is_sole name (drop (length front) path)
 same_sole front name path h =
     let rest = drop (length front) path in
     let whole = begins_is front path h in
@@ -44,7 +44,7 @@ same_sole front name path h =
     ap (is_sole name) tail ∙ sole_self name)
     (λ one. ap (is_same (front ++ name ∷ [])) (whole ∙ ap (λ l. front ++ l) (sole_is name rest one)) ∙ same_self (front ++ name ∷ []))
 
-value_any : (es : List Entry) (path : Path) → list_any (λ e. is_same path e.path) es ≡ is_some (value_in es path)
+pub value_any : (es : List Entry) (path : Path) → list_any (λ e. is_same path e.path) es ≡ is_some (value_in es path)
 value_any [] path = refl
 value_any (x ∷ es) path = elim (cases_Bool (is_same path x.path)) [
   | inl here ↦ rw here refl
@@ -78,7 +78,7 @@ any_next name count (x ∷ es) = by (any_next name count es) (sole (drop count x
   by later (Some n) e =
       ap (list_any (bytes_eq name)) (next_some count x es n e) ∙ ap (λ b. bytes_eq name n || b) later ∙ sym (rw (sole_some (drop count x.path) n e) refl)
 
-there_value : (t : Tree) (path : Path) → 1 ≤ length path → is_there t path ≡ is_some (value_in t path)
+pub there_value : (t : Tree) (path : Path) → 1 ≤ length path → is_there t path ≡ is_some (value_in t path)
 there_value t [] some = absurd (omega arith)
 there_value t (n ∷ path) some = refl
 

@@ -44,8 +44,14 @@ module _ {K : Type 0} (R : K → K → Ordering) (total : IsTotalOrder R) where
 pub same_names : (a b : List ℕ) → bytes_eq a b ≡ true → a ≡ b
 same_names a b h = (bytes_eq-Decides a b).0 h
 
-equal_names : (a b : List ℕ) → name_order a b ≡ Equal → a ≡ b
+pub equal_names : (a b : List ℕ) → name_order a b ≡ Equal → a ≡ b
 equal_names a b h = same_names a b (sym (is_eq-slice_cmp a b) ∙ ap is_eq h)
+
+pub names_turned : (a b : List ℕ) → name_order a b ≡ Greater → name_order b a ≡ Less
+names_turned a b h = turned name_order nat_list_cmp_total a b h
+
+pub names_trans : (a b c : List ℕ) → name_order a b ≡ Less → name_order b c ≡ Less → name_order a c ≡ Less
+names_trans a b c h k = nat_list_cmp_total.trans a b c h k
 
 -- ---- beginnings
 

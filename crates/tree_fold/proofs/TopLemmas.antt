@@ -9,9 +9,9 @@ use Rattle.std.proofs.lemmas.List.{append-nil, take-append-drop, drop_at, drop-d
 use Rattle.std.proofs.Math.Seq.{take-append-add}
 use Rattle.std.proofs.lemmas.List.Elements.{filter_map-append}
 use Rattle.tree_fold.specs.declared.entries.Entry.{Entry}
-use Rattle.tree_fold.specs.Paths.{Path, begins_with, is_same}
+use Rattle.tree_fold.specs.Paths.{Path, begins_with, is_same, sole}
 use Rattle.tree_fold.specs.Trees.{value_in, is_there}
-use Rattle.tree_fold.specs.Orders.{path_order, PathsRise, AreTreeEntries, IsBranch, IsTops, IsNextTop, sole, next_names}
+use Rattle.tree_fold.specs.Orders.{path_order, PathsRise, AreTreeEntries, IsBranch, IsTops, IsNextTop, next_names}
 use Rattle.tree_fold.proofs.OrderLemmas.{begins_is, begins_front, begins_self, same_is, same_self, same_turned, order_self, begun_not_below, below_not_begun, over_not_below, self_not_below}
 use Rattle.tree_fold.proofs.EntryLemmas.{all_map, all_two, all_left, all_right, item_drop, Over, NotBelow, parted_branch, rises_left, rises_right, whole_rises, Apart, value_here, value_later, value_none, value_skip, value_behind, later_apart, all_taken, all_dropped}
 use Rattle.tree_fold.proofs.TreeLemmas.{there_if, value_if, begins_apart}

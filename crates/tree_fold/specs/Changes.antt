@@ -3,7 +3,7 @@ use Rattle.std.specs.Prelude.{◌≡◌, IsTrue, ℕ, List, ◌∷◌, ◌++◌,
 use Rattle.object_form.specs.Forms.{equals, is_word}
 use Rattle.tree_fold.specs.declared.change.Change.{Change}
 use Rattle.tree_fold.specs.declared.change.Change.TheVariants.{Make, Remove, Move}
-use Rattle.tree_fold.specs.Paths.{is_below_root, path_text}
+use Rattle.tree_fold.specs.Paths.{first_name, is_below_root, path_text}
 
 -- the sign between source and target, `>`
 abbrev pub arrow : ℕ
@@ -29,3 +29,9 @@ IsWrittenAs change text = IsChange change × (change_text change ≡ text)
 abbrev pub IsReadAs : List ℕ → Option Change → Type 0
 IsReadAs text (Some change) = IsWrittenAs change text
 IsReadAs text None = (change : Change) → IsWrittenAs change text → ⊥
+
+-- the keys by which the shards of a change are told: the first names of its paths
+abbrev pub change_keys : Change → List (List ℕ)
+change_keys (Make path value) = first_name path
+change_keys (Remove path) = first_name path
+change_keys (Move source target) = first_name source ++ first_name target

@@ -1,4 +1,4 @@
--- What the texts of changes have for consequences, on which the tree rests.
+-- What the texts of changes have for consequences, on which the tree rests; and what is answered of a path, which is one.
 use Rattle.std.specs.Prelude.{◌≡◌, ◌↔◌, ℕ, List, length, Option, Some, None}
 use Rattle.log_node.specs.declared.forms.Form.{Form}
 use Rattle.log_node.specs.declared.forms.Form.TheVariants.{Plain}
@@ -9,6 +9,7 @@ use Rattle.tree_fold.specs.declared.change.Change.{Change}
 use Rattle.tree_fold.specs.Paths.{Path, HasPathText}
 use Rattle.tree_fold.specs.Changes.{IsChange, change_text, IsWrittenAs, IsReadAs}
 use Rattle.tree_fold.specs.Readings.{path_of, change_of}
+use Rattle.tree_fold.specs.Trees.{Tree, IsNamesAnswer, names_after}
 
 -- a text is that of one path: of the one that is computed of it, and of no other
 abbrev pub PathsReadAsOne : Type 0
@@ -37,3 +38,12 @@ ChangesArePlain = (change : Change) → form_of (change_text change) ≡ Plain
 -- and the text of each form of theirs is no change
 abbrev pub FormsAreNoChanges : Type 0
 FormsAreNoChanges = (form : Form) → IsForm form → change_of (form_text form) ≡ None
+
+-- what is computed of a path is what is answered of it
+abbrev pub NamesAreAnswered : Type 0
+NamesAreAnswered = (tree : Tree) (path : Path) → IsNamesAnswer tree path (names_after tree path)
+
+-- and nothing else is
+abbrev pub NamesAreOne : Type 0
+NamesAreOne = (tree : Tree) (path : Path) (names other : Option (List (List ℕ))) → IsNamesAnswer tree path names
+    → IsNamesAnswer tree path other → names ≡ other

@@ -1,5 +1,5 @@
 -- Entries in rising order of their paths, as the code keeps them, and the places of a path among them.
-use Rattle.std.specs.Prelude.{◌≡◌, IsTrue, ℕ, ◌+◌, ◌<◌, ◌≤◌, true, false, List, [], ◌∷◌, ◌++◌, take, drop, length, Option, Some, None, slice_range}
+use Rattle.std.specs.Prelude.{◌≡◌, IsTrue, ℕ, ◌+◌, ◌<◌, ◌≤◌, true, false, List, [], ◌∷◌, ◌++◌, take, drop, length, slice_range}
 use Rattle.std.specs.List.{filter_map, AllByRecursion}
 use Rattle.std.specs.Option.{is_some}
 use Rattle.std.specs.Ordering.{nat_cmp, is_lt}
@@ -8,7 +8,7 @@ use Rattle.std.specs.declared.cmp.Ordering.{Ordering}
 use Rattle.std.specs.declared.cmp.Ordering.TheVariants.{Less}
 use Rattle.tree_fold.specs.declared.entries.Entry.{Entry}
 use Rattle.tree_fold.specs.declared.change.Change.{Change}
-use Rattle.tree_fold.specs.Paths.{Path, begins_with}
+use Rattle.tree_fold.specs.Paths.{Path, begins_with, sole}
 use Rattle.tree_fold.specs.Trees.{value_in, is_there, changed}
 
 -- how two paths stand: by their first names that differ, and a path before those that go on from it
@@ -65,12 +65,6 @@ pub record IsPutBehind (old new : List Entry) (from to : ℕ) (target : Path) (p
   pub place : IsPlace (drop to old) target at
   pub is : new ≡ take from old
       ++ (take at (drop to old) ++ (renamed (slice_range old from to) paths ++ drop at (drop to old)))
-
--- the name of a path that has just one
-abbrev pub sole : Path → Option (List ℕ)
-sole [] = None
-sole (name ∷ []) = Some name
-sole (name ∷ other ∷ names) = None
 
 -- the last names of those entries that have one name behind the first so many
 abbrev pub next_names : ℕ → List Entry → List (List ℕ)

@@ -1,5 +1,5 @@
 -- Paths of a tree: a path is the list of its names, the root is the path with none.
-use Rattle.std.specs.Prelude.{◌≡◌, Bool, IsTrue, ℕ, ◌-◌, ◌==◌, nat_le, nat_lt, ◌&&◌, List, [], ◌∷◌, length, take, true, false}
+use Rattle.std.specs.Prelude.{◌≡◌, Bool, IsTrue, ℕ, ◌-◌, ◌==◌, nat_le, nat_lt, ◌&&◌, List, [], ◌∷◌, length, take, drop, Option, Some, None, true, false, if◌then◌else◌}
 use Rattle.std.specs.List.{list_all, flat_map}
 use Rattle.std.specs.Str.{bytes_eq}
 use Rattle.object_form.specs.Forms.{is_letter_or_digit}
@@ -57,3 +57,17 @@ is_same front path = begins_with front path && (length front == length path)
 -- the path without its last name
 abbrev pub parent_of : Path → Path
 parent_of path = take (length path - 1) path
+
+-- its first name; of the root, none
+abbrev pub first_name : Path → List (List ℕ)
+first_name path = take 1 path
+
+-- the name of a path that has just one
+abbrev pub sole : Path → Option (List ℕ)
+sole [] = None
+sole (name ∷ []) = Some name
+sole (name ∷ other ∷ names) = None
+
+-- the name that a path has behind a front, if it is the front and just one name more
+abbrev pub next_name : Path → Path → Option (List ℕ)
+next_name front path = if begins_with front path then sole (drop (length front) path) else None

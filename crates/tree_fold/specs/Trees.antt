@@ -4,18 +4,19 @@ use Rattle.std.specs.List.{fold, find, list_any, AllByRecursion}
 use Rattle.std.specs.Option.{option_map, is_some}
 use Rattle.std.specs.Ordering.{nat_cmp}
 use Rattle.std.specs.Cmp.Lexicographic.{slice_cmp}
-use Rattle.std.specs.declared.cmp.Ordering.TheVariants.{Less}
+use Rattle.std.specs.declared.cmp.Ordering.{Ordering}
+use Rattle.std.specs.declared.cmp.Ordering.TheVariants.{Less, Equal, Greater}
 use Rattle.std.specs.Str.{bytes_eq}
 use Rattle.object_fold.specs.Nodes.{ObjectNode}
 use Rattle.object_fold.specs.Maps.{Value}
 use Rattle.tree_fold.specs.declared.change.Change.{Change}
 use Rattle.tree_fold.specs.declared.change.Change.TheVariants.{Make, Remove, Move}
-use Rattle.tree_fold.specs.declared.told.TreeWhy.{TreeWhy}
-use Rattle.tree_fold.specs.declared.told.TreeWhy.TheVariants.{Exists, NoParent, Missing, NotEmpty, Inside, Deep}
+use Rattle.object_form.specs.declared.tree_why.TreeWhy.{TreeWhy}
+use Rattle.object_form.specs.declared.tree_why.TreeWhy.TheVariants.{Exists, NoParent, Missing, NotEmpty, Inside, Deep}
 use Rattle.tree_fold.specs.declared.told.Told.{Told}
 use Rattle.tree_fold.specs.declared.told.Told.TheVariants.{Done, Failed}
 use Rattle.tree_fold.specs.declared.entries.Entry.{Entry}
-use Rattle.tree_fold.specs.Paths.{Path, begins_with, goes_on_from, is_same, parent_of}
+use Rattle.tree_fold.specs.Paths.{Path, begins_with, goes_on_from, is_same, next_name, parent_of}
 use Rattle.tree_fold.specs.Readings.{change_of}
 
 -- the paths that are there, each with its value; the root is always there, and is not among them
@@ -93,6 +94,10 @@ abbrev pub told_of_change : ℕ → Tree → Option Change → Option Told
 told_of_change stamp tree None = None
 told_of_change stamp tree (Some change) = Some (told_under stamp (why tree change))
 
+-- what a node behind these is told, if it has a change
+abbrev pub telling : List ObjectNode → ObjectNode → Option Told
+telling nodes node = told_of_change node.key.stamp (tree_after nodes) (change_of node.text)
+
 -- the names rise strictly in their bytes
 abbrev pub NamesRise : List (List ℕ) → Type 0
 NamesRise [] = Unit {0}
@@ -108,3 +113,36 @@ pub record AreNamesIn (tree : Tree) (path : Path) (names : List (List ℕ)) : Ty
 abbrev pub IsNamesAnswer : Tree → Path → Option (List (List ℕ)) → Type 0
 IsNamesAnswer tree path None = is_there tree path ≡ false
 IsNamesAnswer tree path (Some names) = AreNamesIn tree path names
+
+-- rising names with one name more, by how it stands to the first of them: in front of it, the same, or among the later ones
+abbrev pub put_by : Ordering → List ℕ → List ℕ → List (List ℕ) → List (List ℕ) → List (List ℕ)
+put_by Less name first names later = name ∷ first ∷ names
+put_by Equal name first names later = first ∷ names
+put_by Greater name first names later = first ∷ later
+
+-- rising names with one name more at its place, equal ones once
+abbrev pub put_name : List ℕ → List (List ℕ) → List (List ℕ)
+put_name name [] = name ∷ []
+put_name name (first ∷ names) = put_by (slice_cmp nat_cmp name first) name first names (put_name name names)
+
+-- the same, if there is one name more
+abbrev pub put_some : Option (List ℕ) → List (List ℕ) → List (List ℕ)
+put_some None names = names
+put_some (Some name) names = put_name name names
+
+-- the names that come next after a path, each once, by their bytes
+abbrev pub listed : Tree → Path → List (List ℕ)
+listed [] path = []
+listed (entry ∷ entries) path = put_some (next_name path entry.path) (listed entries path)
+
+-- the same, or nothing where the path is not there
+abbrev pub names_after : Tree → Path → Option (List (List ℕ))
+names_after tree path = if is_there tree path then Some (listed tree path) else None
+
+-- these are the names in the path after nodes, or it is not there
+abbrev pub NamesAfter : Path → Option (List (List ℕ)) → List ObjectNode → Type 0
+NamesAfter path names nodes = IsNamesAnswer (tree_after nodes) path names
+
+-- this is the path's value after nodes
+abbrev pub ValueAfter : Path → Value → List ObjectNode → Type 0
+ValueAfter path value nodes = value ≡ value_in (tree_after nodes) path

@@ -3,8 +3,8 @@
 ghost use Rattle.std.specs.Prelude.{◌≡◌, ◌<◌, ◌-◌, nat_lt, drop, length, ◌++◌, ◌∷◌, [], IfOk, OnOk};
 ghost use Rattle.std.specs.List.{list_any, find, filter_map};
 ghost use Rattle.std.specs.Option.{option_copied};
-ghost use Rattle.tree_fold.specs.Paths.{begins_with, is_same, parent_of};
-ghost use Rattle.tree_fold.specs.Orders.{path_order, PathsRise, IsPlace, IsBranch, IsTops, IsNextTop, sole, next_names};
+ghost use Rattle.tree_fold.specs.Paths.{begins_with, is_same, parent_of, sole};
+ghost use Rattle.tree_fold.specs.Orders.{path_order, PathsRise, IsPlace, IsBranch, IsTops, IsNextTop, next_names};
 
 use log_node::{ListOf, Names, Text};
 use std::alloc::{AllocError, Global};

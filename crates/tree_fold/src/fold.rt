@@ -5,7 +5,7 @@ ghost use Rattle.object_fold.specs.Nodes.{ObjectNode};
 ghost use Rattle.tree_fold.specs.Paths.{Path};
 ghost use Rattle.tree_fold.specs.Changes.{IsChange};
 ghost use Rattle.tree_fold.specs.Readings.{change_of};
-ghost use Rattle.tree_fold.specs.Trees.{value_in, is_there, has_more, is_too_deep, why, changed, tree_with, tree_after, told_under, told_of_change, IsNamesAnswer};
+ghost use Rattle.tree_fold.specs.Trees.{value_in, is_there, has_more, is_too_deep, why, changed, tree_with, tree_after, told_under, told_of_change, telling, IsNamesAnswer};
 ghost use Rattle.tree_fold.specs.TreeStates.{SameTree, IsTree};
 
 use crate::change::Change;
@@ -13,8 +13,10 @@ use crate::changing::{make, relocate, remove};
 use crate::entries::{Entry, begins_with, branch_of, entry_of, goes_deeper, next_names, parent_of};
 use crate::path::{MAX_NAMES, Path};
 use crate::reading::read_change;
-use crate::told::{Told, TreeWhy};
+use crate::told::Told;
 use log_node::{Key, Names, Text};
+use object_fold::NodeFold;
+use object_form::TreeWhy;
 use std::alloc::{AllocError, Global};
 use std::marker::Model;
 
@@ -206,5 +208,21 @@ impl TreeFold {
         let (from, to) = branch_of(&self.entries, path);
         let names = next_names(alloc, &self.entries[from..to], path)?;
         Ok(Some(names))
+    }
+}
+
+impl NodeFold for TreeFold {
+    type Told = Told;
+
+    ghost Holds = { IsTree };
+
+    ghost told = { telling };
+
+    fn open(alloc: Global) -> Self {
+        TreeFold::new(alloc)
+    }
+
+    fn feed(&mut self, alloc: Global, key: Key, text: &Text) -> Result<Option<Told>, AllocError> {
+        self.feed(alloc, key, text)
     }
 }

@@ -1,5 +1,5 @@
-//! Laws of the texts of paths and changes. Each function does nothing, and its contract is the law.
-ghost use Rattle.tree_fold.specs.Laws.{PathsReadAsOne, ChangeTextsDiffer, ReadsAsOneChange, ChangesReadBack, ChangesFit, ChangesArePlain, FormsAreNoChanges};
+//! Laws of the texts of paths and changes, and of the names in a path. Each function does nothing, and its contract is the law.
+ghost use Rattle.tree_fold.specs.Laws.{PathsReadAsOne, ChangeTextsDiffer, ReadsAsOneChange, ChangesReadBack, ChangesFit, ChangesArePlain, FormsAreNoChanges, NamesAreAnswered, NamesAreOne};
 
 /// Each text is that of one path or of none.
 pub fn paths_read_as_one()
@@ -34,4 +34,14 @@ pub fn changes_are_plain()
 /// The text of a form of the other objects is no change.
 pub fn forms_are_no_changes()
     ensures { FormsAreNoChanges }
+{}
+
+/// What is computed of a path is what is answered of it: its names, or nothing.
+pub fn names_are_answered()
+    ensures { NamesAreAnswered }
+{}
+
+/// One thing alone is answered of a path.
+pub fn names_are_one()
+    ensures { NamesAreOne }
 {}

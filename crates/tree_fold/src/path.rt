@@ -97,8 +97,8 @@ fn path_behind(alloc: Global, bytes: &[u8]) -> Result<Option<Path>, AllocError>
 }
 
 impl Path {
-    // The path with this text, if there is one.
-    pub(crate) fn of(alloc: Global, bytes: &[u8]) -> Result<Option<Path>, AllocError>
+    /// The path with this text, if there is one. `AllocError` where memory is refused.
+    pub fn of(alloc: Global, bytes: &[u8]) -> Result<Option<Path>, AllocError>
         ensures { IfOk result (λ path. path ≡ path_of bytes.now) }
     {
         match bytes {

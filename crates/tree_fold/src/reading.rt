@@ -91,3 +91,33 @@ pub fn read_change(alloc: Global, text: &Text) -> Result<Option<Change>, AllocEr
 {
     change_in(alloc, text.as_bytes())
 }
+
+/// The change that makes the path with this text, with a value: nothing where the text is that of no path below the root, or the
+/// value may be none. `AllocError` where memory is refused.
+pub fn make_change(alloc: Global, path: &[u8], value: &[u8]) -> Result<Option<Change>, AllocError>
+    ensures { IfOk result (λ change. change ≡ make_of (below_root_of path.now) value.now) }
+{
+    make_of(alloc, below_root_of(alloc, path)?, value)
+}
+
+/// The change that removes the path with this text: nothing where the text is that of no path below the root. `AllocError`
+/// where memory is refused.
+pub fn remove_change(alloc: Global, path: &[u8]) -> Result<Option<Change>, AllocError>
+    ensures { IfOk result (λ change. change ≡ remove_of (below_root_of path.now)) }
+{
+    Ok(remove_of(below_root_of(alloc, path)?))
+}
+
+/// The change that moves the path with the one text to that with the other: nothing where one of them is that of no path below
+/// the root. `AllocError` where memory is refused.
+pub fn move_change(
+    alloc: Global,
+    source: &[u8],
+    target: &[u8],
+) -> Result<Option<Change>, AllocError>
+    ensures { IfOk result (λ change. change ≡ move_of (below_root_of source.now) (below_root_of target.now)) }
+{
+    let source = below_root_of(alloc, source)?;
+    let target = below_root_of(alloc, target)?;
+    Ok(move_of(source, target))
+}

@@ -24,4 +24,6 @@ mod WrongPoints
 mod WrongProposals
 mod WrongRefusals
 mod WrongLooks
+mod WrongGuarded
+mod WrongTrees
 mod FollowingLaws

@@ -86,7 +86,10 @@ causal run =
     omega (arith, l)
 
 pub no_append : IsUnlawful a_dequeue_answered_as_an_append
-no_append run = let m = (only run.log _ _ _ _ (run.clients 0 _ refl).explained).explained.1 in cc (m)
+no_append run = elim (only run.log _ _ _ _ (run.clients 0 _ refl).explained).explained.1 [
+  | inl m ↦ cc (m)
+  | inr g ↦ let m = g.0 in cc (m)
+]
 
 pub of_nothing : IsUnlawful a_dequeue_of_nothing
 of_nothing run =

@@ -1,5 +1,5 @@
 -- One sync of an empty column.
-use Rattle.std.proofs.Common.{◌≡◌, ℕ, ◌≤◌, List, [], length, refl, ap, sym, subst, arith}
+use Rattle.std.proofs.Common.{◌≡◌, inl, inr, ℕ, ◌≤◌, List, [], length, refl, ap, sym, subst, arith}
 use Rattle.std.specs.Prelude.{slice_index, slice_index_or}
 use Rattle.log_node.specs.declared.ids.Counts.{Counts}
 use Rattle.log_node.specs.Vectors.{at}
@@ -27,7 +27,10 @@ wrong_name run = let n = run.names in
     let f : 98 ≡ 97 = ap (λ (names : List (List ℕ)). slice_index (slice_index_or names 0 []) 0) n in omega (arith, f)
 
 pub another_answer : IsUnlawful another_commands_answer
-another_answer run = let m = (only run.log _ _ _ _ (run.clients 0 _ refl).explained).explained.1 in cc (m)
+another_answer run = elim (only run.log _ _ _ _ (run.clients 0 _ refl).explained).explained.1 [
+  | inl m ↦ cc (m)
+  | inr g ↦ let m = g.0 in cc (m)
+]
 
 pub more_plays : IsUnlawful more_plays_than_nodes
 more_plays run = let p = (only run.log _ _ _ _ (run.clients 0 _ refl).explained).explained.1 in cc (p)

@@ -102,7 +102,7 @@ one_object log keys nodes is z = by nodes (subst (λ (ks : List Key). AreObjectN
   by (n ∷ []) z = (n, z.0, refl)
   by (n ∷ m ∷ ns) z = absurd z.1
 
-first_there : {A : Type 0} (xs : List A) (n : ℕ) (x : A) → n ≡ 0 → slice_get xs n ≡ Some x → slice_get xs 0 ≡ Some x
+pub first_there : {A : Type 0} (xs : List A) (n : ℕ) (x : A) → n ≡ 0 → slice_get xs n ≡ Some x → slice_get xs 0 ≡ Some x
 first_there xs n x is there = subst (λ n. slice_get xs n ≡ Some x) is there
 
 -- what the client keeps of its read

@@ -15,3 +15,5 @@ pub mod Proposals
 pub mod Hidden
 pub mod Looks
 pub mod Following
+pub mod Guarded
+pub mod Trees

@@ -67,7 +67,7 @@ impl Gate for InTurn {
 /// A script, how many steps each client passes before the next one goes on, and a part of its report. Each client but the first
 /// begins with an append to two colours of its own, whose first five steps it passes, and each but the last ends with one, of
 /// which the first step counts.
-type Row = (&'static str, [u64; 3], &'static str);
+pub type Row = (&'static str, [u64; 3], &'static str);
 
 const SAME: [Row; 5] = [
     // A node comes to another region by a pull, and what answers it comes back; what all regions have is trimmed, and who comes
@@ -257,12 +257,21 @@ fn leaves_at<R: Threads + Wait + Sync + Abort>(
     Ok(())
 }
 
-#[test]
-fn what_clients_do_in_turn_is_the_same_on_threads(rt: HostRuntime) -> Result<(), Fail> {
-    for (script, wanted, part) in SAME {
-        is_the_same(rt.alloc(), &rt, script.as_bytes(), wanted, part)?;
+/// The scripts are done on threads as in the order of the file, and their reports have the parts.
+pub fn all_are_the_same<R: Threads + Wait + Sync + Abort>(
+    alloc: Global,
+    rt: &R,
+    rows: &[Row],
+) -> Result<(), Fail> {
+    for (script, wanted, part) in rows {
+        is_the_same(alloc, rt, script.as_bytes(), *wanted, part)?;
     }
     Ok(())
+}
+
+#[test]
+fn what_clients_do_in_turn_is_the_same_on_threads(rt: HostRuntime) -> Result<(), Fail> {
+    all_are_the_same(rt.alloc(), &rt, &SAME)
 }
 
 /// What another client does once the first has marked its append in x, which stops after its mark in y; and parts of the report.

@@ -44,7 +44,7 @@ fn each_version_refuses_what_is_beyond_its_limits(rt: HostRuntime) -> Result<(),
 }
 
 /// What scripts of version 2 begin with: the same as those of version 1 in one region.
-const ONE_REGION_2: &str =
+pub const ONE_REGION_2: &str =
     "fuzzylog 2\nregions r\ncolours x y\nclient a r\nclient b r\nclient c r\nbegin\n";
 
 /// The bytes but for the first line, which is this.

@@ -44,7 +44,7 @@ use Rattle.append_core.specs.Settled.{HoldKnowsComplete}
 use Rattle.append_core.specs.Standing.{IsSingleOf, HoldAppendsOne}
 use Rattle.append_core.proofs.CallerLemmas.{helped_complete}
 use Rattle.lawful_run.specs.Callers.{Caller, node_of}
-use Rattle.lawful_run.specs.Appends.{Appends, none_for_one}
+use Rattle.lawful_run.specs.Appends.{Appends, HasNoStamp, none_for_one}
 use Rattle.lawful_run.specs.Lawful.{IsHelp}
 use Rattle.client_law.specs.Knowing.{Rest, log_seen}
 use Rattle.client_law.specs.Making.{MakesOnly}
@@ -120,12 +120,11 @@ module _ (s : Store) (c : Client) (r : Region) (g : Hold) (k : ℕ) (colours : C
   -- IT STANDS
 
   module _ (h : Hold) (st : Stood) (a : HoldAppendsOne g h x k st) (later : IsLater g.seat h.seat)
-      (next : h.next ≡ x.id.count + 1) (now : IsHold r h) (one : (row : Row) → OneNode (view_of h) row) (floor : ℕ)
-      (raised : floor ≡ max st.key.stamp c.floor) where
-    abbrev after : Client
+      (next : h.next ≡ x.id.count + 1) (now : IsHold r h) (floor : ℕ) (raised : floor ≡ max st.key.stamp c.floor) where
+    abbrev pub after : Client
     after = record c { holds = with_item c.holds c.region h; floor = floor; count = c.count + 1 }
 
-    changed : ChangesHome s c after r g h
+    pub changed : ChangesHome s c after r g h
     changed = record {
       number = refl;
       region = refl;
@@ -147,7 +146,7 @@ module _ (s : Store) (c : Client) (r : Region) (g : Hold) (k : ℕ) (colours : C
     stamp_is : st.key.stamp ≡ a.stamp
     stamp_is = ap (λ (q : Key). q.stamp) a.key
 
-    entered : slice_get (seen_of after c.region k) a.place ≡ Some (told_single k g.passes.number x a.stamp).entry
+    pub entered : slice_get (seen_of after c.region k) a.place ≡ Some (told_single k g.passes.number x a.stamp).entry
     entered = seen_at (holds_of after) c.region h at_h k a.place (told_single k g.passes.number x a.stamp) a.entered
 
     lawful : MayEnter (entries_of (take a.place (dated c.region (entries_seen h k)))) x.id x.floor a.stamp
@@ -176,7 +175,7 @@ module _ (s : Store) (c : Client) (r : Region) (g : Hold) (k : ℕ) (colours : C
     whole i e (inl own) help id step = absurd (step_no_single id x.id e step own.1)
     whole i e (inr helps) help id step = helped_complete g h e helps id step
 
-    single_client : IsClient s after
+    pub single_client : IsClient s after
     single_client =
         let before = is.home g at_g in
         let counted = before.counted in
@@ -203,134 +202,139 @@ module _ (s : Store) (c : Client) (r : Region) (g : Hold) (k : ℕ) (colours : C
 
     -- WHAT EXPLAINS IT
 
-    abbrev Others : event_types.Event → Type 0
-    Others e = HelpsOpen g h e × Accounted r g h now e
+    -- where all else that it made is not its own
+    module _ (Foreign : event_types.Event → Type 0) (goes : GoesOn (λ i e. ((i ≡ k) × IsSingleOf x.id e) ⊎ Foreign e) g h)
+        (none_own : Finished c → (e : event_types.Event) → Foreign e → IsTrue (is_own c.number e) → ⊥) where
+      module _ (objects : List Object) (kept : Kept) (finished : Finished c) (keeps : Keeps s c objects kept) where
+        abbrev caller : Caller
+        caller = caller_of s c objects
 
-    goes_apart : GoesOn (λ i e. ((i ≡ k) × IsSingleOf x.id e) ⊎ Others e) g h
-    goes_apart =
-        goes_weaken (λ i e. (((i ≡ k) × IsSingleOf x.id e) ⊎ HelpsOpen g h e) × Accounted r g h now e) g h
-        (λ i e. ((i ≡ k) × IsSingleOf x.id e) ⊎ Others e)
-        (λ i e m. elim m.0 [ inl own ↦ inl own | inr helps ↦ inr (helps, m.1) ])
-        (goes_accounted r g h now (λ i e. ((i ≡ k) × IsSingleOf x.id e) ⊎ HelpsOpen g h e) a.goes)
+        wants_there : node_wants x k ≡ kept.starts k
+        wants_there = wants_kept s c r g colours text x is there at_g x_is objects kept keeps k
+            (contains_in (members colours) k (subst (In k) (sym one_colour) (inl refl)))
 
-    none_own : Finished c → (e : event_types.Event) → Others e → IsTrue (is_own c.number e) → ⊥
-    none_own finished e made own =
-        foreign r g h now changed.on one (nodes_of_rows c)
-        (subst (λ (z : ℕ). AreBegunRows z g (nodes_of_rows c)) (sym (a.goes.number ∙ number)) (is.home g at_g).rows)
-        (finished g at_g) used e made.0 made.1
-        (subst (λ (z : ℕ). IsTrue (is_own z e)) (sym (a.goes.number ∙ number)) own)
+        same_node : node_of caller kept colours text ≡ x
+        same_node = node_is s c r g colours text x is there at_g x_is objects kept keeps
 
-    module _ (objects : List Object) (kept : Kept) (finished : Finished c) (keeps : Keeps s c objects kept) where
-      abbrev caller : Caller
-      caller = caller_of s c objects
+        of_id : x.id ≡ record { client = c.number; count = kept.ids }
+        of_id = id_kept s c r g colours text x is there at_g x_is objects kept keeps
 
-      wants_there : node_wants x k ≡ kept.starts k
-      wants_there = wants_kept s c r g colours text x is there at_g x_is objects kept keeps k
-          (contains_in (members colours) k (subst (In k) (sym one_colour) (inl refl)))
+        of_floor : x.floor ≡ kept.floor
+        of_floor = floor_kept s c r g colours text x is there at_g x_is objects kept keeps
 
-      same_node : node_of caller kept colours text ≡ x
-      same_node = node_is s c r g colours text x is there at_g x_is objects kept keeps
+        abbrev some_rest : Rest
+        some_rest = record { nodes = λ _. replicate (suc kept.ids) x; rows = λ _. [] }
 
-      of_id : x.id ≡ record { client = c.number; count = kept.ids }
-      of_id = id_kept s c r g colours text x is there at_g x_is objects kept keeps
+        stands_with : (rest : Rest) → slice_get (rest.nodes c.number) kept.ids ≡ Some x
+            → SeesOne (seen_of c) (seen_of after) rest caller kept x k a.stamp a.place a.position
+        stands_with rest listed = record {
+          next = listed;
+          unseen = let e = seen_long (holds_of c) c.region g at_g k in let le = a.unseen in omega (arith, e, le);
+          entered = entered ∙ (λ i. Some (record {
+            by = number i;
+            event = events.Single x.id (of_floor i) (wants_there i);
+            stamp = a.stamp;
+          }));
+          stands = ap (λ (l : List Entry). slice_get (line l) a.position) (seen_there (holds_of after) c.region h at_h k)
+              ∙ a.stands;
+        }
 
-      of_floor : x.floor ≡ kept.floor
-      of_floor = floor_kept s c r g colours text x is there at_g x_is objects kept keeps
+        only : MakesOnly c.number c.region k 1 (seen_of c) (seen_of after)
+        only = alone_makes_only (holds_of c) (holds_of after) caller g h at_g at_h number x k st a Foreign
+            (sees_after s c after r g h is changed objects) (others_after s c after r g h is changed) goes
+            (none_own finished)
 
-      abbrev some_rest : Rest
-      some_rest = record { nodes = λ _. replicate (suc kept.ids) x; rows = λ _. [] }
+        abbrev kept_then : Kept
+        kept_then = kept_after_single kept c.region k a.place a.stamp a.position
 
-      stands_with : (rest : Rest) → slice_get (rest.nodes c.number) kept.ids ≡ Some x
-          → SeesOne (seen_of c) (seen_of after) rest caller kept x k a.stamp a.place a.position
-      stands_with rest listed = record {
-        next = listed;
-        unseen = let e = seen_long (holds_of c) c.region g at_g k in let le = a.unseen in omega (arith, e, le);
-        entered = entered ∙ (λ i. Some (record {
-          by = number i;
-          event = events.Single x.id (of_floor i) (wants_there i);
-          stamp = a.stamp;
-        }));
-        stands = ap (λ (l : List Entry). slice_get (line l) a.position) (seen_there (holds_of after) c.region h at_h k)
-            ∙ a.stands;
+        keeps_then : Keeps s after objects kept_then
+        keeps_then = record {
+          by = kept_after_append (seen_of c) (seen_of after) some_rest caller kept x k a.stamp a.place a.position
+              (sees_after s c after r g h is changed objects) keeps.by (stands_with some_rest (replicated x kept.ids)) only;
+          floor =
+              let low = keeps.floor in
+              let stamp = stamp_is in
+              omega (arith, low, stamp, raised);
+          ids = ap (λ (n : ℕ). n + 1) keeps.ids;
+          rows = keeps.rows;
+          starts = keeps.starts;
+        }
+
+        abbrev answer : Appended
+        answer = record { id = x.id; row = None; stood = st }
+
+        record_then : (rest : Rest) → FitsHolds (holds_of after) rest
+            → AppendsAs colours text answer (log_seen (seen_of after) rest) caller kept kept_then
+        record_then rest fits = (
+          ap (λ (y : Node). y.id) (sym same_node),
+          ap (λ (q : Key). q.id) a.key,
+          subst (λ (y : Node). Appends (log_seen (seen_of after) rest) caller kept y st.key.stamp None (map piece_of st.points)
+              kept_then) (sym same_node)
+              (subst (λ (l : List Point). Appends (log_seen (seen_of after) rest) caller kept x st.key.stamp None (map piece_of l)
+              kept_then) (sym a.point)
+              (subst (λ (z : ℕ). Appends (log_seen (seen_of after) rest) caller kept x z None
+              (record { colour = k; at = Event a.place; position = a.position } ∷ []) kept_then) (sym stamp_is) (
+                ap (λ (y : Node). members y.colours) x_is ∙ one_colour,
+                a.place,
+                refl,
+                appends_stand (seen_of c) (seen_of after) rest caller kept x k a.stamp a.place a.position
+                    (sees_after s c after r g h is changed objects) keeps.by
+                    (stands_alone (holds_of c) (holds_of after) caller g h at_g at_h number x k st a rest kept fits of_id
+                    of_floor wants_there),
+                refl,
+              ))),
+        )
+
+      pub explained_so : IsExplained s c after (AppendsAs colours text (record { id = x.id; row = None; stood = st }))
+      explained_so objects kept finished keeps =
+          (kept_then objects kept finished keeps, keeps_then objects kept finished keeps, record_then objects kept finished keeps)
+
+    -- where each row that it knows is of one node
+    module _ (one : (row : Row) → OneNode (view_of h) row) where
+      abbrev Others : event_types.Event → Type 0
+      Others e = HelpsOpen g h e × Accounted r g h now e
+
+      goes_apart : GoesOn (λ i e. ((i ≡ k) × IsSingleOf x.id e) ⊎ Others e) g h
+      goes_apart =
+          goes_weaken (λ i e. (((i ≡ k) × IsSingleOf x.id e) ⊎ HelpsOpen g h e) × Accounted r g h now e) g h
+          (λ i e. ((i ≡ k) × IsSingleOf x.id e) ⊎ Others e)
+          (λ i e m. elim m.0 [ inl own ↦ inl own | inr helps ↦ inr (helps, m.1) ])
+          (goes_accounted r g h now (λ i e. ((i ≡ k) × IsSingleOf x.id e) ⊎ HelpsOpen g h e) a.goes)
+
+      none_own : Finished c → (e : event_types.Event) → Others e → IsTrue (is_own c.number e) → ⊥
+      none_own finished e made own =
+          foreign r g h now changed.on one (nodes_of_rows c)
+          (subst (λ (z : ℕ). AreBegunRows z g (nodes_of_rows c)) (sym (a.goes.number ∙ number)) (is.home g at_g).rows)
+          (finished g at_g) used e made.0 made.1
+          (subst (λ (z : ℕ). IsTrue (is_own z e)) (sym (a.goes.number ∙ number)) own)
+
+      pub single_stands : (id : Id) → id ≡ x.id
+          → CallsAppend s c after colours text None (Ok (record { id = id; row = None; stood = st }))
+      single_stands id same = record {
+        client = single_client;
+        same = (refl, refl);
+        goes = have_gone_on s c after r g h is changed;
+        grows = grown_same c after refl;
+        plays = refl;
+        finished = λ finished. inl (finished_stays s c after r g h is changed refl finished);
+        idle = λ stops. absurd (stops refl);
+        answer = (
+          refl,
+          subst (λ (i : Id). IsExplained s c after (AppendsAs colours text (record { id = i; row = None; stood = st })))
+              (sym same) (explained_so Others goes_apart none_own),
+        );
+        points = ap (map (λ (p : Point). p.colour)) a.point ∙ sym one_colour;
+        full = λ used. (λ e. absurd (let f : ⊥ = cc (e) in f), λ no_row. absurd (one_takes_none s c colours k None used one_colour no_row));
       }
-
-      only : MakesOnly c.number c.region k 1 (seen_of c) (seen_of after)
-      only = alone_makes_only (holds_of c) (holds_of after) caller g h at_g at_h number x k st a Others
-          (sees_after s c after r g h is changed objects) (others_after s c after r g h is changed) goes_apart
-          (none_own finished)
-
-      abbrev kept_then : Kept
-      kept_then = kept_after_single kept c.region k a.place a.stamp a.position
-
-      keeps_then : Keeps s after objects kept_then
-      keeps_then = record {
-        by = kept_after_append (seen_of c) (seen_of after) some_rest caller kept x k a.stamp a.place a.position
-            (sees_after s c after r g h is changed objects) keeps.by (stands_with some_rest (replicated x kept.ids)) only;
-        floor =
-            let low = keeps.floor in
-            let stamp = stamp_is in
-            omega (arith, low, stamp, raised);
-        ids = ap (λ (n : ℕ). n + 1) keeps.ids;
-        rows = keeps.rows;
-        starts = keeps.starts;
-      }
-
-      abbrev answer : Appended
-      answer = record { id = x.id; row = None; stood = st }
-
-      record_then : (rest : Rest) → FitsHolds (holds_of after) rest
-          → AppendsAs colours text answer (log_seen (seen_of after) rest) caller kept kept_then
-      record_then rest fits = (
-        ap (λ (y : Node). y.id) (sym same_node),
-        ap (λ (q : Key). q.id) a.key,
-        subst (λ (y : Node). Appends (log_seen (seen_of after) rest) caller kept y st.key.stamp None (map piece_of st.points)
-            kept_then) (sym same_node)
-            (subst (λ (l : List Point). Appends (log_seen (seen_of after) rest) caller kept x st.key.stamp None (map piece_of l)
-            kept_then) (sym a.point)
-            (subst (λ (z : ℕ). Appends (log_seen (seen_of after) rest) caller kept x z None
-            (record { colour = k; at = Event a.place; position = a.position } ∷ []) kept_then) (sym stamp_is) (
-              ap (λ (y : Node). members y.colours) x_is ∙ one_colour,
-              a.place,
-              refl,
-              appends_stand (seen_of c) (seen_of after) rest caller kept x k a.stamp a.place a.position
-                  (sees_after s c after r g h is changed objects) keeps.by
-                  (stands_alone (holds_of c) (holds_of after) caller g h at_g at_h number x k st a rest kept fits of_id
-                  of_floor wants_there),
-              refl,
-            ))),
-      )
-
-    explained_so : IsExplained s c after (AppendsAs colours text (record { id = x.id; row = None; stood = st }))
-    explained_so objects kept finished keeps =
-        (kept_then objects kept finished keeps, keeps_then objects kept finished keeps, record_then objects kept finished keeps)
-
-    pub single_stands : (id : Id) → id ≡ x.id
-        → CallsAppend s c after colours text None (Ok (record { id = id; row = None; stood = st }))
-    single_stands id same = record {
-      client = single_client;
-      same = (refl, refl);
-      goes = have_gone_on s c after r g h is changed;
-      grows = grown_same c after refl;
-      plays = refl;
-      finished = λ finished. inl (finished_stays s c after r g h is changed refl finished);
-      idle = λ stops. absurd (stops refl);
-      answer = (
-        refl,
-        subst (λ (i : Id). IsExplained s c after (AppendsAs colours text (record { id = i; row = None; stood = st })))
-            (sym same) explained_so,
-      );
-      points = ap (map (λ (p : Point). p.colour)) a.point ∙ sym one_colour;
-      full = λ used. (λ e. absurd (let f : ⊥ = cc (e) in f), λ no_row. absurd (one_takes_none s c colours k None used one_colour no_row));
-    }
 
   -- IT IS REFUSED
 
   module _ (h : Hold) (now : IsHold r h) (but : SameBut k g h) (same : (h.seat ≡ g.seat) × (h.next ≡ g.next))
       (sees : SeesMoreIn k g h) where
-    abbrev left : Client
+    abbrev pub left : Client
     left = record c { holds = with_item c.holds c.region h }
 
-    looked : ChangesHome s c left r g h
+    pub looked : ChangesHome s c left r g h
     looked = record {
       number = refl;
       region = refl;
@@ -356,21 +360,24 @@ module _ (s : Store) (c : Client) (r : Region) (g : Hold) (k : ℕ) (colours : C
       full = λ used. (λ e. absurd (not_full used (cc e)), λ no_row. absurd (one_takes_none s c colours k None used one_colour no_row));
     }
 
+    -- no stamp was left
+    pub ended_so : IsAtEnd (entries_seen h k) x.floor
+        → IsExplained s c left (λ log caller kept after. HasNoStamp log caller kept (node_of caller kept colours text) k after)
+    ended_so ended objects kept finished keeps = (
+      kept,
+      keeps_stay s c left r g h is looked (made_looked k g h but sees) refl refl refl (λ m. refl) objects kept keeps,
+      λ rest fits. none_for_one one_colour
+          (no_stamp_was_left (seen_of c) (seen_of left) rest (caller_of s c objects) kept k
+          (sees_after s c left r g h is looked objects) keeps.by
+          (subst (λ (l : List Entry). IsAtEnd l kept.floor)
+          (sym (seen_there (holds_of left) c.region h (home_after s c left r g h is looked) k))
+          (subst (IsAtEnd (entries_seen h k)) (ap (λ (y : Node). y.floor) x_is ∙ sym keeps.floor) ended))),
+    )
+
     pub single_ended : (clock : ℕ) → HasSingleCause (entries_seen h k) x.floor (faults.StampEnd clock)
         → CallsAppend s c left colours text None (Err (append_faults.StampEnd k))
-    single_ended clock cause = left_with (append_faults.StampEnd k) (λ used e. let f : ⊥ = cc (e) in f) (
-      refl,
-      λ objects kept finished keeps. (
-        kept,
-        keeps_stay s c left r g h is looked (made_looked k g h but sees) refl refl refl (λ m. refl) objects kept keeps,
-        λ rest fits. none_for_one one_colour
-            (no_stamp_was_left (seen_of c) (seen_of left) rest (caller_of s c objects) kept k
-            (sees_after s c left r g h is looked objects) keeps.by
-            (subst (λ (l : List Entry). IsAtEnd l kept.floor)
-            (sym (seen_there (holds_of left) c.region h (home_after s c left r g h is looked) k))
-            (subst (IsAtEnd (entries_seen h k)) (ap (λ (y : Node). y.floor) x_is ∙ sym keeps.floor) cause.1))),
-      ),
-    )
+    single_ended clock cause =
+        left_with (append_faults.StampEnd k) (λ used e. let f : ⊥ = cc (e) in f) (refl, ended_so cause.1)
 
     pub single_refused : CallsAppend s c left colours text None (Err append_faults.NoMemory)
     single_refused = left_with append_faults.NoMemory (λ used e. let f : ⊥ = cc (e) in f)

@@ -7,7 +7,7 @@ ghost use Rattle.run_script.specs.Opened.{kind_opened, object_asked, AreKept, Ar
 ghost use Rattle.run_script.specs.Serving.{ServesLog, GivesAll, IsAnswered};
 ghost use Rattle.run_script.specs.Served.{IsServable};
 
-use crate::serving::appends::{append, stop};
+use crate::serving::appends::{append, only, stop};
 use crate::serving::moves::{pull, trim};
 use crate::serving::object_answers::{object_answer, object_asked};
 use crate::serving::opened::Opened;
@@ -56,9 +56,14 @@ fn log_answer<R: Wait, G: Gate>(
             ListOf::new(alloc),
         ),
         What::Trim { colour } => (trim(rt, store, client, colour), ListOf::new(alloc)),
+        What::Only { colour, text } => (
+            only(rt, alloc, store, client, colour, text),
+            ListOf::new(alloc),
+        ),
         What::Put { .. } | What::Get { .. } | What::Del { .. } => unreachable!(),
         What::PutAll { .. } | What::GetAll { .. } | What::Enq { .. } => unreachable!(),
         What::Read { .. } | What::Commit { .. } | What::Deq { .. } => unreachable!(),
+        What::Mk { .. } | What::Rm { .. } | What::Mv { .. } | What::Ls { .. } => unreachable!(),
     }
 }
 

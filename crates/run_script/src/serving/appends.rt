@@ -1,11 +1,12 @@
 // Appends, and stops within them.
-ghost use Rattle.std.specs.Prelude.{◌≡◌, ◌≤◌, [], length, map, vec_capacity};
+ghost use Rattle.std.specs.Prelude.{◌≡◌, ◌≤◌, ◌<◌, [], length, map, vec_capacity};
 ghost use Rattle.log_node.specs.Sets.{members};
 ghost use Rattle.log_client.specs.Clients.{IsClient};
 ghost use Rattle.log_client.specs.Appends.{AreColoursOf, IsStopWithin, piece_of};
 ghost use Rattle.run_script.specs.Serving.{ServesLog};
 
 use append_core::{MultiFault, Point};
+use column::OnlyFault;
 use fuzzy_io::Gate;
 use log_client::{Client, Store};
 use log_node::{Colours, ListOf, Text};
@@ -86,6 +87,65 @@ pub fn append<R: Wait, G: Gate>(
     let _bits = colours.0;
     match Vec::with_capacity(alloc, colours.count()) {
         Ok(pieces) => append_with(rt, alloc, store, gate, client, colours, text, pieces),
+        Err(_) => Answer::NoMemory,
+    }
+}
+
+// The answer to a conditional append whose point has room.
+fn only_with<R: Wait>(
+    rt: &R,
+    alloc: Global,
+    store: &Store,
+    client: &mut Client,
+    colour: u8,
+    text: Text,
+    pieces: Vec<PointPiece>,
+) -> Answer
+    requires client { IsClient store.now client.old }
+    requires colour { colour < store.now.size.colours }
+    requires empty { pieces.items ≡ [] }
+    requires room { 1 ≤ vec_capacity pieces }
+    ensures { ServesLog store.now client.old client.new (What.Only colour text) result [] }
+{
+    match client.only(rt, alloc, store, colour, text) {
+        Ok(appended) => Answer::Stood {
+            stamp: appended.stood.key.stamp,
+            row: appended.row,
+            points: shown(appended.stood.points.as_slice(), pieces),
+        },
+        Err(
+            OnlyFault::Moved {
+                length,
+                waiting,
+                events,
+            },
+        ) => Answer::Moved {
+            length,
+            waiting,
+            colour,
+            events,
+        },
+        Err(OnlyFault::StampEnd { .. }) => Answer::StampEnd { colour },
+        Err(OnlyFault::NoMemory) => Answer::NoMemory,
+    }
+}
+
+/// Appends a node to one colour, only where nothing has come between, and shows where it stands or what it found. The room for its
+/// point is taken first.
+pub fn only<R: Wait>(
+    rt: &R,
+    alloc: Global,
+    store: &Store,
+    client: &mut Client,
+    colour: u8,
+    text: Text,
+) -> Answer
+    requires client { IsClient store.now client.old }
+    requires colour { colour < store.now.size.colours }
+    ensures { ServesLog store.now client.old client.new (What.Only colour text) result [] }
+{
+    match Vec::with_capacity(alloc, 1) {
+        Ok(pieces) => only_with(rt, alloc, store, client, colour, text, pieces),
         Err(_) => Answer::NoMemory,
     }
 }

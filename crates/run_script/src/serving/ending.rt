@@ -109,15 +109,15 @@ pub fn end_report<R: Threads + Sync>(
     let (rows, columns) = region_reports(
         rt,
         alloc,
-        &script.regions,
-        &script.colours,
+        script.regions.as_list(),
+        script.colours.as_list(),
         nodes.as_slice(),
         ends.into_vec(),
         threads,
     )?;
     Ok(Report {
         version: script.version,
-        clients: client_reports(alloc, &script.clients, replies)?,
+        clients: client_reports(alloc, script.clients.as_list(), replies)?,
         rows,
         columns,
     })

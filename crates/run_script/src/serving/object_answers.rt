@@ -11,12 +11,14 @@ use crate::serving::gets::{deq, get};
 use crate::serving::opened::Opened;
 use crate::serving::puts::{del, enq, put, put_all};
 use crate::serving::reads::{commit, get_all, read};
+use crate::serving::trees::{change, list};
 use fuzzy_io::Gate;
 use log_client::{Client, Store};
 use report_text::Answer;
 use script_text::{Use, What};
 use std::alloc::Global;
 use std::sync::Wait;
+use tree_fold::{make_change, move_change, remove_change};
 
 /// The number of the object that a command is of.
 pub fn object_asked(what: &What) -> Option<u8>
@@ -83,7 +85,35 @@ pub fn object_answer<R: Wait, G: Gate>(
             pairs,
         } => commit(rt, alloc, store, gate, client, opened, pairs),
         What::Deq { object: _object } => deq(rt, alloc, store, gate, client, opened),
+        What::Mk {
+            object: _object,
+            path,
+            value,
+        } => {
+            let said = make_change(alloc, path.as_bytes(), value.as_bytes());
+            change(rt, alloc, store, gate, client, opened, said)
+        }
+        What::Rm {
+            object: _object,
+            path,
+        } => {
+            let said = remove_change(alloc, path.as_bytes());
+            change(rt, alloc, store, gate, client, opened, said)
+        }
+        What::Mv {
+            object: _object,
+            source,
+            target,
+        } => {
+            let said = move_change(alloc, source.as_bytes(), target.as_bytes());
+            change(rt, alloc, store, gate, client, opened, said)
+        }
+        What::Ls {
+            object: _object,
+            path,
+        } => list(rt, alloc, store, gate, client, opened, path),
         What::Append { .. } | What::Stop { .. } | What::Sync { .. } => unreachable!(),
         What::Scan { .. } | What::Pull { .. } | What::Trim { .. } => unreachable!(),
+        What::Only { .. } => unreachable!(),
     }
 }

@@ -8,6 +8,7 @@ use causal_map::CausalMap;
 use log_map::LogMap;
 use log_node::{ColourList, ListOf};
 use log_queue::LogQueue;
+use log_tree::LogTree;
 use region_fold::{Tx, TxMap};
 use script_text::{Kind, Object};
 use std::alloc::{AllocError, Global};
@@ -20,6 +21,7 @@ pub enum Opened {
     Tx { map: TxMap, found: Option<Tx> },
     Causal(CausalMap),
     Queue(LogQueue),
+    Tree(LogTree),
 }
 
 // Colours once more.
@@ -54,6 +56,11 @@ fn open(alloc: Global, kind: &Kind) -> Result<Opened, AllocError>
         Kind::Queue { home, colour } => {
             let queue = LogQueue::open(alloc, *home, *colour);
             Ok(Opened::Queue(queue))
+        }
+        Kind::Tree { home, colours } => {
+            let copy = copied(alloc, colours.as_slice())?;
+            let tree = LogTree::open(alloc, *home, copy);
+            Ok(Opened::Tree(tree))
         }
     }
 }

@@ -29,12 +29,12 @@ use std::sync::Wait;
 /// The room for what a reply shows of a stamped read.
 #[derive(Drop)]
 pub struct ReadRoom {
-    raises: Vec<RaisePiece>,
-    syncs: Vec<SyncPiece>,
+    pub raises: Vec<RaisePiece>,
+    pub syncs: Vec<SyncPiece>,
 }
 
-// Room for a stamped read of so many colours.
-fn room_for(alloc: Global, colours: usize) -> Result<ReadRoom, AllocError>
+/// Room for a stamped read of so many colours.
+pub fn room_for(alloc: Global, colours: usize) -> Result<ReadRoom, AllocError>
     ensures empty { IfOk result ShowsNone }
     ensures places { IfOk result (HasPlaces colours) }
 {
@@ -170,8 +170,8 @@ pub fn read<R: Wait, G: Gate>(
     }
 }
 
-// The answer to a command that is told what becomes of its node, in the room that was taken for it.
-fn told_shown<F: Shown>(
+/// The answer to a command that is told what becomes of its node, in the room that was taken for it.
+pub fn told_shown<F: Shown>(
     call: Result<(F::Told, Appended, StampedRead), ObjectFault>,
     pieces: Vec<PointPiece>,
     room: ReadRoom,

@@ -1,5 +1,5 @@
 -- An append to several colours that is final.
-use Rattle.std.proofs.Common.{◌≡◌, ℕ, ◌+◌, ◌<◌, ◌≤◌, max, List, [], ◌∷◌, ◌++◌, length, map, Some, true, false, refl, ap, sym, subst, ◌∙◌, arith}
+use Rattle.std.proofs.Common.{◌≡◌, ℕ, ◌+◌, ◌<◌, ◌≤◌, max, List, [], ◌∷◌, ◌++◌, length, map, Some, true, false, inl, refl, ap, sym, subst, ◌∙◌, arith}
 use Rattle.std.specs.Prelude.{nat_lt, nat_le, slice_get, slice_index, reverse}
 use Rattle.std.specs.List.{list_any, list_all, range_with_len}
 use Rattle.std.proofs.lemmas.Bool.{ltb-true, lt-ltb, le-leb, and_from}
@@ -359,7 +359,7 @@ module _ (objects : List Object) (S : ℕ → Type 0) (grants : Grants) (w : Wor
       explains =
           subst (λ (x : Caller). Explains (log_of w6) x kept (whats.Append colours text)
           (answers.Stood f (Some row.number) points) [] kept') (sym (caller_same w w6 objects u shape6))
-          (refl, refl, (colours, text, (refl, refl), (sym k.rows, places, appends, refl)))
+          (refl, inl refl, (colours, text, (refl, refl), (sym k.rows, places, appends, refl)))
 
     points_are : points ≡ map (point_in w w6 u id) (members colours)
     points_are = ap (λ (s : Shape). map (λ c. record {

@@ -142,7 +142,7 @@ module _ (objects : List Object) (S : ℕ → Type 0) (grants : Grants) (w : Wor
   abbrev position : ℕ
   position = position_of id (line (w2.histories own c))
 
-  stands : slice_get (line (w2.histories own c)) position ≡ Some key
+  pub stands : slice_get (line (w2.histories own c)) position ≡ Some key
   stands = stands_there w2 (held_of w2 reached2) own c stamp id final2 (clears.clear c (inl refl))
 
   history2 : w2.histories own c ≡ (h ++ e ∷ []) ++ (clears.helped.adds own c).more
@@ -155,7 +155,7 @@ module _ (objects : List Object) (S : ℕ → Type 0) (grants : Grants) (w : Wor
   steps_run : run_steps w (Single u c text ∷ clears.helped.steps) ≡ w2
   steps_run = ap (λ (x : World). run_steps x clears.helped.steps) done_is ∙ clears.helped.run
 
-  behind : length (line h) ≤ position
+  pub behind : length (line h) ≤ position
   behind =
       let p = (later_log w w2 (Single u c text ∷ clears.helped.steps) reached steps_run).lines own c in
       subst (λ (l : List Key). length (line h) ≤ position_of id l) p.1
@@ -256,7 +256,7 @@ module _ (objects : List Object) (S : ℕ → Type 0) (grants : Grants) (w : Wor
         subst (λ (x : Caller). Explains (log_of w2) x kept (whats.Append colours text)
         (answers.Stood stamp None (point ∷ [])) [] kept')
         (sym (caller_same w w2 objects u shape2))
-        (refl, refl, (colours, text, (refl, refl), (one, length h, refl, appends, refl)))
+        (refl, inl refl, (colours, text, (refl, refl), (one, length h, refl, appends, refl)))
 
     own_places : (r d : ℕ) → places_of u (w2.histories r d)
         ≡ updated_at kept.made own c (kept.made own c ++ length h ∷ []) r d

@@ -65,7 +65,7 @@ module _ (objects : List Object) (u : ℕ) (what : What) (colours : Colours) (te
   explains_as log w kept answers.NoMemory nodes after e =
       (e.0, finds_no_memory log (caller_in w objects u) kept what colours text (asks w kept) after e.1)
   explains_as log w kept (answers.Stood stamp row points) nodes after e =
-      (e.0, appending, by_asks log (caller_in w objects u) kept what colours text (asks w kept) _ e.2)
+      (e.0, inl appending, by_asks log (caller_in w objects u) kept what colours text (asks w kept) _ e.2)
   explains_as log w kept (answers.StampEnd colour) nodes after e = (e.0, not_stopping, by_asks log (caller_in w objects u) kept what colours text (asks w kept) _ e.2)
   explains_as log w kept (answers.Full used) nodes after e = (e.0, no_stop, e.2, by_asks log (caller_in w objects u) kept what colours text (asks w kept) _ e.3)
   explains_as log w kept (answers.Stopped steps) nodes after e = let x = e.3 in absurd (let f : ⊥ = cc in f)
@@ -85,6 +85,12 @@ module _ (objects : List Object) (u : ℕ) (what : What) (colours : Colours) (te
   ])
   explains_as log w kept (answers.Ruled conflict stamp row points read_stamp raises syncs) nodes after e =
       let x = e.1.0 in absurd (let f : ⊥ = cc in f)
+  explains_as log w kept (answers.Changed failed stamp row points read_stamp raises syncs) nodes after e =
+      let x = e.1.0 in absurd (let f : ⊥ = cc in f)
+  explains_as log w kept (answers.Listed names stamp raises syncs) nodes after e =
+      let x = e.3 in absurd (let f : ⊥ = cc in f)
+  explains_as log w kept (answers.Moved lined waiting colour events) nodes after e =
+      let x = e.2 in absurd (let f : ⊥ = cc in f)
   explains_as log w kept answers.NoTx nodes after e = let x = e.4 in absurd (let f : ⊥ = cc in f)
   explains_as log w kept (answers.Took value point sync) nodes after e =
       let x = e.1 in absurd (let f : ⊥ = cc in f)

@@ -6,6 +6,8 @@ use Rattle.log_node.specs.declared.ids.Colours.{Colours}
 use Rattle.log_node.specs.Sets.{members, set_of}
 use Rattle.std.specs.Prelude.{unwrap_or}
 use Rattle.object_form.specs.Laws.{ReadsBack}
+use Rattle.tree_fold.specs.Readings.{below_root_of, make_of, remove_of, move_of}
+use Rattle.tree_fold.proofs.CallerLemmas.{make_fits, remove_fits, move_fits}
 use Rattle.col_core.proofs.CallerLemmas.{both}
 use Rattle.script_text.specs.declared.script.Object.{Object}
 use Rattle.script_text.specs.declared.commands.What.{What}
@@ -16,11 +18,15 @@ use Rattle.script_text.specs.Fitting.{IsWithin, UsesObject}
 use Rattle.lawful_run.specs.Callers.{Caller}
 use Rattle.lawful_run.specs.Deeds.{Reach, NoColours, Named, ShardsOf, colours_reached, Saying, saying_of}
 use Rattle.lawful_run.specs.Asks.{object_colours, kind_asked, colours_of_object, keys_of_pairs, shards}
+use Rattle.lawful_run.proofs.CallerLemmas.{make_asks, remove_asks, move_asks}
 use Rattle.script_meaning.specs.States.{State, Grants, all_granted}
 use Rattle.script_meaning.specs.Stamped.{shown_key, scan_answer}
 use Rattle.script_meaning.specs.Objects.{caller_in, shard_set}
 use Rattle.script_meaning.specs.Gets.{keys_answer}
+use Rattle.script_meaning.specs.Telling.{all_colours}
+use Rattle.script_meaning.specs.Trees.{names_answer}
 use Rattle.script_meaning.specs.Meaning.{done_one}
+use Rattle.script_meaning.proofs.Append.AppendNext as guarding
 use Rattle.script_meaning.proofs.Append.AppendRuns as appending
 use Rattle.script_meaning.proofs.Move.AfterMoves as moving
 use Rattle.script_meaning.proofs.Object.DequeueRuns as dequeuing
@@ -30,10 +36,13 @@ use Rattle.script_meaning.proofs.Object.ObjectForms.{a_key}
 use Rattle.script_meaning.proofs.Object.ShardSets.{shard_members}
 use Rattle.script_meaning.proofs.Read.AfterScan as scanning
 use Rattle.script_meaning.proofs.Transaction.CommitRuns as committing
-use Rattle.script_meaning.proofs.Run.GrantedCommands.{Extends, HadMemory, append_extends, append_exact, stop_extends, stop_exact, sync_extends, pull_extends, pull_exact, trim_extends, read_extends, reads_exact, kept_extends, kept_exact, commit_extends, commit_exact, deq_extends, deq_exact, got_extends, got_exact}
+use Rattle.script_meaning.proofs.Tree.ChangeRuns as changing
+use Rattle.script_meaning.proofs.Tree.NameRuns as listing
+use Rattle.script_meaning.proofs.Run.GrantedCommands.{Extends, HadMemory, append_extends, append_exact, stop_extends, stop_exact, sync_extends, pull_extends, pull_exact, trim_extends, read_extends, reads_exact, kept_extends, kept_exact, commit_extends, commit_exact, changed_extends, changed_exact, deq_extends, deq_exact, got_extends, got_exact, only_extends}
 use Rattle.script_meaning.proofs.Run.Invariant.{Runs, IsFit}
+use Rattle.script_meaning.proofs.Tree.TreeLaws.{TreesReadBack}
 
-module _ (back : ReadsBack) (script : Script) (commands : List Command) (state : State) (command : Command)
+module _ (back : ReadsBack) (tree : TreesReadBack) (script : Script) (commands : List Command) (state : State) (command : Command)
     (grants : Grants) (runs : Runs script commands state) (fit : IsFit script commands command) where
   pub runs_what : (what : What) → command.what ≡ what
       → IsWithin script.shape.regions script.shape.colours what → UsesObject script.objects what
@@ -71,6 +80,31 @@ module _ (back : ReadsBack) (script : Script) (commands : List Command) (state :
       (λ one _ _. (one, refl))
   runs_what (whats.Deq object) asked within uses =
       dequeuing.runs_dequeue script commands state command grants runs fit object asked uses.0
+  runs_what (whats.Only colour text) asked within uses =
+      guarding.runs_only script commands state command runs fit colour text asked within
+  runs_what (whats.Mk object path value) asked within uses =
+      changing.runs_changed tree.0 script commands state command grants runs fit _ asked refl (λ kept. refl) object uses.0
+      (λ x. refl) (make_of (below_root_of path) value)
+      (λ change is. (
+        make_fits path value change is,
+        λ x kept. make_asks (caller_in x script.objects command.client) kept object change _ _ path value is (shard_members _ _) refl,
+      ))
+  runs_what (whats.Rm object path) asked within uses =
+      changing.runs_changed tree.0 script commands state command grants runs fit _ asked refl (λ kept. refl) object uses.0
+      (λ x. refl) (remove_of (below_root_of path))
+      (λ change is. (
+        remove_fits path change is,
+        λ x kept. remove_asks (caller_in x script.objects command.client) kept object change _ _ path is (shard_members _ _) refl,
+      ))
+  runs_what (whats.Mv object source target) asked within uses =
+      changing.runs_changed tree.0 script commands state command grants runs fit _ asked refl (λ kept. refl) object uses.0
+      (λ x. refl) (move_of (below_root_of source) (below_root_of target))
+      (λ change is. (
+        move_fits source target change is,
+        λ x kept. move_asks (caller_in x script.objects command.client) kept object change _ _ source target is (shard_members _ _) refl,
+      ))
+  runs_what (whats.Ls object path) asked within uses =
+      listing.runs_names tree.1 script commands state command grants runs fit object path asked uses.0 uses.1
 
 -- the set of the colours of a reach, of an object with its own ones
 abbrev set_reached : List ℕ → Reach → Colours
@@ -106,6 +140,15 @@ module _ (objects : List Object) (grants : Grants) (state : State) (command : Co
   one_command_extends (whats.Read object keys) = kept_extends objects grants state command object keys
   one_command_extends (whats.Commit object pairs) = commit_extends objects grants state command object pairs _
   one_command_extends (whats.Deq object) = deq_extends objects grants state command _
+  one_command_extends (whats.Only colour text) = only_extends objects grants state command colour text
+  one_command_extends (whats.Mk object path value) =
+      changed_extends objects grants state command object (make_of (below_root_of path) value)
+  one_command_extends (whats.Rm object path) =
+      changed_extends objects grants state command object (remove_of (below_root_of path))
+  one_command_extends (whats.Mv object source target) =
+      changed_extends objects grants state command object (move_of (below_root_of source) (below_root_of target))
+  one_command_extends (whats.Ls object path) =
+      read_extends objects grants state command (all_colours objects state command object) (λ v. names_answer v path) (λ _ _. [])
   one_command_extends what =
       append_extends objects grants state command (its_set what) (said what).text (members (its_set what))
 
@@ -124,5 +167,14 @@ module _ (objects : List Object) (grants : Grants) (state : State) (command : Co
   one_command_exact (whats.Read object keys) = kept_exact objects grants state command object keys
   one_command_exact (whats.Commit object pairs) = commit_exact objects grants state command object pairs _
   one_command_exact (whats.Deq object) = deq_exact objects grants state command _
+  one_command_exact (whats.Only colour text) = λ _. refl
+  one_command_exact (whats.Mk object path value) =
+      changed_exact objects grants state command object (make_of (below_root_of path) value)
+  one_command_exact (whats.Rm object path) =
+      changed_exact objects grants state command object (remove_of (below_root_of path))
+  one_command_exact (whats.Mv object source target) =
+      changed_exact objects grants state command object (move_of (below_root_of source) (below_root_of target))
+  one_command_exact (whats.Ls object path) =
+      reads_exact objects grants state command (all_colours objects state command object) (λ v. names_answer v path) (λ _ _. [])
   one_command_exact what =
       append_exact objects grants state command (its_set what) (said what).text (members (its_set what))

@@ -12,6 +12,7 @@ use Rattle.log_node.specs.declared.marks.Mark.TheVariants as marks
 use Rattle.log_node.specs.declared.marks.ColourMark.{ColourMark}
 use Rattle.col_core.proofs.CallerLemmas.{In}
 use Rattle.object_form.specs.Laws.{ReadsBack}
+use Rattle.script_meaning.proofs.Tree.TreeLaws.{TreesReadBack}
 use Rattle.world_laws.specs.Worlds.{home_of, row_of}
 use Rattle.world_laws.specs.Completing.{colours_of}
 use Rattle.world_laws.specs.Laws.{begun_row, rows_of_region}
@@ -110,7 +111,7 @@ module _ (script : Script) (fits : IsFitting script) where
         flat_map_there f (z ∷ xs) x y (inr i) j = in_right y (f z) (flat_map f xs) (flat_map_there f xs x y i j)
 
 -- where no reply and no mark tells of want of memory, the report is the one that is meant
-pub runs_are_exact : ReadsBack → RunsAreExact
-runs_are_exact back script fits last state leads finds =
+pub runs_are_exact : ReadsBack → TreesReadBack → RunsAreExact
+runs_are_exact back tree script fits last state leads finds =
     ap (report_of script) (exact_leads script fits leads [] (sym (append-nil script.commands))
-    (is_clean script fits state (runs_all back script fits last leads) finds) (tells_none script fits state finds))
+    (is_clean script fits state (runs_all back tree script fits last leads) finds) (tells_none script fits state finds))

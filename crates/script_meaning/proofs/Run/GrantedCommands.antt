@@ -1,6 +1,6 @@
 -- Each kind of command: steps lead to the state behind it, and where it finds memory it does what it does with memory granted
 -- everywhere.
-use Rattle.std.proofs.Common.{◌≡◌, inl, ℕ, zero, suc, cond, List, [], ◌∷◌, ◌++◌, map, take, Option, Some, None, Bool, true, false, refl, ap, sym, subst, ◌∙◌}
+use Rattle.std.proofs.Common.{◌≡◌, inl, ℕ, zero, suc, cond, List, [], ◌∷◌, ◌++◌, length, map, take, Option, Some, None, Bool, true, false, refl, ap, sym, subst, ◌∙◌}
 use Rattle.std.specs.Prelude.{◌==◌}
 use Rattle.log_node.specs.declared.ids.Key.{Key}
 use Rattle.log_node.specs.declared.ids.Row.{Row}
@@ -14,10 +14,12 @@ use Rattle.object_form.specs.Forms.{form_text}
 use Rattle.log_node.specs.declared.marks.Why.TheVariants.{Memory, StampEnd}
 use Rattle.log_node.specs.declared.marks.Outcome.{Outcome}
 use Rattle.log_node.specs.declared.marks.Outcome.TheVariants.{Open, Gone, Final}
-use Rattle.col_core.specs.History.{entry_key}
+use Rattle.tree_fold.specs.declared.change.Change.{Change}
+use Rattle.tree_fold.specs.Changes.{change_text, change_keys}
+use Rattle.col_core.specs.History.{entry_key, entries, open_count, line}
 use Rattle.col_core.proofs.CallerLemmas.{choice, In}
 use Rattle.world_laws.specs.declared.steps.Step.TheVariants.{Begin, Single, Give, Carry, Trim, Play, Seen}
-use Rattle.world_laws.specs.Worlds.{World, home_of, held_of, after, run_steps, row_of, next_id, next_row, may_single, single_stamp, may_play}
+use Rattle.world_laws.specs.Worlds.{World, home_of, home_history, held_of, after, run_steps, row_of, next_id, next_row, may_single, single_stamp, may_play}
 use Rattle.world_laws.proofs.CallerLemmas.{at_updated, updated-here, in_left, in_right}
 use Rattle.script_text.specs.declared.script.Kind.{Kind}
 use Rattle.script_text.specs.declared.script.Kind.TheVariants as kinds
@@ -46,6 +48,8 @@ use Rattle.script_meaning.specs.Dequeues.{object_node_at, first_nodes, sync_now,
 use Rattle.script_meaning.specs.Gets.{value_now, got, key_answers}
 use Rattle.script_meaning.specs.Telling.{ReadAnswer, all_colours, appended_and_told, answered_by_read, told_behind}
 use Rattle.script_meaning.specs.Transactions.{keys_answered, read_in, verdict_tells, version_keys, committed_by}
+use Rattle.script_meaning.specs.Guards.{has_moved, appended_next}
+use Rattle.script_meaning.specs.Trees.{change_tells, changed}
 use Rattle.script_meaning.specs.CausalGets.{causal_values, nodes_up_to_cut}
 use Rattle.script_meaning.specs.Meaning.{TellsNoWant}
 use Rattle.script_meaning.proofs.Run.GrantedSteps.{IsClean, RunsTo, stays_there, runs_on, clean_from, complete_exact, taken_exact, clears_run, clears_exact}
@@ -224,6 +228,21 @@ module _ (objects : List Object) (grants : Grants) (state : State) (command : Co
   pub append_exact : (colours : Colours) (text ms : List ℕ) → HadMemory u (appended grants state command colours text ms)
       → appended grants state command colours text ms ≡ appended all_granted state command colours text ms
   append_exact = append_so_exact (answered_stood state command) (answered_stood state command) stands (λ _ _ _ _ _. refl)
+
+  pub only_extends : (c : ℕ) (text : List ℕ) → Extends state (appended_next state command c text)
+  only_extends c text =
+      let v = after w (Single u c text) in
+      let h = home_history w u c in
+      let moved = answers.Moved (length (line h)) (open_count (entries h)) c (length h) in
+      let stood = answers.Stood (single_stamp w u c) None (point_in w v u (next_id w u) c ∷ []) in
+      let ended = answers.StampEnd c in
+      choice (Extends state) (has_moved w u c) (answered state command w moved [])
+      (cond (may_single w u c) (answered state command v stood []) (answered state command w ended []))
+      (λ _. answers_so w moved)
+      (λ _. choice (Extends state) (may_single w u c) (answered state command v stood [])
+      (answered state command w ended [])
+      (λ _. answer_goes state command v stood [] (record { steps = Single u c text ∷ []; run = refl }))
+      (λ _. answers_so w ended))
 
   -- STOPS, AND MOVES OF COLUMNS
 
@@ -447,6 +466,18 @@ module _ (objects : List Object) (grants : Grants) (state : State) (command : Co
   commit_exact object pairs (Some versions) had =
       telling_exact verdict_tells object (shard_set (colours_of_object caller object) (version_keys versions ++ keys_of_pairs pairs))
       (form_text (forms.Transaction versions pairs)) had
+
+  pub changed_extends : (object : ℕ) (change : Option Change) → Extends state (changed objects grants state command object change)
+  changed_extends object None = answers_so w answers.NoMemory
+  changed_extends object (Some change) =
+      telling_extends change_tells object (shard_set (colours_of_object caller object) (change_keys change)) (change_text change)
+
+  pub changed_exact : (object : ℕ) (change : Option Change)
+      → HadMemory u (changed objects grants state command object change)
+      → changed objects grants state command object change ≡ changed objects all_granted state command object change
+  changed_exact object None had = refl
+  changed_exact object (Some change) had =
+      telling_exact change_tells object (shard_set (colours_of_object caller object) (change_keys change)) (change_text change) had
 
   -- GETS AND DEQUEUES
 

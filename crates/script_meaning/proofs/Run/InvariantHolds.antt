@@ -1,7 +1,6 @@
 -- Each state to which a fitting script's commands lead keeps what `Runs` says.
-use Rattle.std.proofs.Common.{◌≡◌, ◌⊎◌, inl, inr, ℕ, suc, ◌+◌, ◌<◌, ◌≤◌, List, [], ◌∷◌, ◌++◌, length, Option, Some, None, refl, ap, sym, subst, ◌∙◌, arith, append-nil, append_assoc, length-append, lit≤}
+use Rattle.std.proofs.Common.{◌≡◌, ◌⊎◌, inl, inr, ℕ, suc, ◌+◌, ◌<◌, List, [], ◌∷◌, ◌++◌, length, Option, Some, None, refl, ap, sym, subst, ◌∙◌, arith, append-nil, append_assoc, length-append}
 use Rattle.std.specs.Prelude.{IsTrue, slice_get, slice_index, slice_index_or}
-use Rattle.log_node.specs.declared.limits.TheConstants.{MAX_COLOURS, MAX_CLIENTS}
 use Rattle.object_form.specs.Laws.{ReadsBack}
 use Rattle.col_core.proofs.CallerLemmas.{choice, In}
 use Rattle.world_laws.proofs.CallerLemmas.{in_slice, in_left, in_right}
@@ -24,10 +23,10 @@ use Rattle.script_meaning.proofs.Client.Kept.{did_nothing}
 use Rattle.script_meaning.proofs.World.Playing.{at_or}
 use Rattle.script_meaning.proofs.Transaction.TransactionReads as reading
 use Rattle.script_meaning.proofs.Object.ObjectKinds.{not_away, is_away, did_stay_away}
-use Rattle.script_meaning.proofs.Run.FitCommands as fits
 use Rattle.script_meaning.proofs.Append.BeginRow as begun
 use Rattle.script_meaning.proofs.Lists.{all_at}
 use Rattle.script_meaning.proofs.Run.CommandRows.{runs_what}
+use Rattle.script_meaning.proofs.Tree.TreeLaws.{TreesReadBack}
 use Rattle.script_meaning.proofs.Run.Invariant.{Runs, IsFitWhere, IsFit, runs_opening, runs_answered, caller_is}
 
 -- whether a command is a read of an object
@@ -57,7 +56,7 @@ module _ (script : Script) (commands : List Command) (command : Command)
     read = other;
   }
 
-module _ (back : ReadsBack) (script : Script) (commands : List Command) (state : State) (command : Command)
+module _ (back : ReadsBack) (tree : TreesReadBack) (script : Script) (commands : List Command) (state : State) (command : Command)
     (grants : Grants) (runs : Runs script commands state) where
   abbrev caller_now : Caller
   caller_now = caller_in state.world script.objects command.client
@@ -75,7 +74,7 @@ module _ (back : ReadsBack) (script : Script) (commands : List Command) (state :
             (done_one script.objects grants state command what)) (sym r.2)
             (reading.runs_read script commands state command grants runs near r.0 r.1 r.2)
         | inr other ↦ let fits = no_read script commands command near other in
-            runs_what back script commands state command grants runs fits command.what refl near.within near.uses
+            runs_what back tree script commands state command grants runs fits command.what refl near.within near.uses
       ]
   runs_from any (Some home) is fit =
       let away = is_away caller_now (home_asked caller_now command.what) home is in
@@ -99,7 +98,7 @@ module _ (back : ReadsBack) (script : Script) (commands : List Command) (state :
 
 -- The commands of a script
 
-module _ (back : ReadsBack) (script : Script) (fits : IsFitting script) (last : StopsAreLast script) where
+module _ (back : ReadsBack) (tree : TreesReadBack) (script : Script) (fits : IsFitting script) (last : StopsAreLast script) where
   fit_at : (commands : List Command) (command : Command) (rest : List Command)
       → script.commands ≡ commands ++ command ∷ rest → (Away : Type 0)
       → (IsAway (caller_of script command.client) (home_asked (caller_of script command.client) command.what) → Away)
@@ -157,7 +156,7 @@ module _ (back : ReadsBack) (script : Script) (fits : IsFitting script) (last : 
       let runs = runs_lead leads (command ∷ rest) whole in
       let any = fit_at commands command rest whole (Unit {0}) (λ _. tt) in
       let same = caller_is script commands state command runs any command.client in
-      runs_command back script commands state command grants runs any
+      runs_command back tree script commands state command grants runs any
       (λ near. fit_at commands command rest whole ⊥
       (subst (λ (c : Caller). IsAway c (home_asked c command.what) → ⊥) same near))
 

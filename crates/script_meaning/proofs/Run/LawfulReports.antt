@@ -20,6 +20,7 @@ use Rattle.col_core.specs.Rows.{BegunRow, AreLawfulRows, is_of}
 use Rattle.col_core.specs.Log.{Log}
 use Rattle.col_core.proofs.CallerLemmas.{by_test, cut-is_greatest}
 use Rattle.object_form.specs.Laws.{ReadsBack}
+use Rattle.script_meaning.proofs.Tree.TreeLaws.{TreesReadBack}
 use Rattle.world_laws.specs.Worlds.{World, home_of}
 use Rattle.world_laws.specs.Laws.{log_of, rows_of_region}
 use Rattle.world_laws.proofs.CallerLemmas.{in_contains, contains_in, slice_last, have_lawful_rows, all_in, OfRegion}
@@ -335,5 +336,5 @@ module _ (script : Script) (fits : IsFitting script) (state : State) (is : Runs 
   }
 
 -- what the commands of a script lead to is reported as a lawful run
-pub runs_are_lawful : ReadsBack → RunsAreLawful
-runs_are_lawful back script fits last state leads = lawful script fits state (runs_all back script fits last leads)
+pub runs_are_lawful : ReadsBack → TreesReadBack → RunsAreLawful
+runs_are_lawful back tree script fits last state leads = lawful script fits state (runs_all back tree script fits last leads)

@@ -24,7 +24,7 @@ same_key-itself : (key : Key) → same_key key key ≡ true
 same_key-itself key = and_from (key.stamp == key.stamp) _ (eq-eqb key.stamp key.stamp refl) (same_id-refl key.id)
 
 -- the node with a key is found among those that are read
-found_own : (w : World) (own : Key) (keys : List Key) → In own keys
+pub found_own : (w : World) (own : Key) (keys : List Key) → In own keys
     → find (λ (node : ObjectNode). same_key node.key own) (map (object_node_at w) keys) ≡ Some (object_node_at w own)
 found_own w own [] i = absurd i
 found_own w own (key ∷ keys) i =

@@ -5,6 +5,7 @@ ghost use Rattle.tests_clients.specs.Stores.{IsSmall};
 
 use crate::tests::made::opened;
 use append_core::MultiFault;
+use column::OnlyFault;
 use fuzzy_io::OpenGate;
 use log_client::{Client, Store, TrimFault};
 use log_node::{At, Colours, MAX_STAMP, Text};
@@ -14,8 +15,8 @@ use std::process::Abort;
 use std::sync::Wait;
 use std::test::Fail;
 
-// The client appends a text to the first colour.
-fn append<R: Wait>(
+/// The client appends a text to the first colour.
+pub(crate) fn append<R: Wait>(
     rt: &R,
     alloc: Global,
     store: &Store,
@@ -170,4 +171,54 @@ fn raises_to_the_end<R: Wait + Abort>(
 fn a_column_raised_to_the_greatest_stamp_takes_no_append(rt: HostRuntime) -> Result<(), Fail> {
     let (store, mut one, _two) = opened(rt.alloc())?;
     raises_to_the_end(&rt, rt.alloc(), &store, &mut one)
+}
+
+// A node of the first colour that may only stand next is refused so.
+fn does_not_stand_next<R: Wait + Abort>(
+    rt: &R,
+    alloc: Global,
+    store: &Store,
+    client: &mut Client,
+    wanted: OnlyFault,
+) -> Result<(), Fail>
+    requires store { IsSmall store.now }
+    requires client { IsClient store.now client.old }
+    ensures client { IsClient store.now client.new }
+{
+    let text = Text::copied(alloc, b"two")?;
+    let appended = client.only(rt, alloc, store, 0, text);
+    assert!(rt; matches!(appended, Err(fault) if fault == wanted));
+    Ok(())
+}
+
+// The line has a node that the client has not played, and no stamp is left: the first is told until the node is played.
+fn stands_next_at_no_stamp<R: Wait + Abort>(
+    rt: &R,
+    alloc: Global,
+    store: &Store,
+    client: &mut Client,
+) -> Result<(), Fail>
+    requires store { IsSmall store.now }
+    requires client { IsClient store.now client.old }
+{
+    append(rt, alloc, store, client, b"one")?;
+    client.raise(rt, store, 0, MAX_STAMP)?;
+    let moved = OnlyFault::Moved {
+        length: 1,
+        waiting: 0,
+        events: 2,
+    };
+    does_not_stand_next(rt, alloc, store, client, moved)?;
+    client.sync(rt, alloc, store, 0)?;
+    let end = OnlyFault::StampEnd {
+        colour: 0,
+        clock: MAX_STAMP,
+    };
+    does_not_stand_next(rt, alloc, store, client, end)
+}
+
+#[test]
+fn a_line_that_is_longer_is_told_before_the_end_of_the_stamps(rt: HostRuntime) -> Result<(), Fail> {
+    let (store, mut one, _two) = opened(rt.alloc())?;
+    stands_next_at_no_stamp(&rt, rt.alloc(), &store, &mut one)
 }

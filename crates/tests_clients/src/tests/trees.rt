@@ -11,11 +11,12 @@ use fuzzy_io::OpenGate;
 use log_client::{Client, Store};
 use log_node::{At, Text};
 use log_tree::LogTree;
+use object_form::TreeWhy;
 use std::alloc::{AllocError, Global};
 use std::process::Abort;
 use std::sync::Wait;
 use std::test::Fail;
-use tree_fold::{Change, Path, Told, TreeWhy, read_change};
+use tree_fold::{Change, Path, Told, read_change};
 
 // The change of a text, if it has one.
 fn change_in(alloc: Global, text: &str) -> Result<Option<Change>, AllocError>

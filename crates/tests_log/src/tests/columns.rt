@@ -3,7 +3,7 @@ ghost use Rattle.std.specs.Prelude.{◌≡◌, ◌<◌, IfOk};
 ghost use Rattle.column.specs.Columns.{new_column};
 
 use crate::tests::made::{key_of, pair};
-use column::{Column, ColumnFault, Given};
+use column::{Column, ColumnFault, Given, OnlyFault};
 use log_node::{At, Counts, Head, Item, ListOf, MAX_STAMP, Shape};
 use std::alloc::{AllocError, Global};
 use std::test::Fail;
@@ -40,6 +40,31 @@ fn none_enters_after_the_last_stamp(rt: HostRuntime) -> Result<(), Fail> {
     assert_eq!(rt; column.room(0), Err(end));
     assert_eq!(rt; (column.clock(), column.journal().len()), (MAX_STAMP, 1));
     assert!(rt; column.line().is_empty());
+    Ok(())
+}
+
+// The same of a node that comes then and may only stand next.
+fn raised_then_next(
+    alloc: Global,
+    column: &mut Column,
+) -> Result<Result<(At, u64), OnlyFault>, AllocError>
+    requires { column.old ≡ new_column 0 0 2 }
+{
+    column.raise(0, MAX_STAMP)?;
+    let node = pair(alloc, 0, 0)?;
+    Ok(column.only(0, node))
+}
+
+#[test]
+fn none_stands_next_after_the_last_stamp(rt: HostRuntime) -> Result<(), Fail> {
+    let mut column = open(rt.alloc(), 0)?;
+    let answer = raised_then_next(rt.alloc(), &mut column)?;
+    let end = OnlyFault::StampEnd {
+        colour: 0,
+        clock: MAX_STAMP,
+    };
+    assert_eq!(rt; answer, Err(end));
+    assert_eq!(rt; (column.clock(), column.journal().len()), (MAX_STAMP, 1));
     Ok(())
 }
 

@@ -1,5 +1,5 @@
 // What tests begin with.
-ghost use Rattle.std.specs.Prelude.{◌≡◌, ◌∷◌, [], true, Some, None, IfOk};
+ghost use Rattle.std.specs.Prelude.{◌≡◌, ◌<◌, ◌^◌, ◌∷◌, [], true, Some, None, IfOk};
 ghost use Rattle.log_node.specs.Sets.{has, set_of};
 ghost use Rattle.chain_store.specs.Histories.{FitsColumn};
 ghost use Rattle.stamp_board.specs.Rows.{AreColours};
@@ -40,17 +40,15 @@ pub fn pair(alloc: Global, client: u8, count: u64) -> Result<Arc<Node>, AllocErr
     Ok(Arc::new(alloc, node)?)
 }
 
-/// The first client's first node, which may stand in the colour 0 or 1 of the region 0 alone.
-pub fn alone(alloc: Global) -> Result<Arc<Node>, AllocError>
-    ensures id { IfOk result (λ node. node.value.id ≡ record { client = 0; count = 0 }) }
+/// The first client's node of this count, which wants nothing, and may stand in the colour 0 or 1 of the region 0 alone.
+pub fn alone(alloc: Global, count: u64) -> Result<Arc<Node>, AllocError>
+    requires { count < 2 ^ 63 }
+    ensures id { IfOk result (λ node. node.value.id ≡ record { client = 0; count = count }) }
     ensures row { IfOk result (λ node. node.value.row ≡ None) }
     ensures fits { IfOk result (λ node. FitsColumn 0 0 node.value × FitsColumn 0 1 node.value) }
 {
     let node = Node {
-        id: Id {
-            client: 0,
-            count: 0,
-        },
+        id: Id { client: 0, count },
         region: 0,
         colours: Colours::of(&[0, 1]),
         text: Text::copied(alloc, b"a")?,

@@ -1,5 +1,5 @@
-// A region at the end of the stamps, and a client that is told of another's append.
-ghost use Rattle.std.specs.Prelude.{◌≡◌, ◌≢◌, ◌<◌, ◌≤◌, ℕ, true, None, length, IfOk, OnOk};
+// A region at the end of the stamps, a client that is told of another's append, and appends that may only stand next.
+ghost use Rattle.std.specs.Prelude.{◌≡◌, ◌≢◌, ◌<◌, ◌≤◌, ◌^◌, ◌+◌, ℕ, true, None, length, IfOk, OnOk};
 ghost use mathlib.Core.List.{IsPrefix};
 ghost use Rattle.log_node.specs.Sets.{has};
 ghost use Rattle.chain_store.specs.Histories.{FitsColumn};
@@ -7,9 +7,9 @@ ghost use Rattle.chain_store.specs.Holds.{IsHold, KnowsAppend, seen_in, made_in}
 ghost use Rattle.tests_log.specs.Clients.{IsSmall, IsClient};
 
 use crate::tests::made::{alone, pair};
-use append_core::{MultiFault, Stood, multi, single};
+use append_core::{MultiFault, Point, Stood, multi, only, single};
 use chain_store::{ClosedRegion, Hold, Proposed, Region};
-use column::ColumnFault;
+use column::{ColumnFault, OnlyFault};
 use fuzzy_io::OpenGate;
 use log_node::{At, Begun, ColourMark, ListOf, MAX_STAMP, Mark, Node, Outcome, Row, Shape, Why};
 use std::alloc::{AllocError, Global};
@@ -86,6 +86,7 @@ fn propose<R: Wait>(
     requires colour { (colour < 2) × (has begun.now.colours colour ≡ true) }
     ensures hold { IsHold region.now hold.new × KnowsAppend region.now hold.new begun.now }
     ensures number { hold.new.passes.number ≡ hold.old.passes.number }
+    ensures next { hold.new.next ≡ hold.old.next }
 {
     let Proposed { at, mark } = region.propose(rt, hold, colour, begun);
     (at, mark)
@@ -267,7 +268,7 @@ fn beside_the_end<R: Wait>(
     requires region { IsSmall 0 region.now }
     requires hold { IsClient region.now 0 0 hold.old }
 {
-    let node = alone(alloc)?;
+    let node = alone(alloc, 0)?;
     region.raise(rt, hold, 0, MAX_STAMP)?;
     if !ends_alone(rt, alloc, region, hold, &node) {
         return Ok(false);
@@ -282,5 +283,77 @@ fn beside_the_end<R: Wait>(
 fn no_stamp_is_left_in_one_colour_alone(rt: HostRuntime) -> Result<(), Fail> {
     let (region, mut hold, _other) = opened(rt.alloc(), 0)?;
     assert!(rt; beside_the_end(&rt, rt.alloc(), &region, &mut hold)?);
+    Ok(())
+}
+
+// What the first client's node of this count is told, which wants nothing and may only stand next: its stamp and its point.
+fn next<R: Wait>(
+    rt: &R,
+    alloc: Global,
+    region: &Region,
+    hold: &mut Hold,
+    colour: u8,
+    count: u64,
+) -> Result<Result<(u64, Option<Point>), OnlyFault>, AllocError>
+    requires region { IsSmall 0 region.now }
+    requires hold { IsClient region.now 0 count hold.old }
+    requires few { (colour < 2) × (count < 2 ^ 63) }
+    ensures hold { IsClient region.now 0 (count + 1) hold.new }
+{
+    let node = alone(alloc, count)?;
+    match only(rt, alloc, region, hold, colour, &node) {
+        Ok(stood) => Ok(Ok((stood.key.stamp, stood.points.get(0).copied()))),
+        Err(fault) => Ok(Err(fault)),
+    }
+}
+
+// The first client's append to both colours is left open in the second one. Then it appends to the first, where it may
+// only stand next: twice, and once where no stamp is left; and between to the second.
+fn stand_next<R: Wait>(
+    rt: &R,
+    alloc: Global,
+    region: &Region,
+    hold: &mut Hold,
+) -> Result<[Result<(u64, Option<Point>), OnlyFault>; 4], AllocError>
+    requires region { IsSmall 0 region.now }
+    requires hold { IsClient region.now 0 0 hold.old × (hold.old.seat.used ≡ 0) }
+{
+    let begun = begin(alloc, region, hold)?;
+    propose(rt, region, hold, 1, &begun);
+    let first = next(rt, alloc, region, hold, 0, 1)?;
+    let second = next(rt, alloc, region, hold, 0, 2)?;
+    let beside_open = next(rt, alloc, region, hold, 1, 3)?;
+    region.raise(rt, hold, 0, MAX_STAMP)?;
+    let at_the_end = next(rt, alloc, region, hold, 0, 4)?;
+    Ok([first, second, beside_open, at_the_end])
+}
+
+// What a node is told that has not come next, after so many events.
+fn moved(length: u64, waiting: u64, events: u64) -> Result<(u64, Option<Point>), OnlyFault> {
+    Err(OnlyFault::Moved {
+        length,
+        waiting,
+        events,
+    })
+}
+
+#[test]
+fn what_may_only_stand_next_is_told_what_came(rt: HostRuntime) -> Result<(), Fail> {
+    let (region, mut hold, _other) = opened(rt.alloc(), 0)?;
+    let told = stand_next(&rt, rt.alloc(), &region, &mut hold)?;
+    let point = Point {
+        colour: 0,
+        at: At::Event(0),
+        position: 0,
+    };
+    assert_eq!(rt;
+        told,
+        [
+            Ok((1, Some(point))),
+            moved(1, 0, 1),
+            moved(0, 1, 1),
+            moved(1, 0, 2)
+        ]
+    );
     Ok(())
 }

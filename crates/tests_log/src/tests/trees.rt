@@ -1,11 +1,11 @@
 // A tree of names fed with texts that were worked out by hand. Each table makes its own tree.
 use crate::tests::made::key_of;
 use log_node::{Form, Names, Text};
-use object_form::read_form;
+use object_form::{TreeWhy, read_form};
 use std::alloc::{AllocError, Global};
 use std::process::Abort;
 use std::test::Fail;
-use tree_fold::{Path, PathFault, Told, TreeFold, TreeWhy, read_change, write_change};
+use tree_fold::{Path, PathFault, Told, TreeFold, read_change, write_change};
 
 /// Texts, and whether each is that of a path.
 const PATHS: [(&str, bool); 15] = [

@@ -18,4 +18,6 @@ returns g = record {
   dequeues = g.dequeues_are_folds.ensures;
   reads = g.reads_are_folds.ensures;
   verdicts = g.verdicts_are_folds.ensures;
+  changes = g.changes_are_folds.ensures;
+  lists = g.lists_are_folds.ensures;
 }

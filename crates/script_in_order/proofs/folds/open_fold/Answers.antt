@@ -23,3 +23,6 @@ returns-in_ok-open_causal-in-Causal c = λ w same. (
 
 pub returns-in-Tx : goal.returns-in-Tx
 returns-in-Tx c = λ w same. (c.in-Tx._home, c.in-Tx._colours, c.in-Tx.is, c.open.ensures.folded w)
+
+pub returns-in-Tree : goal.returns-in-Tree
+returns-in-Tree c = λ w same. (c.in-Tree._home, c.in-Tree._colours, c.in-Tree.is, c.open-in-Tree.ensures.folded w)

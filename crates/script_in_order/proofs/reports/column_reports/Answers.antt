@@ -1,4 +1,4 @@
-use Rattle.std.proofs.Common.{◌∙◌, [], length, refl, subst, sym}
+use Rattle.std.proofs.Common.{◌∙◌, ℕ, List, [], length, refl, subst, sym}
 use Rattle.std.specs.List.{All}
 use Rattle.std.proofs.lemmas.Iterator.Adapters.{YieldsList-from_vec}
 use Rattle.std.proofs.lemmas.Iterator.Consumers.{YieldsList-turn}
@@ -16,6 +16,11 @@ push_columns-requires c =
     (gives.1 ∙ items.ok.0)) yielded _
     c.loop-columns.yielded_by _ c.next.new.self c.in-Some.columns c.in-Some.is c.next.ensures.steps in
     let here = next_read items.items items.items _ (length yielded) c.in-Some.columns [] refl refl t in
-    subst (All (HasNames script.regions script.colours)) (sym c.into_columns.ensures)
+    let regions_are = sym c.as_list.ensures in
+    let colours_are = sym c.as_list-in-loop-columns.ensures in
+    subst (λ (names : List (List ℕ)). All (HasNames names c.as_list-in-loop-columns.result.now) c.into_columns.result.items)
+    regions_are
+    (subst (λ (names : List (List ℕ)). All (HasNames script.regions names) c.into_columns.result.items) colours_are
+    (subst (All (HasNames script.regions script.colours)) (sym c.into_columns.ensures)
     (region_named script.regions script.colours items.items (length yielded) script.shape.regions script.shape.colours
-    c.in-Some.columns (sym c.requires.fits.regions) (sym c.requires.fits.colours) here.1 here.0 c.requires.regions c.requires.wide c.requires.placed)
+    c.in-Some.columns (sym c.requires.fits.regions) (sym c.requires.fits.colours) here.1 here.0 c.requires.regions c.requires.wide c.requires.placed)))

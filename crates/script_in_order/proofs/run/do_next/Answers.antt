@@ -25,7 +25,7 @@ do_command-requires c =
           (sym c.as_slice-2.ensures)
           (next_reads script c.requires.fits c.args.place code c.requires.place c.requires.run command is);
       rests = next_rests script c.requires.fits c.args.place code c.requires.place c.requires.run command is
-          c.reads_back.ensures c.requires.stops;
+          c.reads_back.ensures (c.reads_back-2.ensures, c.names_are_answered.ensures) c.requires.stops;
     }
 
 pub returns : goal.returns

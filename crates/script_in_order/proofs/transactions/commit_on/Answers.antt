@@ -12,11 +12,11 @@ use Rattle.script_in_order.specs.Folds.{AreFolded}
 use Rattle.script_in_order.proofs.FoldsKept.{fold_there, fold_put, tx_of, only_tx}
 use Rattle.script_in_order.proofs.ObjectSteps.{kind_is, small}
 use Rattle.script_in_order.proofs.TellSteps.{folds_after}
-use Rattle.script_in_order.proofs.TransactionSteps.{tx_is, tx_members, tx_low, tx_some, set_made, its_set, its_some, its_low, tx_at, commit_told}
+use Rattle.script_in_order.proofs.TransactionSteps.{tx_is, whole_members, whole_low, whole_some, set_made, its_set, its_some, its_low, tx_at, commit_told}
 use Rattle.script_in_order.proofs.transactions.commit_on.Goals as goal
 
-pub all_colours-colours-requires-clause-tx : goal.all_colours-colours-requires-clause-tx
-all_colours-colours-requires-clause-tx c =
+pub all_colours-colours-requires-clause-telling : goal.all_colours-colours-requires-clause-telling
+all_colours-colours-requires-clause-telling c =
     tx_is c.args.objects.now c.args.object c.index-objects-object.result c.requires.uses.0
 
 pub all_colours-colours-requires-clause-colours : goal.all_colours-colours-requires-clause-colours
@@ -53,9 +53,9 @@ append_and_tell-requires c =
     let there = subst (λ (l : List Fold). c.index_mut.result.now ≡ get_or l object c.index_mut.result.now)
     c.folds.view_is c.index_mut.ensures.value in record {
       caller = c.requires.caller;
-      within = tx_low regions count few objects c.requires.kinds object has other c.all_colours-colours.result
+      within = whole_low regions count few objects c.requires.kinds object has other c.all_colours-colours.result
           c.all_colours-colours.ensures;
-      some = tx_some regions count few objects c.requires.kinds object has other c.all_colours-colours.result
+      some = whole_some regions count few objects c.requires.kinds object has other c.all_colours-colours.result
           c.all_colours-colours.ensures;
       set = its_low objects c.args.command.now object c.args.pairs.now c.args.reads regions count few c.requires.kinds other
           has c.shards_of-set.result set_is;
@@ -84,7 +84,7 @@ returns-clause-ok c =
     commit_told objects c.args.command.now c.args.object c.args.pairs.now c.args.reads (world_of c.args.world.now)
     (world_of c.append_and_tell.new.world) c.append_and_tell.result c.all_colours-colours.result c.shards_of-set.result
     c.in_ok-text.text
-    (tx_members c.args.world.now.shape.regions c.args.world.now.shape.colours c.is_whole.ensures.few_colours objects
+    (whole_members c.args.world.now.shape.regions c.args.world.now.shape.colours c.is_whole.ensures.few_colours objects
     c.requires.kinds c.args.object has other c.all_colours-colours.result c.all_colours-colours.ensures)
     (set_made objects c.args.command.now c.args.object c.args.pairs.now c.args.reads other has c.shards_of-set.result
     c.as_slice.result.now c.as_slice-2.result.now c.shards_of-set.ensures c.as_slice.ensures c.as_slice-2.ensures)

@@ -8,21 +8,15 @@ use Rattle.script_text.specs.Fitting.{AreBelow, is_tx}
 use Rattle.world_laws.specs.Worlds.{World}
 use Rattle.world_code.specs.WorldView.{world_of}
 use Rattle.script_meaning.specs.Stamped.{keys_read}
-use Rattle.script_in_order.specs.declared.stamped.Stamped.{Stamped}
-use Rattle.script_in_order.specs.Stamped.{ReadsStamped, end_in}
-use Rattle.world_laws.specs.Laws.{IsReached}
-use Rattle.script_text.specs.declared.script.Object.{Object}
-use Rattle.script_in_order.specs.declared.folds.Fold.{Fold}
 use Rattle.script_in_order.specs.Folds.{AreFolded}
 use Rattle.script_in_order.specs.Telling.{rising_colours}
-use Rattle.script_in_order.proofs.FoldsKept.{folds_stay}
-use Rattle.script_in_order.proofs.GetSteps.{read_to}
+use Rattle.script_in_order.proofs.GetSteps.{its_read, read_folds}
 use Rattle.script_in_order.proofs.ObjectSteps.{kind_is, small}
-use Rattle.script_in_order.proofs.TransactionSteps.{tx_at, tx_is, tx_members, tx_low, left_unraised, left_refused, left_without, left_found}
+use Rattle.script_in_order.proofs.TransactionSteps.{tx_at, tx_is, whole_members, whole_low, left_unraised, left_refused, left_without, left_found}
 use Rattle.script_in_order.proofs.transactions.read.Goals as goal
 
-pub all_colours-colours-requires-clause-tx : goal.all_colours-colours-requires-clause-tx
-all_colours-colours-requires-clause-tx c =
+pub all_colours-colours-requires-clause-telling : goal.all_colours-colours-requires-clause-telling
+all_colours-colours-requires-clause-telling c =
     tx_is c.args.objects.now c.args.object c.index-objects-object.result c.requires.uses.0
 
 pub all_colours-colours-requires-clause-colours : goal.all_colours-colours-requires-clause-colours
@@ -34,30 +28,16 @@ all_colours-colours-requires-clause-colours c =
 
 pub stamped_read-requires-clause-within : goal.stamped_read-requires-clause-within
 stamped_read-requires-clause-within c =
-    tx_low c.args.world.now.shape.regions c.args.world.now.shape.colours c.is_whole.ensures.few_colours
+    whole_low c.args.world.now.shape.regions c.args.world.now.shape.colours c.is_whole.ensures.few_colours
     c.args.objects.now c.requires.kinds c.args.object c.requires.uses.0 c.index-objects-object.result
     c.all_colours-colours.result c.all_colours-colours.ensures
 
 pub found-requires-clause-within : goal.found-requires-clause-within
 found-requires-clause-within c =
     subst (λ (s : Shape). AreBelow s.colours c.all_colours-colours.result) (sym c.in_ok-stamped_read.ensures.shape)
-    (tx_low c.args.world.now.shape.regions c.args.world.now.shape.colours c.is_whole.ensures.few_colours
+    (whole_low c.args.world.now.shape.regions c.args.world.now.shape.colours c.is_whole.ensures.few_colours
     c.args.objects.now c.requires.kinds c.args.object c.requires.uses.0 c.index-objects-object.result
     c.all_colours-colours.result c.all_colours-colours.ensures)
-
--- a stamped read of the map's colours, however their set is written
-its_read : (old new : World) (client : ℕ) (colours cs : List ℕ) (s t : Stamped) → colours ≡ cs → s ≡ t
-    → ReadsStamped old new client colours (end_in new client colours s) → ReadsStamped old new client cs (end_in new client cs t)
-its_read old new client colours cs s t is same r =
-    subst (λ (x : Stamped). ReadsStamped old new client cs (end_in new client cs x)) same
-    (subst (λ (l : List ℕ). ReadsStamped old new client l (end_in new client l s)) is r)
-
--- what is folded, after the read
-read_folds : (w v : World) (client : ℕ) (colours : List ℕ) (objects : List Object) (folds : List Fold) (s t : Stamped)
-    → s ≡ t → IsReached w → ReadsStamped w v client colours (end_in v client colours s) → AreFolded w objects folds
-    → AreFolded v objects folds
-read_folds w v client colours objects folds s t same reached reads f =
-    folds_stay w v reached (read_to w v client colours (end_in v client colours s) reads) objects folds f
 
 pub found-requires-clause-may : goal.found-requires-clause-may
 found-requires-clause-may c = (
@@ -103,7 +83,7 @@ pub returns-in-Unraised-clause-ok : goal.returns-in-Unraised-clause-ok
 returns-in-Unraised-clause-ok c = λ taken.
     let old = world_of c.args.world.now in
     let new = world_of c.stamped_read.new.world in
-    let members_are = tx_members c.args.world.now.shape.regions c.args.world.now.shape.colours
+    let members_are = whole_members c.args.world.now.shape.regions c.args.world.now.shape.colours
     c.is_whole.ensures.few_colours c.args.objects.now c.requires.kinds c.args.object c.requires.uses.0
     c.index-objects-object.result c.all_colours-colours.result c.all_colours-colours.ensures in
     left_unraised c.args.objects.now old new c.args.command.now c.args.object c.args.keys.now c.requires.asks taken
@@ -114,7 +94,7 @@ pub returns-in-Refused-clause-ok : goal.returns-in-Refused-clause-ok
 returns-in-Refused-clause-ok c = λ taken.
     let old = world_of c.args.world.now in
     let new = world_of c.stamped_read.new.world in
-    let members_are = tx_members c.args.world.now.shape.regions c.args.world.now.shape.colours
+    let members_are = whole_members c.args.world.now.shape.regions c.args.world.now.shape.colours
     c.is_whole.ensures.few_colours c.args.objects.now c.requires.kinds c.args.object c.requires.uses.0
     c.index-objects-object.result c.all_colours-colours.result c.all_colours-colours.ensures in
     left_refused c.args.objects.now old new c.args.command.now c.args.object c.args.keys.now c.requires.asks taken
@@ -127,7 +107,7 @@ returns-in-Err-clause-ok c = λ taken.
     let old = world_of c.args.world.now in
     let new = world_of c.stamped_read.new.world in
     let cs = rising_colours c.args.objects.now c.args.object in
-    let members_are = tx_members c.args.world.now.shape.regions c.args.world.now.shape.colours
+    let members_are = whole_members c.args.world.now.shape.regions c.args.world.now.shape.colours
     c.is_whole.ensures.few_colours c.args.objects.now c.requires.kinds c.args.object c.requires.uses.0
     c.index-objects-object.result c.all_colours-colours.result c.all_colours-colours.ensures in
     left_without c.args.objects.now old new c.args.command.now c.args.object c.args.keys.now c.requires.asks taken
@@ -140,7 +120,7 @@ returns-in-Ok-clause-ok c = λ taken.
     let old = world_of c.args.world.now in
     let new = world_of c.stamped_read.new.world in
     let cs = rising_colours c.args.objects.now c.args.object in
-    let members_are = tx_members c.args.world.now.shape.regions c.args.world.now.shape.colours
+    let members_are = whole_members c.args.world.now.shape.regions c.args.world.now.shape.colours
     c.is_whole.ensures.few_colours c.args.objects.now c.requires.kinds c.args.object c.requires.uses.0
     c.index-objects-object.result c.all_colours-colours.result c.all_colours-colours.ensures in
     let found = subst (λ (l : List ℕ).

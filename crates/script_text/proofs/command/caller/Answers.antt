@@ -5,13 +5,13 @@ use Rattle.script_text.proofs.command.caller.Goals as goal
 pub returns-then-is_stopped : goal.returns-then-is_stopped
 unfolding caller_at
 returns-then-is_stopped c =
-    let found = rw c.as_slice-clients.ensures at c.in_ok-client.ensures in
+    let found = c.in_ok-client.ensures in
     let stops = rw c.as_slice.ensures at (sym c.is_stopped.ensures ∙ c.if-is_stopped.true) in
     rw (found, stops) refl
 
 pub returns : goal.returns
 unfolding caller_at
 returns c =
-    let found = rw c.as_slice-clients.ensures at c.in_ok-client.ensures in
+    let found = c.in_ok-client.ensures in
     let goes_on = rw c.as_slice.ensures at (sym c.is_stopped.ensures ∙ c.if-is_stopped.false) in
     rw (found, goes_on) refl

@@ -1,8 +1,8 @@
 use Rattle.std.proofs.Common.{◌≡◌, ◌++◌, ◌∷◌, [], length, take, drop, sym, ap, ◌∙◌}
 use Rattle.std.specs.List.{filter_map}
 use Rattle.tree_fold.specs.declared.entries.Entry.{Entry}
-use Rattle.tree_fold.specs.Paths.{Path}
-use Rattle.tree_fold.specs.Orders.{sole, next_names}
+use Rattle.tree_fold.specs.Paths.{Path, sole}
+use Rattle.tree_fold.specs.Orders.{next_names}
 use Rattle.tree_fold.proofs.TopLemmas.{next_step}
 use Rattle.tree_fold.proofs.entries.next_names.Goals as goal
 

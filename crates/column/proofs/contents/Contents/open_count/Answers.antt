@@ -1,6 +1,5 @@
 use Rattle.std.proofs.Common.{ap, ◌∙◌}
-use Rattle.col_core.specs.History.{entries}
-use Rattle.column.specs.Columns.{open_count}
+use Rattle.col_core.specs.History.{entries, open_count}
 use Rattle.column.proofs.Opens.{count-is}
 use Rattle.column.proofs.contents.Contents.open_count.Goals as goal
 

@@ -51,7 +51,7 @@ returns-in-Ok-stand g c =
     c.args.store.now c.args.self.now c.region-region.result.now c.index_mut-hold.result.now c.args.colour c.args.colours
     c.args.text c.in-Ok.node.value c.requires.client c.requires.colour c.requires.one c.region-region.ensures.there
     c.index_mut-hold.ensures.value c.in-Ok.ensures
-    c.stand.new.hold c.in-Ok-stand.stood e.ok e.seat e.next e.hold e.one c.max-self.result c.max-self.ensures
+    c.stand.new.hold c.in-Ok-stand.stood e.ok e.seat e.next e.hold c.max-self.result c.max-self.ensures e.one
     c.deref.result.now.id (ap (λ y. y.id) c.deref.ensures)
 
 pub returns-in-Err-StampEnd : goal.returns-in-Err-StampEnd

@@ -7,14 +7,17 @@ use Rattle.region_fold.specs.Reads.{AreOfObject, KeepsFold, ShowsEach, TellRefus
 use Rattle.region_fold.proofs.CallerLemmas.{colours_later, shards_own}
 use Rattle.tree_fold.specs.declared.told.Told.{Told}
 use Rattle.tree_fold.specs.declared.told.Told.TheVariants.{Done}
-use Rattle.log_tree.specs.Folded.{HasTree, telling}
-use Rattle.log_tree.specs.Trees.{Changes, change_keys}
-use Rattle.log_tree.proofs.TreeAnswers.{change_refused, change_set, changes, some_keys}
+use Rattle.tree_fold.specs.Changes.{change_keys}
+use Rattle.tree_fold.specs.Trees.{telling}
+use Rattle.tree_fold.specs.TreeStates.{IsTree}
+use Rattle.tree_fold.proofs.CallerLemmas.{some_keys}
+use Rattle.log_tree.specs.Trees.{Changes}
+use Rattle.log_tree.proofs.TreeAnswers.{change_refused, change_set, changes}
 use Rattle.log_tree.proofs.tree.LogTree.change.Goals as goal
 
 pub append_and_read-requires-clause-kept : goal.append_and_read-requires-clause-kept
 append_and_read-requires-clause-kept g c κs within =
-    subst (λ (l : List ℕ). KeepsFold HasTree c.args.client.now (rising l) c.args.self.now.fold.kept) (sym c.as_slice-colours.ensures)
+    subst (λ (l : List ℕ). KeepsFold IsTree c.args.client.now (rising l) c.args.self.now.fold.kept) (sym c.as_slice-colours.ensures)
     c.requires.tree.folds
 
 pub append_and_read-requires-clause-set : goal.append_and_read-requires-clause-set
@@ -39,7 +42,7 @@ returns-in-Ok-append_and_read-clause-tree g c =
     let e = c.append_and_read.ensures in record {
       colours = colours_later c.args.store.now c.args.client.now c.append_and_read.new.client e.client c.args.self.now.colours c.requires.client
           c.requires.tree.colours;
-      folds = subst (λ (l : List ℕ). KeepsFold HasTree c.append_and_read.new.client (rising l) c.append_and_read.new.self.kept) c.as_slice-colours.ensures
+      folds = subst (λ (l : List ℕ). KeepsFold IsTree c.append_and_read.new.client (rising l) c.append_and_read.new.self.kept) c.as_slice-colours.ensures
           e.kept;
     }
 
@@ -48,7 +51,7 @@ returns-clause-tree g c =
     let e = c.append_and_read.ensures in record {
       colours = colours_later c.args.store.now c.args.client.now c.append_and_read.new.client e.client c.args.self.now.colours c.requires.client
           c.requires.tree.colours;
-      folds = subst (λ (l : List ℕ). KeepsFold HasTree c.append_and_read.new.client (rising l) c.append_and_read.new.self.kept) c.as_slice-colours.ensures
+      folds = subst (λ (l : List ℕ). KeepsFold IsTree c.append_and_read.new.client (rising l) c.append_and_read.new.self.kept) c.as_slice-colours.ensures
           e.kept;
     }
 

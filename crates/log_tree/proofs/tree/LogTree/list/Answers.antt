@@ -1,11 +1,12 @@
 use Rattle.std.proofs.Common.{subst, sym}
-use Rattle.log_tree.specs.declared.folded.Folded.{Folded}
-use Rattle.log_tree.specs.Folded.{HasTree, NamesAfter}
+use Rattle.tree_fold.specs.declared.fold.TreeFold.{TreeFold}
+use Rattle.tree_fold.specs.Trees.{NamesAfter}
+use Rattle.tree_fold.specs.TreeStates.{IsTree}
 use Rattle.log_tree.proofs.TreeAnswers.{reads_so}
 use Rattle.log_tree.proofs.tree.LogTree.list.Goals as goal
 
 pub returns-in-Ok-names-clause-ok : goal.returns-in-Ok-names-clause-ok
 returns-in-Ok-names-clause-ok g c =
     reads_so c.args.store.now c.args.client.now c.look.new.client c.args.self.now.colours c.args.self.now.fold.kept.last c.in-Ok.read
-    (HasTree c.look.new.self.fold.kept.state) (NamesAfter c.args.path.now c.in-Ok-names.names)
-    (λ nodes is. c.in-Ok-names.ensures nodes (subst (λ (f : Folded). HasTree f nodes) (sym c.state.ensures) is)) c.in-Ok.ensures.ok
+    (IsTree c.look.new.self.fold.kept.state) (NamesAfter c.args.path.now c.in-Ok-names.names)
+    (λ nodes is. c.in-Ok-names.ensures nodes (subst (λ (t : TreeFold). IsTree t nodes) (sym c.state.ensures) is)) c.in-Ok.ensures.ok

@@ -51,3 +51,12 @@ returns-in-Queue-clause-unfolded c = (
       let one = one_colour client c.open-queue.result.colour c.in-Queue.colour e.of.1 few within.1 in
       e.queue client one.0 one.1,
 )
+
+pub returns-in_ok-copy-in-Tree-clause-unfolded : goal.returns-in_ok-copy-in-Tree-clause-unfolded
+returns-in_ok-copy-in-Tree-clause-unfolded c = (
+  refl,
+  λ client regions few within.
+      let e = c.open-tree.ensures in
+      e.tree client (subst (HasColoursOf client) e.of.1
+      (map_colours client regions c.open-tree.result.home c.open-tree.result.colours few within)),
+)

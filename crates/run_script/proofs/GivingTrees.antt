@@ -1,0 +1,277 @@
+-- What a client gives to changes of trees, and to lists of the names in a path.
+use Rattle.std.proofs.Common.{◌≡◌, ◌≢◌, ℕ, List, [], map, Option, Some, None, Ok, Err, refl, ap, sym, subst, ◌∙◌, inl, inr}
+use Rattle.std.specs.Prelude.{IfErr, IfOk, Result}
+use Rattle.log_node.specs.declared.ids.Colours.{Colours}
+use Rattle.log_node.specs.declared.forms.Version.{Version}
+use Rattle.log_node.specs.Sets.{members}
+use Rattle.object_fold.specs.Folds.{told_of}
+use Rattle.tree_fold.specs.declared.change.Change.{Change}
+use Rattle.tree_fold.specs.declared.told.Told.{Told}
+use Rattle.tree_fold.specs.declared.told.Told.TheVariants.{Done, Failed}
+use Rattle.tree_fold.specs.Changes.{IsChange, change_keys, change_text}
+use Rattle.tree_fold.specs.Paths.{Path}
+use Rattle.tree_fold.specs.Readings.{path_of}
+use Rattle.tree_fold.specs.Trees.{NamesAfter, telling}
+use Rattle.tree_fold.proofs.CallerLemmas.{make_fits, remove_fits, move_fits}
+use Rattle.col_core.specs.Keeping.{Kept}
+use Rattle.col_core.specs.Log.{Log}
+use Rattle.script_text.specs.declared.script.Kind.{Kind}
+use Rattle.script_text.specs.declared.script.Kind.TheVariants as kinds
+use Rattle.script_text.specs.declared.script.Object.{Object}
+use Rattle.script_text.specs.declared.commands.What.{What}
+use Rattle.script_text.specs.declared.commands.What.TheVariants as whats
+use Rattle.script_text.specs.declared.uses.ReadUse.TheVariants.{Leaves}
+use Rattle.script_text.specs.declared.uses.Use.{Use}
+use Rattle.script_text.specs.declared.uses.Use.TheVariants.{OfObject}
+use Rattle.script_text.specs.Commands.{use_of}
+use Rattle.report_text.specs.declared.report.Answer.{Answer}
+use Rattle.report_text.specs.declared.report.Answer.TheVariants as answers
+use Rattle.lawful_run.specs.Asks.{Committing, home_asked, kind_asked, kind_used, object_colours, object_home, rising, shards}
+use Rattle.lawful_run.specs.Callers.{Caller}
+use Rattle.lawful_run.specs.Deeds.{AsksToAppend, Deed, Saying, SaysNode, Whole, colours_reached, colours_synced, deed_of, manner_of, saying_of, says_change}
+use Rattle.lawful_run.specs.Explains.{Explains}
+use Rattle.lawful_run.specs.Reads.{ReadsAt}
+use Rattle.lawful_run.specs.Refusals.{IsAway, IsHomeRefusal, before_by, behind_by, kept_before, kept_behind}
+use Rattle.lawful_run.specs.Shapes.{TellsBehind}
+use Rattle.script_meaning.specs.States.{kind_in}
+use Rattle.script_meaning.specs.Trees.{change_answer}
+use Rattle.log_client.specs.declared.store.Store.{Store}
+use Rattle.log_client.specs.declared.client.Client.{Client}
+use Rattle.log_client.specs.declared.answers.Appended.{Appended}
+use Rattle.log_client.specs.declared.answers.StampedRead.{StampedRead}
+use Rattle.log_client.specs.declared.object_fault.ObjectFault.{ObjectFault}
+use Rattle.log_client.specs.declared.object_fault.ObjectFault.TheVariants as faults
+use Rattle.log_client.specs.Appends.{piece_of}
+use Rattle.log_client.specs.Clients.{IsClient, caller_of}
+use Rattle.log_client.specs.Reading.{RestsOn}
+use Rattle.log_client.specs.StampedReads.{raise_piece, sync_piece}
+use Rattle.log_client.proofs.CallerLemmas.{rests_same}
+use Rattle.region_fold.specs.Reads.{HasNodesRead, TellRefused}
+use Rattle.log_tree.specs.declared.tree.LogTree.{LogTree}
+use Rattle.log_tree.specs.Trees.{ChangeRefused, Changes, Looks, TreeRefused}
+use Rattle.run_script.specs.declared.serving.opened.Opened.{Opened}
+use Rattle.run_script.specs.declared.serving.opened.Opened.TheVariants as opened
+use Rattle.run_script.specs.Changing.{change_asked}
+use Rattle.run_script.specs.Opened.{KeepsReadsBut, kind_opened, object_asked, object_in, versions_in}
+use Rattle.run_script.specs.Replying.{fault_answer, names_answer, told_answer}
+use Rattle.run_script.specs.Serving.{ServesObject, GivesFor, GivesOf}
+use Rattle.run_script.proofs.GivingObjects.{ExplainsIf, away_from, away_if, gives_by, gives_none, none_if, who}
+use Rattle.run_script.proofs.GivingReads.{refused_gives_of}
+use Rattle.run_script.proofs.GivingTold.{gives_found, refused_gives, told_gives}
+use Rattle.run_script.proofs.ReadsFound.{given_at, keeps_but}
+
+-- WHICH COMMANDS CHANGE TREES
+
+-- the command makes this change of the object with this number
+record ChangesIt (what : What) (object : ℕ) (change : Change) : Type 0 where
+  deed : deed_of what ≡ record { manner = Committing; syncs = Whole }
+  uses : use_of what ≡ OfObject object Leaves
+  said : (kind : Option Kind) (found : Option (List Version)) → saying_of kind found what ≡ says_change (Some change)
+
+-- the number of the object that is used is that which is asked
+used : (what : What) (n object : ℕ) → use_of what ≡ OfObject n Leaves → object_asked what ≡ Some object
+    → use_of what ≡ OfObject object Leaves
+used what n object uses asked =
+    let same : n ≡ object = cc (sym (ap object_in uses) ∙ asked) in uses ∙ ap (λ (k : ℕ). OfObject k Leaves) same
+
+changes_it : (what : What) (object : ℕ) (change : Change) → change_asked what ≡ Some change → object_asked what ≡ Some object
+    → ChangesIt what object change
+changes_it (whats.Mk n path value) object change is asked = record {
+  deed = refl;
+  uses = used (whats.Mk n path value) n object refl asked;
+  said = λ kind found. ap says_change is;
+}
+changes_it (whats.Rm n path) object change is asked = record {
+  deed = refl;
+  uses = used (whats.Rm n path) n object refl asked;
+  said = λ kind found. ap says_change is;
+}
+changes_it (whats.Mv n source target) object change is asked = record {
+  deed = refl;
+  uses = used (whats.Mv n source target) n object refl asked;
+  said = λ kind found. ap says_change is;
+}
+changes_it _ object change is asked = absurd (let f : ⊥ = cc (is) in f)
+
+-- a change that is asked for may be
+pub change_may_be : (what : What) (change : Change) → change_asked what ≡ Some change → IsChange change
+change_may_be (whats.Mk n path value) change asks = make_fits path value change asks
+change_may_be (whats.Rm n path) change asks = remove_fits path change asks
+change_may_be (whats.Mv n source target) change asks = move_fits source target change asks
+change_may_be _ change asks = absurd (let f : ⊥ = cc (asks) in f)
+
+-- what was made out is what is asked for
+pub same_change : {E : Type 0} (said : Result (Option Change) E) (found : Option Change) (change asked : Change)
+    → said ≡ Ok found → found ≡ Some change → IfOk said (λ o. o ≡ Some asked) → Some change ≡ Some asked
+same_change {E} said found change asked at is made =
+    sym is ∙ subst (λ (call : Result (Option Change) E). IfOk call (λ o. o ≡ Some asked)) at made
+
+-- what was made out of the fields of a command is what these say
+pub made_out : {E : Type 0} (said : Result (Option Change) E) (found : Option Change) (change : Change)
+    → IfOk said (λ o. o ≡ found) → found ≡ Some change → IfOk said (λ o. o ≡ Some change)
+made_out (Ok o) found change made same = made ∙ same
+made_out (Err e) found change made same = tt
+
+-- WHAT A CHANGE IS GIVEN
+
+module _ (s : Store) (c d : Client) (on : RestsOn s c d) (objects : List Object) (object : ℕ) (t u : LogTree) (what : What)
+    (change : Change) (its : ChangesIt what object change)
+    (at : kind_in objects object ≡ Some (kinds.Tree t.home t.colours)) where
+  abbrev it : Caller
+  it = who s c d on objects
+
+  abbrev x : Opened
+  x = opened.Tree t
+
+  abbrev y : Opened
+  y = opened.Tree u
+
+  abbrev Found : Kept → Type 0
+  Found kept = kept.reads object ≡ versions_in x
+
+  committing : manner_of what ≡ Committing
+  committing = ap (λ (deed : Deed). deed.manner) its.deed
+
+  kind_is : kind_asked it what ≡ Some (kinds.Tree t.home t.colours)
+  kind_is = ap (kind_used it) its.uses ∙ at
+
+  home_is : home_asked it what ≡ Some t.home
+  home_is = ap object_home kind_is
+
+  synced : colours_synced it what ≡ rising t.colours
+  synced = ap (λ (deed : Deed). colours_reached (object_colours (kind_asked it what)) deed.syncs) its.deed
+      ∙ ap (λ (k : Option Kind). rising (object_colours k)) kind_is
+
+  -- its node has the colours of the shards of the change's keys
+  asks : (kept : Kept) (set : Colours) → Found kept → members set ≡ shards t.colours (change_keys change)
+      → AsksToAppend it kept what set (change_text change)
+  asks kept set found is =
+      subst (λ (said : Option Saying). SaysNode (object_colours (kind_asked it what)) said set (change_text change))
+      (sym (its.said _ _))
+      (is ∙ ap (λ (k : Option Kind). shards (object_colours k) (change_keys change)) (sym kind_is), refl)
+
+  lets_none_go : (kept : Kept) → (kept_before what kept).reads ≡ kept.reads
+  lets_none_go kept = ap (λ (u : Use). (before_by u kept).reads) its.uses
+
+  leaves : (kept answered : Kept) → Found kept → answered.reads ≡ kept.reads
+      → KeepsReadsBut object None kept (kept_behind what answered)
+  leaves kept answered found same =
+      keeps_but object None kept (kept_behind what answered) found
+      (ap (λ (u : Use). (behind_by u answered).reads) its.uses ∙ same)
+
+  gives_if : (answer : Answer) → (IsAway it (home_asked it what) → IsHomeRefusal answer)
+      → ExplainsIf s c d on objects Found what answer → ServesObject s objects c d object x y what answer
+  gives_if = gives_found s c d on objects object x y what committing lets_none_go leaves
+
+  untold : (fault : ObjectFault) → (IsAway it (home_asked it what) → IsHomeRefusal (fault_answer fault))
+      → TellRefused s c d (shards t.colours (change_keys change)) (change_text change) t.colours fault
+      → ServesObject s objects c d object x y what (fault_answer fault)
+  untold =
+      refused_gives s c d on objects object x y what committing lets_none_go leaves
+      (shards t.colours (change_keys change)) (change_text change) t.colours synced asks
+
+  told : (tells : Told) (a : Appended) (read : StampedRead)
+      → (IsAway it (home_asked it what) → IsHomeRefusal (told_answer change_answer (Ok (tells, a, read))))
+      → Changes s c d t change tells a read
+      → ServesObject s objects c d object x y what (told_answer change_answer (Ok (tells, a, read)))
+  told tells a read away stands =
+      told_gives s c d on objects object x y what committing lets_none_go leaves
+      (shards t.colours (change_keys change)) (change_text change) t.colours synced asks
+      (λ own nodes. told_of telling nodes own ≡ Some tells) t.fold.kept.last stands.set a read
+      (told_answer change_answer (Ok (tells, a, read))) away stands.members_are stands.explained (shown tells) where
+        shown : (tells : Told) (log : Log) (kept after : Kept) → TellsBehind log it kept what a.row
+            (map piece_of a.stood.points) read.stamp (map raise_piece read.raises) (map sync_piece read.syncs)
+            (λ own nodes. told_of telling nodes own ≡ Some tells) after
+            → Explains log it kept what (told_answer change_answer (Ok (tells, a, read))) [] after
+        shown (Done stamp) log kept after tells = (refl, tells)
+        shown (Failed stamp why) log kept after tells = (refl, tells)
+
+  refused : (fault : ObjectFault) → (IsAway it (home_asked it what) → IsHomeRefusal (fault_answer fault))
+      → ChangeRefused s c d t change fault → ServesObject s objects c d object x y what (fault_answer fault)
+  refused (faults.NotHome shown) away is =
+      gives_if (answers.NotHome shown) away (away_if s c d on objects Found what (Some t.home) shown home_is is)
+  refused (faults.Append fault) away is = untold (faults.Append fault) away is
+  refused (faults.Sync fault) away is = absurd is
+  refused (faults.Unread stamp why) away is = untold (faults.Unread stamp why) away is
+  refused faults.NoTx away is = absurd is
+  refused faults.NoMemory away is = gives_if answers.NoMemory away (none_if s c d on objects Found what is)
+
+  -- what was called is answered
+  gives_by_call : (call : Result (Told × Appended × StampedRead) ObjectFault)
+      → (c.region ≢ t.home → call ≡ Err (faults.NotHome t.home)) → IfOk call (λ r. Changes s c d t change r.0 r.1 r.2)
+      → IfErr call (ChangeRefused s c d t change) → ServesObject s objects c d object x y what (told_answer change_answer call)
+  gives_by_call (Ok r) tells ok err =
+      told r.0 r.1 r.2 (away_from s c d on objects what t.home (Ok r) _ home_is tells tt) ok
+  gives_by_call (Err fault) tells ok err =
+      refused fault (away_from s c d on objects what t.home (Err fault) (fault_answer fault) home_is tells refl) err
+
+pub gives_change : (s : Store) (c d : Client) → RestsOn s c d → (t u : LogTree) (what : What) (change : Change)
+    → change_asked what ≡ Some change → (call : Result (Told × Appended × StampedRead) ObjectFault) (answer : Answer)
+    → answer ≡ told_answer change_answer call → (c.region ≢ t.home → call ≡ Err (faults.NotHome t.home))
+    → IfOk call (λ r. Changes s c d t change r.0 r.1 r.2) → IfErr call (ChangeRefused s c d t change)
+    → (objects : List Object) (object : ℕ) → object_asked what ≡ Some object
+    → kind_in objects object ≡ Some (kind_opened (opened.Tree t))
+    → ServesObject s objects c d object (opened.Tree t) (opened.Tree u) what answer
+gives_change s c d on t u what change is call answer shown tells ok err objects object asked at =
+    subst (ServesObject s objects c d object (opened.Tree t) (opened.Tree u) what) (sym shown)
+    (gives_by_call s c d on objects object t u what change (changes_it what object change is asked) at call tells ok err)
+
+-- where memory was refused before anything was done
+pub gives_unchanged : (s : Store) (c : Client) → IsClient s c → (x : Opened) (what : What) (change : Change)
+    → change_asked what ≡ Some change → (objects : List Object) (object : ℕ) → object_asked what ≡ Some object
+    → kind_in objects object ≡ Some (kind_opened x) → ServesObject s objects c c object x x what answers.NoMemory
+gives_unchanged s c is x what change asks objects object asked at =
+    given_at s objects c c object x x what answers.NoMemory (changes_it what object change asks asked).uses refl
+    (gives_none s c c (rests_same s c is) objects what (inr (λ helps. helps)) refl)
+
+-- WHAT A LIST IS GIVEN
+
+module _ (s : Store) (c d : Client) (on : RestsOn s c d) (t : LogTree) (text : List ℕ) (place : Path)
+    (is : path_of text ≡ Some place) (objects : List Object) (object : ℕ)
+    (at : kind_in objects object ≡ Some (kinds.Tree t.home t.colours)) where
+  abbrev ls : What
+  ls = whats.Ls object text
+
+  reads_whole : colours_synced (caller_of s d objects) ls ≡ rising t.colours
+  reads_whole = ap (λ (k : Option Kind). rising (object_colours k)) at
+
+  lists : (call : Result (Option (List (List ℕ)) × StampedRead) ObjectFault)
+      → (c.region ≢ t.home → call ≡ Err (faults.NotHome t.home))
+      → IfOk call (λ r. Looks s c d t r.1 (NamesAfter place r.0)) → IfErr call (TreeRefused s c d t)
+      → GivesOf s objects c d ls (names_answer call) []
+  lists (Ok r) tells ok err =
+      let raises = map raise_piece r.1.raises in
+      let syncs = map sync_piece r.1.syncs in
+      gives_by s c d on objects ls (answers.Listed r.0 r.1.stamp raises syncs)
+      (HasNodesRead (rising t.colours) t.fold.kept.last r.1 (NamesAfter place r.0)) (inl refl)
+      (away_from s c d on objects ls t.home (Ok r) _ (ap object_home at) tells tt) ok
+      (λ log kept after x. (
+        refl,
+        object,
+        text,
+        refl,
+        (
+          subst (λ (l : List ℕ). ReadsAt log (caller_of s d objects) kept l r.1.stamp raises syncs after)
+              (sym reads_whole) x.1.0,
+          x.0,
+          x.1.1,
+          x.2,
+          x.3,
+          (place, is, x.4),
+        ),
+      ))
+  lists (Err fault) tells ok err =
+      refused_gives_of s c d on objects ls refl (rising t.colours) reads_whole t.home (ap object_home at) fault
+      (away_from s c d on objects ls t.home (Err fault) (fault_answer fault) (ap object_home at) tells refl) err
+
+pub gives_list : (s : Store) (c d : Client) → RestsOn s c d → (t : LogTree) (text : List ℕ) (place : Path)
+    → path_of text ≡ Some place → (call : Result (Option (List (List ℕ)) × StampedRead) ObjectFault) (answer : Answer)
+    → answer ≡ names_answer call → (c.region ≢ t.home → call ≡ Err (faults.NotHome t.home))
+    → IfOk call (λ r. Looks s c d t r.1 (NamesAfter place r.0)) → IfErr call (TreeRefused s c d t)
+    → GivesFor s c d (kinds.Tree t.home t.colours) (λ object. whats.Ls object text) answer
+gives_list s c d on t text place is call answer shown tells ok err = record {
+  no_reads = refl;
+  of = λ objects object at.
+      subst (λ (a : Answer). GivesOf s objects c d (whats.Ls object text) a []) (sym shown)
+      (lists s c d on t text place is objects object at call tells ok err);
+}

@@ -1,0 +1,35 @@
+use Rattle.std.proofs.Common.{ℕ, ap, sym, subst, ◌∙◌}
+use Rattle.tree_fold.specs.Readings.{path_of}
+use Rattle.script_text.specs.declared.commands.What.TheVariants as whats
+use Rattle.run_script.specs.declared.serving.opened.Opened.{Opened}
+use Rattle.run_script.specs.Opened.{kind_opened}
+use Rattle.run_script.specs.Serving.{GivesFor}
+use Rattle.run_script.proofs.FewShown.{shows_few_each}
+use Rattle.run_script.proofs.GivingObjects.{gives_unasked_of}
+use Rattle.run_script.proofs.GivingTrees.{gives_list}
+use Rattle.run_script.proofs.ReadsFound.{tree_not_tx}
+use Rattle.run_script.proofs.serving.trees.list.Goals as goal
+
+pub returns-in_default-clause-gives : goal.returns-in_default-clause-gives
+returns-in_default-clause-gives g c =
+    gives_unasked_of c.args.store.now c.args.client.now (kind_opened c.args.opened.now)
+    (λ (object : ℕ). whats.Ls object c.args.path) c.requires.client (tree_not_tx (kind_opened c.args.opened.now) c.requires.kind)
+
+pub returns-in_default-room_for-clause-gives : goal.returns-in_default-room_for-clause-gives
+returns-in_default-room_for-clause-gives g c =
+    gives_unasked_of c.args.store.now c.args.client.now (kind_opened c.args.opened.now)
+    (λ (object : ℕ). whats.Ls object c.args.path) c.requires.client (tree_not_tx (kind_opened c.args.opened.now) c.requires.kind)
+
+pub names_shown-requires-clause-few : goal.names_shown-requires-clause-few
+names_shown-requires-clause-few g c =
+    shows_few_each c.in-Tree.tree.colours c.in-Ok-room_for.room c.args.client.now c.list-listed.new.client c.list-listed.result
+    (λ r. r.1) _ c.colour_count.ensures c.in-Ok-room_for.ensures.places c.list-listed.ensures.shows
+
+pub returns-clause-gives : goal.returns-clause-gives
+returns-clause-gives g c =
+    let e = c.list-listed.ensures in
+    subst (λ (x : Opened). GivesFor c.args.store.now c.args.client.now c.list-listed.new.client (kind_opened x)
+    (λ object. whats.Ls object c.args.path) c.names_shown.result) (sym c.in-Tree.is)
+    (gives_list c.args.store.now c.args.client.now c.list-listed.new.client e.client c.in-Tree.tree c.args.path
+    c.in-Some.place (ap path_of (sym c.as_bytes.ensures) ∙ (sym c.in-Ok.ensures ∙ c.in-Some.is)) c.list-listed.result c.names_shown.result c.names_shown.ensures
+    e.away e.ok e.err)

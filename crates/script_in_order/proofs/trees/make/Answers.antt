@@ -1,0 +1,25 @@
+use Rattle.std.proofs.Common.{◌∙◌, List, ℕ, [], ap}
+use Rattle.tree_fold.proofs.CallerLemmas.{make_fits}
+use Rattle.tree_fold.specs.Readings.{below_root_of, make_of}
+use Rattle.world_code.specs.WorldView.{world_of}
+use Rattle.script_in_order.proofs.CommandKinds.{all_do}
+use Rattle.script_in_order.proofs.TreeSteps.{may_be, said_so}
+use Rattle.script_in_order.proofs.trees.make.Goals as goal
+
+pub change-requires-clause-may : goal.change-requires-clause-may
+change-requires-clause-may c =
+    may_be c.in_ok-said.said (make_of (below_root_of c.args.path.now) c.args.value.now)
+    (c.in_ok-said.ensures ∙ (ap (λ (p : List ℕ). make_of (below_root_of p) c.as_bytes-2.result.now) c.as_bytes.ensures
+    ∙ ap (make_of (below_root_of c.args.path.now)) c.as_bytes-2.ensures))
+    (make_fits c.args.path.now c.args.value.now)
+
+pub returns-clause-ok : goal.returns-clause-ok
+returns-clause-ok c =
+    let w = world_of c.args.world.now in
+    let new = world_of c.change.new.world in
+    all_do c.args.objects.now c.args.command.now c.requires.asks c.change.result w new []
+    (said_so c.args.objects.now c.args.command.now c.args.object c.in_ok-said.said
+    (make_of (below_root_of c.args.path.now) c.args.value.now) w new c.change.result
+    (c.in_ok-said.ensures ∙ (ap (λ (p : List ℕ). make_of (below_root_of p) c.as_bytes-2.result.now) c.as_bytes.ensures
+    ∙ ap (make_of (below_root_of c.args.path.now)) c.as_bytes-2.ensures))
+    c.change.ensures.ok)

@@ -1,0 +1,4 @@
+-- Trees.
+pub mod ChangeRuns
+pub mod NameRuns
+pub mod TreeLaws
