@@ -31,7 +31,7 @@ above_there t closed path name rest h = closed path (take (length rest) (name �
 
 -- ---- what begins with a path that is not there
 
-any_false : (p : Entry → Bool) (t : Tree) → list_any p t ≡ false → AllByRecursion (λ e. p e ≡ false) t
+pub any_false : (p : Entry → Bool) (t : Tree) → list_any p t ≡ false → AllByRecursion (λ e. p e ≡ false) t
 any_false p [] h = tt
 any_false p (x ∷ t) h = elim (cases_Bool (p x)) [
   | inl here ↦ let no = rw here at h in absurd cc

@@ -3,6 +3,9 @@ use Rattle.std.proofs.Common.{◌≡◌, ℕ, List, [], ◌∷◌, ◌++◌, Opt
 use Rattle.std.specs.Prelude.{IfOk, OnOk}
 use Rattle.std.specs.declared.alloc.AllocError.{AllocError}
 use Rattle.std.proofs.lemmas.List.Sums.{fold_push}
+use Rattle.std.specs.Map.{values_of}
+use Rattle.tree_fold.specs.declared.entries.Entry.{Entry}
+use Rattle.tree_fold.specs.declared.places.Place.{Place}
 use Rattle.log_node.specs.declared.ids.Key.{Key}
 use Rattle.object_fold.specs.Nodes.{ObjectNode}
 use Rattle.tree_fold.specs.declared.change.Change.{Change}
@@ -11,18 +14,19 @@ use Rattle.tree_fold.specs.declared.told.Told.{Told}
 use Rattle.tree_fold.specs.Readings.{change_of}
 use Rattle.tree_fold.specs.Trees.{Tree, why, changed, tree_by, tree_with, tree_after, told_under, told_of_change, telling}
 use Rattle.tree_fold.specs.TreeStates.{SameTree}
-use Rattle.tree_fold.specs.Orders.{AreTreeEntries, MakesChange}
+use Rattle.tree_fold.specs.Places.{AreTreeEntries, MakesChange}
 use Rattle.tree_fold.proofs.TreeLemmas.{why_same}
 use Rattle.tree_fold.proofs.ClosedLemmas.{changed_same}
 
 -- what a change does of entries, for a tree with the same values
-pub does_same : (es new tree : Tree) (change : Change) → AreTreeEntries es → why es change ≡ None → MakesChange es new change → SameTree es tree → SameTree new (changed tree change)
-does_same es new tree change kept done did same = λ q. did.values q ∙ changed_same es tree same kept.closed change done q
+pub does_same : (old new : List (Place × Entry)) (tree : Tree) (change : Change) → AreTreeEntries old → why (values_of old) change ≡ None → MakesChange old new change → SameTree (values_of old) tree
+    → SameTree (values_of new) (changed tree change)
+does_same old new tree change kept done did same = λ q. did.values q ∙ changed_same (values_of old) tree same kept.closed change done q
 
-pub does_ok : {A E : Type 0} (es new tree : Tree) (change : Change) (r : Result A E) → AreTreeEntries es → why es change ≡ None → OnOk r (MakesChange es new change) → SameTree es tree
-    → OnOk r (SameTree new (changed tree change))
-does_ok es new tree change (Ok a) kept done did same = does_same es new tree change kept done did same
-does_ok es new tree change (Err e) kept done did same = tt
+pub does_ok : {A E : Type 0} (old new : List (Place × Entry)) (tree : Tree) (change : Change) (r : Result A E) → AreTreeEntries old → why (values_of old) change ≡ None → OnOk r (MakesChange old new change)
+    → SameTree (values_of old) tree → OnOk r (SameTree (values_of new) (changed tree change))
+does_ok old new tree change (Ok a) kept done did same = does_same old new tree change kept done did same
+does_ok old new tree change (Err e) kept done did same = tt
 
 with_why : (es tree : Tree) (change : Change) (o : Option TreeWhy) → SameTree es tree → why es change ≡ o → tree_with tree (Some change) ≡ tree_by tree change o
 with_why es tree change o same e = ap (tree_by tree change) (sym (why_same es tree same change) ∙ e)

@@ -1,14 +1,14 @@
 mod PathLaws
 mod ChangeLaws
 mod OrderLemmas
+mod PlaceLemmas
 mod EntryLemmas
 mod TreeLemmas
+mod MoveLemmas
 mod ClosedLemmas
 mod DoneLemmas
-mod MoveLemmas
 mod FoldLemmas
 mod NamesLemmas
-mod TopLemmas
 mod ListedLemmas
 mod TextLemmas
 pub mod CallerLemmas

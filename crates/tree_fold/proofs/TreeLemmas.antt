@@ -9,7 +9,7 @@ use Rattle.tree_fold.specs.declared.entries.Entry.{Entry}
 use Rattle.tree_fold.specs.declared.change.Change.{Change}
 use Rattle.tree_fold.specs.declared.change.Change.TheVariants.{Make, Remove, Move}
 use Rattle.tree_fold.specs.Paths.{Path, begins_with, goes_on_from, is_same, parent_of}
-use Rattle.tree_fold.specs.Trees.{Tree, value_in, is_there, has_more, moved_path, why, changed}
+use Rattle.tree_fold.specs.Trees.{Tree, value_in, is_there, has_more, is_too_deep, moved_path, why, changed}
 use Rattle.tree_fold.specs.TreeStates.{SameTree}
 use Rattle.tree_fold.proofs.OrderLemmas.{begins_is, begins_front, same_is, same_self, same_turned}
 use Rattle.tree_fold.proofs.EntryLemmas.{value_here, value_later}
@@ -110,6 +110,7 @@ pub record MayMove (t : Tree) (source target : Path) : Type 0 where
   pub outside : begins_with source target ≡ false
   pub absent : is_there t target ≡ false
   pub parent : is_there t (parent_of target) ≡ true
+  pub shallow : is_too_deep t source target ≡ false
 
 pub may_move : (t : Tree) (source target : Path) → why t (Move source target) ≡ None → MayMove t source target
 may_move t source target h = elim (cases_Bool (is_there t source)) [
@@ -118,7 +119,10 @@ may_move t source target h = elim (cases_Bool (is_there t source)) [
     | inr outside ↦ elim (cases_Bool (is_there t target)) [
       | inl here ↦ let no = rw (there, outside, here) at h in absurd cc
       | inr absent ↦ elim (cases_Bool (is_there t (parent_of target))) [
-        | inl parent ↦ record { there = there; outside = outside; absent = absent; parent = parent }
+        | inl parent ↦ elim (cases_Bool (is_too_deep t source target)) [
+          | inl deep ↦ let no = rw (there, outside, absent, parent, deep) at h in absurd cc
+          | inr shallow ↦ record { there = there; outside = outside; absent = absent; parent = parent; shallow = shallow }
+        ]
         | inr orphan ↦ let no = rw (there, outside, absent, orphan) at h in absurd cc
       ]
     ]

@@ -3,5 +3,5 @@ pub mod Changes
 pub mod Readings
 pub mod Laws
 pub mod Trees
-pub mod Orders
+pub mod Places
 pub mod TreeStates

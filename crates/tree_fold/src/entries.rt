@@ -1,14 +1,18 @@
-// The paths that are there, each with its value, in rising order: where a path stands among them, and where those that
-// begin with it.
-ghost use Rattle.std.specs.Prelude.{◌≡◌, ◌<◌, ◌-◌, nat_lt, drop, length, ◌++◌, ◌∷◌, [], IfOk, OnOk};
-ghost use Rattle.std.specs.List.{list_any, find, filter_map};
+// The paths that are there, each with its value, at its place: the entry of a path, those that come next after it, and all that
+// go on from it.
+ghost use Rattle.std.specs.Prelude.{◌≡◌, ◌≤◌, ◌-◌, ◌&&◌, IsTrue, nat_lt, length, filter, map, IfOk, OnOk, OnErr, Some, None};
+ghost use Rattle.std.specs.List.{list_any, find, AllByRecursion};
 ghost use Rattle.std.specs.Option.{option_copied};
-ghost use Rattle.tree_fold.specs.Paths.{begins_with, is_same, parent_of, sole};
-ghost use Rattle.tree_fold.specs.Orders.{path_order, PathsRise, IsPlace, IsBranch, IsTops, IsNextTop, next_names};
+ghost use Rattle.std.specs.BTreeMap.{IsOrdered, Updates, UpdatesBy, values};
+ghost use Rattle.tree_fold.specs.Paths.{begins_with, goes_on_from, is_below_root, is_path, is_same};
+ghost use Rattle.tree_fold.specs.Places.{IsPlaced, is_child, own_name, place_cmp, place_of};
 
+use crate::path::MAX_NAMES;
+use crate::places::{Place, name_numbers, own_name, place_of};
 use log_node::{ListOf, Names, Text};
 use std::alloc::{AllocError, Global};
-use std::cmp::Ordering;
+use std::collections::BTreeMap;
+use std::collections::btree_map::Range;
 
 /// A path below the root that is there, and its value.
 #[derive(Drop)]
@@ -17,25 +21,8 @@ pub struct Entry {
     pub value: Text,
 }
 
-/// How two paths stand.
-pub fn path_order(a: &[Text], b: &[Text]) -> Ordering
-    ensures { result ≡ path_order a.now b.now }
-{
-    let [first, others @ ..] = a else {
-        return if b.is_empty() {
-            Ordering::Equal
-        } else {
-            Ordering::Less
-        };
-    };
-    let [second, more @ ..] = b else {
-        return Ordering::Greater;
-    };
-    match first.as_bytes().cmp(second.as_bytes()) {
-        Ordering::Equal => path_order(others, more),
-        order => order,
-    }
-}
+/// The entries of a tree, each at the place of its path.
+pub type Entries = BTreeMap<Place, Entry>;
 
 /// The path begins with all names of the front.
 pub fn begins_with(front: &[Text], path: &[Text]) -> bool
@@ -50,116 +37,112 @@ pub fn begins_with(front: &[Text], path: &[Text]) -> bool
     name.as_bytes() == other.as_bytes() && begins_with(names, others)
 }
 
-fn is_same(front: &[Text], path: &[Text]) -> bool
-    ensures { result ≡ is_same front.now path.now }
-{
-    begins_with(front, path) && front.len() == path.len()
-}
-
-/// The path without its last name.
-pub fn parent_of(path: &[Text]) -> &[Text]
-    ensures { result.now ≡ parent_of path.now }
-{
-    &path[..path.len().saturating_sub(1)]
-}
-
-/// The names of a path behind this many first ones.
-pub fn rest_of(path: &[Text], count: usize) -> &[Text]
-    ensures { result.now ≡ drop count path.now }
-{
-    if count <= path.len() {
-        &path[count..]
-    } else {
-        &[]
-    }
-}
-
-/// How many entries are below a path.
-pub fn place_of(entries: &[Entry], path: &[Text]) -> usize
-    requires { PathsRise entries.now }
-    ensures { IsPlace entries.now path.now result }
-{
-    entries.partition_point(|entry| path_order(entry.path.as_slice(), path).is_lt())
-}
-
 /// The entry of a path.
-pub fn entry_of<'a>(entries: &'a [Entry], path: &[Text]) -> Option<&'a Entry>
-    requires { PathsRise entries.now }
-    ensures { option_copied result ≡ find (λ e. is_same path.now e.path) entries.now }
+pub fn entry_of<'a>(entries: &'a Entries, path: &[Text]) -> Option<&'a Entry>
+    requires placed { AllByRecursion IsPlaced entries.now.entries }
+    requires path { IsTrue (is_path path.now) }
+    ensures { option_copied result ≡ find (λ e. is_same path.now e.path) (values entries.now) }
 {
-    let place = place_of(entries, path);
-    if place == entries.len() {
+    if path.is_empty() {
         return None;
     }
-    let entry = &entries[place];
-    if is_same(path, entry.path.as_slice()) {
-        Some(entry)
-    } else {
-        None
-    }
+    entries.get(&place_of(path))
 }
 
-/// Where the entries that begin with a path stand: from the one place up to the other.
-pub fn branch_of(entries: &[Entry], path: &[Text]) -> (usize, usize)
-    requires { PathsRise entries.now }
-    ensures { IsBranch entries.now path.now result }
+/// Puts an entry at the place of its path, over one that may stand there. Without memory the entries stay as they are.
+pub fn put_entry(entries: &mut Entries, entry: Entry) -> Result<(), AllocError>
+    requires placed { AllByRecursion IsPlaced entries.old.entries }
+    requires path { IsTrue (is_below_root entry.path) }
+    ensures placed { AllByRecursion IsPlaced entries.new.entries }
+    ensures ordered { IsOrdered place_cmp entries.new }
+    ensures ok { OnOk result (Updates place_cmp entries.old entries.new (place_of entry.path) (Some entry)) }
+    ensures err { OnErr result (entries.new.entries ≡ entries.old.entries) }
 {
-    let from = place_of(entries, path);
-    let count = entries[from..].partition_point(|entry| begins_with(path, entry.path.as_slice()));
-    (from, from + count)
+    entries.insert(place_of(entry.path.as_slice()), entry)?;
+    Ok(())
 }
 
-/// Some path has more than this many names behind the first `names`.
-pub fn goes_deeper(entries: &[Entry], names: usize, room: usize) -> bool
-    ensures { result ≡ list_any (λ e. nat_lt room (length e.path - names)) entries.now }
+/// Takes out what stands at a place.
+pub fn take_entry(entries: &mut Entries, place: Place)
+    requires placed { AllByRecursion IsPlaced entries.old.entries }
+    ensures placed { AllByRecursion IsPlaced entries.new.entries }
+    ensures ordered { IsOrdered place_cmp entries.new }
+    ensures out { UpdatesBy place_cmp (place_cmp place) entries.old entries.new None }
 {
-    entries
-        .iter()
-        .any(|entry| room < entry.path.len().saturating_sub(names))
+    entries.remove(&place);
 }
 
-// Adds the name of a path that has just one.
-fn put_sole(alloc: Global, names: &mut Names, path: &[Text]) -> Result<(), AllocError>
-    ensures { OnOk result (names.new ≡ names.old ++ filter_map sole (path.now ∷ [])) }
+/// The entries whose paths go on from this one.
+pub fn below<'a>(entries: &'a Entries, path: &[Text]) -> Range<'a, Place, Entry>
+    requires placed { AllByRecursion IsPlaced entries.now.entries }
+    requires path { IsTrue (is_path path.now) }
+    requires room { length path.now ≤ 3 }
+    ensures { result ≡ filter (λ e. goes_on_from path.now e.1.path) entries.now.entries }
 {
-    match path {
-        [name] => {
-            let name = Text::copied(alloc, name.as_bytes())?;
-            names.push(name)
-        }
-        _ => Ok(()),
-    }
+    let from = Place {
+        parent: name_numbers(path, 0),
+        name: 0,
+    };
+    let to = Place {
+        parent: name_numbers(path, u64::MAX),
+        name: u64::MAX,
+    };
+    entries.range(from..to)
 }
 
-// The place of the next entry that does not go on from the one at this place; behind that of the front itself, the next
-// place.
-fn next_place(entries: &[Entry], front: &[Text], at: usize) -> usize
-    requires within { at < length entries.now }
-    requires tops { IsTops front.now (drop at entries.now) }
-    ensures { IsNextTop front.now entries.now at result }
+/// The entries whose paths have one name more than this one, with which they begin, by this name.
+pub fn children<'a>(entries: &'a Entries, path: &[Text]) -> Range<'a, Place, Entry>
+    requires placed { AllByRecursion IsPlaced entries.now.entries }
+    requires path { IsTrue (is_path path.now) }
+    requires room { length path.now ≤ 3 }
+    ensures { result ≡ filter (λ e. is_child path.now e.1.path) entries.now.entries }
 {
-    let path = entries[at].path.as_slice();
-    if path.len() <= front.len() {
-        return at + 1;
-    }
-    at + entries[at..].partition_point(|entry| begins_with(path, entry.path.as_slice()))
+    let parent = name_numbers(path, 0);
+    entries.range(
+        Place { parent, name: 0 }..Place {
+            parent,
+            name: u64::MAX,
+        },
+    )
 }
 
-/// The names that come next after a front, with which all entries begin. What goes on from a name is passed over in one
-/// step.
-pub fn next_names(alloc: Global, entries: &[Entry], front: &[Text]) -> Result<Names, AllocError>
-    requires { IsTops front.now entries.now }
-    ensures { IfOk result (λ names. names ≡ next_names (length front.now) entries.now) }
+// Some of these paths has more than so many names behind the first `names`.
+fn any_deeper(mut entries: Range<'_, Place, Entry>, names: usize, room: usize) -> bool
+    ensures { result ≡ list_any (λ e. nat_lt room (length e.1.path - names)) entries.entry }
+{
+    entries.any(|(_, entry)| room < entry.path.len().saturating_sub(names))
+}
+
+/// Some path that goes on from this one has more than so many names behind it.
+pub fn goes_deeper(entries: &Entries, path: &[Text], room: usize) -> bool
+    requires placed { AllByRecursion IsPlaced entries.now.entries }
+    requires path { IsTrue (is_path path.now) }
+    ensures { result ≡ list_any (λ e. goes_on_from path.now e.path && nat_lt room (length e.path - length path.now))
+        (values entries.now) }
+{
+    path.len() < MAX_NAMES && any_deeper(below(entries, path), path.len(), room)
+}
+
+// The last names of these paths.
+fn own_names(alloc: Global, entries: Range<'_, Place, Entry>) -> Result<Names, AllocError>
+    ensures { IfOk result (λ names. names ≡ map (λ e. own_name e.1.path) entries.entry) }
 {
     let mut names = ListOf::new(alloc);
-    let mut at = 0;
-    while at < entries.len() {
-        put_sole(
-            alloc,
-            &mut names,
-            rest_of(entries[at].path.as_slice(), front.len()),
-        )?;
-        at = next_place(entries, front, at);
+    for (_, entry) in entries {
+        names.push(Text::copied(alloc, own_name(entry.path.as_slice()))?)?;
     }
     Ok(names)
+}
+
+/// The last names of the paths that have one name more than this one, with which they begin, by these names.
+pub fn names_in(alloc: Global, entries: &Entries, path: &[Text]) -> Result<Names, AllocError>
+    requires placed { AllByRecursion IsPlaced entries.now.entries }
+    requires path { IsTrue (is_path path.now) }
+    ensures { IfOk result (λ names. names
+        ≡ map (λ e. own_name e.1.path) (filter (λ e. is_child path.now e.1.path) entries.now.entries)) }
+{
+    if path.len() == MAX_NAMES {
+        return Ok(ListOf::new(alloc));
+    }
+    own_names(alloc, children(entries, path))
 }

@@ -1,8 +1,8 @@
 // The tree, folded from nodes in rising key.
-ghost use Rattle.std.specs.Prelude.{◌≡◌, ◌++◌, ◌∷◌, ◌≤◌, [], List, length, IfOk, OnOk, OnErr, Some, None};
+ghost use Rattle.std.specs.Prelude.{◌≡◌, ◌++◌, ◌∷◌, ◌≤◌, IsTrue, [], List, length, IfOk, OnOk, OnErr, Some, None};
 ghost use Rattle.std.specs.Option.{option_copied};
 ghost use Rattle.object_fold.specs.Nodes.{ObjectNode};
-ghost use Rattle.tree_fold.specs.Paths.{Path};
+ghost use Rattle.tree_fold.specs.Paths.{Path, is_path};
 ghost use Rattle.tree_fold.specs.Changes.{IsChange};
 ghost use Rattle.tree_fold.specs.Readings.{change_of};
 ghost use Rattle.tree_fold.specs.Trees.{value_in, is_there, has_more, is_too_deep, why, changed, tree_with, tree_after, told_under, told_of_change, telling, IsNamesAnswer};
@@ -10,21 +10,23 @@ ghost use Rattle.tree_fold.specs.TreeStates.{SameTree, IsTree};
 
 use crate::change::Change;
 use crate::changing::{make, relocate, remove};
-use crate::entries::{Entry, begins_with, branch_of, entry_of, goes_deeper, next_names, parent_of};
+use crate::entries::{Entries, Entry, begins_with, entry_of, goes_deeper, names_in};
 use crate::path::{MAX_NAMES, Path};
+use crate::places::parent_of;
 use crate::reading::read_change;
 use crate::told::Told;
 use log_node::{Key, Names, Text};
 use object_fold::NodeFold;
 use object_form::TreeWhy;
 use std::alloc::{AllocError, Global};
+use std::collections::BTreeMap;
 use std::marker::Model;
 
 /// The tree of names: the paths that are there after the nodes that were fed, with their values. Contracts see the list
 /// of its entries.
 #[derive(Drop)]
 pub struct TreeFold {
-    entries: Vec<Entry>,
+    entries: Entries,
 }
 
 impl Model for TreeFold {
@@ -33,11 +35,12 @@ impl Model for TreeFold {
 
     ghost Value = { List Seen };
 
-    ghost use Rattle.tree_fold.specs.Orders.{AreTreeEntries};
+    ghost use Rattle.std.specs.BTreeMap.{values};
+    ghost use Rattle.tree_fold.specs.Places.{AreTreeEntries};
 
-    ghost view = { λ a. a.entries.items };
+    ghost view = { λ a. values a.entries };
 
-    ghost invariant = { λ a. AreTreeEntries a.entries.items };
+    ghost invariant = { λ a. AreTreeEntries a.entries.entries };
 }
 
 impl TreeFold {
@@ -46,11 +49,12 @@ impl TreeFold {
         ensures { IsTree result [] }
     {
         TreeFold {
-            entries: Vec::new(alloc),
+            entries: BTreeMap::new(alloc),
         }
     }
 
     fn value_in(&self, path: &[Text]) -> Option<&Text>
+        requires { IsTrue (is_path path.now) }
         ensures { option_copied result ≡ value_in self.now path.now }
     {
         match entry_of(&self.entries, path) {
@@ -60,6 +64,7 @@ impl TreeFold {
     }
 
     fn is_there(&self, path: &[Text]) -> bool
+        requires { IsTrue (is_path path.now) }
         ensures { result ≡ is_there self.now path.now }
     {
         path.is_empty() || self.value_in(path).is_some()
@@ -67,27 +72,24 @@ impl TreeFold {
 
     // Some path goes on from this one.
     fn has_more(&self, path: &[Text]) -> bool
+        requires { IsTrue (is_path path.now) }
         ensures { result ≡ has_more self.now path.now }
     {
-        let (from, to) = branch_of(&self.entries, path);
-        goes_deeper(&self.entries[from..to], path.len(), 0)
+        goes_deeper(&self.entries, path, 0)
     }
 
     // Some path would have too many names with the target in the place of the source.
     fn is_too_deep(&self, source: &[Text], target: &[Text]) -> bool
-        requires { length target.now ≤ 4 }
+        requires source { IsTrue (is_path source.now) }
+        requires target { length target.now ≤ 4 }
         ensures { result ≡ is_too_deep self.now source.now target.now }
     {
-        let (from, to) = branch_of(&self.entries, source);
-        goes_deeper(
-            &self.entries[from..to],
-            source.len(),
-            MAX_NAMES - target.len(),
-        )
+        goes_deeper(&self.entries, source, MAX_NAMES - target.len())
     }
 
     fn why_not_moved(&self, source: &[Text], target: &[Text]) -> Option<TreeWhy>
-        requires { length target.now ≤ 4 }
+        requires source { IsTrue (is_path source.now) }
+        requires target { IsTrue (is_path target.now) }
         ensures { result ≡ why self.now (Change.Move source.now target.now) }
     {
         if !self.is_there(source) {
@@ -205,8 +207,7 @@ impl TreeFold {
         if !self.is_there(path) {
             return Ok(None);
         }
-        let (from, to) = branch_of(&self.entries, path);
-        let names = next_names(alloc, &self.entries[from..to], path)?;
+        let names = names_in(alloc, &self.entries, path)?;
         Ok(Some(names))
     }
 }

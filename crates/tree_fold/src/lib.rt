@@ -9,6 +9,7 @@ mod keys;
 mod laws;
 mod moving;
 mod path;
+mod places;
 mod reading;
 mod told;
 mod writing;

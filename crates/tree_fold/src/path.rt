@@ -11,7 +11,7 @@ use std::alloc::{AllocError, Global};
 use std::marker::Model;
 
 /// The most bytes of a name.
-const MAX_NAME: usize = 8;
+pub const MAX_NAME: usize = 8;
 
 /// The most names of a path.
 pub const MAX_NAMES: usize = 4;

@@ -1,29 +1,29 @@
-use Rattle.std.proofs.Common.{take, drop, sym, ap, ◌∙◌}
-use Rattle.std.specs.Ordering.{is_lt}
-use Rattle.tree_fold.proofs.EntryLemmas.{rises_left, rises_right, whole_rises}
-use Rattle.tree_fold.proofs.MoveLemmas.{before_does, behind_does}
+use Rattle.std.specs.BTreeMap.{values}
+use Rattle.tree_fold.proofs.TreeLemmas.{may_move}
+use Rattle.tree_fold.proofs.DoneLemmas.{free_places, moved_paths, move_does, renamed_begin, target_absent}
+use Rattle.std.proofs.Common.{length, map}
+use Rattle.tree_fold.specs.Places.{renamed}
 use Rattle.tree_fold.proofs.changing.relocate.Goals as goal
 
-pub put_before-requires-clause-rises : goal.put_before-requires-clause-rises
-put_before-requires-clause-rises c =
-    let es = c.args.entries.now in
-    let from = c.branch_of-from.result.0 in
-    rises_left (take from es) (drop from es) (whole_rises es from c.requires.kept.rises)
+pub put_branch-requires-clause-paths : goal.put_branch-requires-clause-paths
+put_branch-requires-clause-paths c =
+    let m = c.args.entries.now in
+    let source = c.args.source.now in
+    let target = c.args.target.now in
+    let found = c.in_ok-moved.ensures in
+    rw found.2.entries (moved_paths source target (values m) found.0 c.requires.target (may_move (values m) source target c.requires.done).shallow found.1)
 
-pub put_behind-requires-clause-rises : goal.put_behind-requires-clause-rises
-put_behind-requires-clause-rises c =
-    let es = c.args.entries.now in
-    let to = c.branch_of-from.result.1 in
-    rises_right (take to es) (drop to es) (whole_rises es to c.requires.kept.rises)
+pub put_branch-requires-clause-free : goal.put_branch-requires-clause-free
+put_branch-requires-clause-free c =
+    let m = c.args.entries.now in
+    let source = c.args.source.now in
+    let target = c.args.target.now in
+    let found = c.in_ok-moved.ensures in
+    let paths = moved_paths source target (values m) found.0 c.requires.target (may_move (values m) source target c.requires.done).shallow found.1 in
+    rw found.2.entries (free_places m target (map (renamed (length source) target) found.0) c.requires.kept.placed (target_absent m source target c.requires.kept c.requires.done) paths (renamed_begin (length source) target found.0))
 
-pub returns-then-is_lt-clause-ok : goal.returns-then-is_lt-clause-ok
-returns-then-is_lt-clause-ok c =
-    let ends = c.branch_of-from.result in
-    before_does c.args.source.now c.args.target.now c.args.entries.now c.put_before.new.entries ends.0 ends.1 c.in_ok-paths.paths.items c.requires.kept c.requires.done
-    c.branch_of-from.ensures c.in_ok-paths.ensures (ap is_lt (sym c.path_order.ensures) ∙ sym c.is_lt.ensures ∙ c.if-is_lt.true) c.put_before.ensures
-
-pub returns-else-is_lt-clause-ok : goal.returns-else-is_lt-clause-ok
-returns-else-is_lt-clause-ok c =
-    let ends = c.branch_of-from.result in
-    behind_does c.args.source.now c.args.target.now c.args.entries.now c.put_behind.new.entries ends.0 ends.1 c.in_ok-paths.paths.items c.requires.kept c.requires.done
-    c.branch_of-from.ensures c.in_ok-paths.ensures (ap is_lt (sym c.path_order.ensures) ∙ sym c.is_lt.ensures ∙ c.if-is_lt.false) c.put_behind.ensures
+pub returns-clause-ok : goal.returns-clause-ok
+returns-clause-ok c =
+    let found = c.in_ok-moved.ensures in
+    move_does c.args.entries.now c.put_branch.new.entries c.take_out.new.entries c.args.source.now c.args.target.now found.0 c.in_ok-moved.moved c.requires.kept c.requires.done
+    c.put_branch.ensures.placed c.take_out.ensures.placed c.take_out.ensures.ordered found.1 found.2 c.in_ok-put_branch.ensures.ok (rw c.deref.ensures.value at c.take_out.ensures.out)

@@ -1,14 +1,7 @@
-use Rattle.tree_fold.proofs.DoneLemmas.{remove_within, remove_does}
+use Rattle.tree_fold.proofs.DoneLemmas.{remove_does}
 use Rattle.tree_fold.proofs.changing.remove.Goals as goal
-
-pub remove-requires : goal.remove-requires
-remove-requires c =
-    let place = rw c.deref.ensures.value at c.place_of-place.ensures in
-    let within = remove_within c.args.entries.now.items c.args.path.now c.place_of-place.result c.requires.kept c.requires.below c.requires.done place in
-    rw c.args.entries.now.ok.0 within
 
 pub returns : goal.returns
 returns c =
-    let place = rw c.deref.ensures.value at c.place_of-place.ensures in
-    remove_does c.args.entries.now.items c.remove.new.self.items c.args.path.now c.place_of-place.result c.remove.result c.requires.kept c.requires.below c.requires.done place
-    c.remove.ensures.value c.remove.ensures.by_index.2
+    remove_does c.args.entries.now c.take_entry.new.entries c.args.path.now c.requires.kept c.requires.path c.requires.done c.take_entry.ensures.placed c.take_entry.ensures.ordered
+    (rw c.place_of.ensures at c.take_entry.ensures.out)
