@@ -66,6 +66,22 @@ pub stop_within : (colours : Colours) (steps : ℕ) → HasColours 2 colours →
     → IsStopWithin colours steps
 stop_within colours steps has few = (has.many, few)
 
+-- THE COMMANDS OF THE LOG
+
+-- there is no other
+pub log_commands : (what : What) → IsOfLog what → ((c : Colours) (t : List ℕ) → what ≡ whats.Append c t → ⊥)
+    → ((n : ℕ) (c : Colours) (t : List ℕ) → what ≡ whats.Stop n c t → ⊥) → ((c : ℕ) → what ≡ whats.Sync c → ⊥)
+    → ((c : Colours) → what ≡ whats.Scan c → ⊥) → ((r c : ℕ) → what ≡ whats.Pull r c → ⊥)
+    → ((c : ℕ) → what ≡ whats.Trim c → ⊥) → ((c : ℕ) (t : List ℕ) → what ≡ whats.Only c t → ⊥) → ⊥
+log_commands (whats.Append colours text) of append stop sync scan pull trim only = append colours text refl
+log_commands (whats.Stop steps colours text) of append stop sync scan pull trim only = stop steps colours text refl
+log_commands (whats.Sync colour) of append stop sync scan pull trim only = sync colour refl
+log_commands (whats.Scan colours) of append stop sync scan pull trim only = scan colours refl
+log_commands (whats.Pull region colour) of append stop sync scan pull trim only = pull region colour refl
+log_commands (whats.Trim colour) of append stop sync scan pull trim only = trim colour refl
+log_commands (whats.Only colour text) of append stop sync scan pull trim only = only colour text refl
+log_commands _ of append stop sync scan pull trim only = let f : ⊥ = cc (of) in f
+
 -- APPENDS
 
 -- memory was refused before anything was asked of the client

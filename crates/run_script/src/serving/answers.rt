@@ -60,10 +60,7 @@ fn log_answer<R: Wait, G: Gate>(
             only(rt, alloc, store, client, colour, text),
             ListOf::new(alloc),
         ),
-        What::Put { .. } | What::Get { .. } | What::Del { .. } => unreachable!(),
-        What::PutAll { .. } | What::GetAll { .. } | What::Enq { .. } => unreachable!(),
-        What::Read { .. } | What::Commit { .. } | What::Deq { .. } => unreachable!(),
-        What::Mk { .. } | What::Rm { .. } | What::Mv { .. } | What::Ls { .. } => unreachable!(),
+        _ => unreachable!(),
     }
 }
 
