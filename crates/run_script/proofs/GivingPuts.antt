@@ -1,18 +1,27 @@
--- What a client gives to appends of objects of each kind.
-use Rattle.std.proofs.Common.{◌≡◌, ◌≢◌, ℕ, ◌<◌, ◌≤◌, List, [], ◌∷◌, length, Option, Some, None, Ok, Err, refl, ap, sym, subst, ◌∙◌, arith}
+-- What a client gives to commands that append to an object, by what they say.
+use Rattle.std.proofs.Common.{◌≡◌, ◌≢◌, ℕ, ◌<◌, ◌≤◌, List, [], ◌∷◌, length, false, Option, Some, None, Ok, Err, refl, ap, sym, subst, ◌∙◌, arith}
 use Rattle.std.specs.Prelude.{◌%◌, IfErr, IfOk, Result, slice_index, sum}
 use Rattle.std.proofs.lemmas.List.{length-map}
-use Rattle.log_node.specs.declared.forms.Form.TheVariants as forms
-use Rattle.log_node.specs.declared.forms.Pair.{Pair}
+use Rattle.log_node.specs.declared.forms.Version.{Version}
+use Rattle.log_node.specs.declared.ids.Colours.{Colours}
 use Rattle.log_node.specs.declared.limits.TheConstants.{MAX_COLOURS}
+use Rattle.log_node.specs.Sets.{members}
 use Rattle.object_fold.specs.Nodes.{shard_of}
-use Rattle.object_form.specs.Forms.{form_text}
+use Rattle.col_core.specs.Keeping.{Kept}
 use Rattle.script_text.specs.declared.script.Kind.{Kind}
 use Rattle.script_text.specs.declared.script.Kind.TheVariants as kinds
-use Rattle.script_text.specs.declared.commands.What.TheVariants as whats
+use Rattle.script_text.specs.declared.script.Object.{Object}
+use Rattle.script_text.specs.declared.commands.What.{What}
+use Rattle.script_text.specs.declared.uses.ReadUse.TheVariants.{Leaves}
+use Rattle.script_text.specs.declared.uses.Use.{Use}
+use Rattle.script_text.specs.declared.uses.Use.TheVariants.{OfObject}
+use Rattle.script_text.specs.Commands.{use_of}
+use Rattle.script_text.specs.Fitting.{is_tx}
 use Rattle.report_text.specs.declared.report.Answer.{Answer}
-use Rattle.lawful_run.specs.Asks.{keys_of_pairs, object_colours, object_home, put_form, shards}
+use Rattle.lawful_run.specs.Asks.{Appending, kind_asked, kind_used, object_colours, object_home, shards}
+use Rattle.lawful_run.specs.Deeds.{AsksToAppend, Reach, Reaches, Saying, SaysNode, ShardsOf, found_by, manner_of, saying_of, says}
 use Rattle.lawful_run.proofs.CallerLemmas.{one_shard}
+use Rattle.script_meaning.specs.States.{kind_in}
 use Rattle.append_core.specs.declared.stood.Point.{Point}
 use Rattle.log_client.specs.declared.store.Store.{Store}
 use Rattle.log_client.specs.declared.client.Client.{Client}
@@ -24,7 +33,7 @@ use Rattle.log_client.specs.Reading.{RestsOn}
 use Rattle.log_client.proofs.CallerLemmas.{shard_low}
 use Rattle.run_script.specs.Replying.{append_answer}
 use Rattle.run_script.specs.Serving.{GivesFor, GivesOf}
-use Rattle.run_script.proofs.GivingObjects.{gives_put, told_home}
+use Rattle.run_script.proofs.GivingObjects.{TellsAway, gives_put, told_home, who}
 
 -- an append to so many colours has so many points
 pub points_fit : (s : Store) (c d : Client) (colours text : List ℕ) (call : Result Appended ObjectFault) (room : ℕ)
@@ -48,87 +57,51 @@ only_shard colour key low =
       one : shard_of (colour ∷ []) key ≡ colour
       one = let e : sum key % 1 ≡ 0 = omega arith in ap (λ (i : ℕ). slice_index (colour ∷ []) i) e
 
+-- Each of these commands, by the number of its object, says such a node where its object is of this kind, and is answered by
+-- where that stands.
+pub record SaysOf (kind : Kind) (asked : ℕ → What) (reach : Reach) (text : List ℕ) : Type 0 where
+  pub uses : (object : ℕ) → use_of (asked object) ≡ OfObject object Leaves
+  pub appends : (object : ℕ) → manner_of (asked object) ≡ Appending
+  pub said : (object : ℕ) → saying_of (Some kind) None (asked object) ≡ says reach text
+
 module _ (s : Store) (c d : Client) (on : RestsOn s c d) (call : Result Appended ObjectFault) (answer : Answer)
     (shown : answer ≡ append_answer call) where
-  module _ (home : ℕ) (colours : List ℕ) (are : HasColoursOf c colours)
-      (tells : c.region ≢ home → call ≡ Err (faults.NotHome home)) (key : List ℕ) where
-    pub gives_map_put : (value : List ℕ)
-        → IfOk call (StandsIn s c d (shard_of colours key ∷ []) (form_text (forms.Put key value)))
-        → IfErr call (PutRefused (Some home) s c d (shard_of colours key ∷ []) (form_text (forms.Put key value)))
-        → GivesFor s c d (kinds.Map home colours) (λ object. whats.Put object key value) answer
-    gives_map_put value ok err = record {
-      no_reads = refl;
-      of = λ objects object at.
-          subst (λ (a : Answer). GivesOf s objects c d (whats.Put object key value) a []) (sym shown)
-          (gives_put s c d on objects (whats.Put object key value) refl (Some home)
-          (ap object_home at) (shard_of colours key ∷ []) (form_text (forms.Put key value))
-          (λ kept set is. (
-            is ∙ (sym (shard_alone c colours key are)
-                ∙ ap (λ (k : Option Kind). shards (object_colours k) (key ∷ [])) (sym at)),
-            ap (λ (k : Option Kind). form_text (put_form k key value)) (sym at),
-          ))
-          call (told_home c home call tells) ok err);
-    }
+  -- what is given to commands that say a node, where one was called with their text that stands in the colours of their reach
+  pub gives_said : (kind : Kind) (asked : ℕ → What) (reach : Reach) (text colours : List ℕ) (home : Option ℕ)
+      → SaysOf kind asked reach text → is_tx kind ≡ false → object_home (Some kind) ≡ home
+      → ((set : Colours) → members set ≡ colours → Reaches (object_colours (Some kind)) reach set) → TellsAway c home call
+      → IfOk call (StandsIn s c d colours text) → IfErr call (PutRefused home s c d colours text)
+      → GivesFor s c d kind asked answer
+  gives_said kind asked reach text colours home its no_reads homes reaches tells ok err = record {
+    no_reads = no_reads;
+    of = each;
+  } where
+    each : (objects : List Object) (object : ℕ) → kind_in objects object ≡ Some kind
+        → GivesOf s objects c d (asked object) answer []
+    each objects object at =
+        subst (λ (a : Answer). GivesOf s objects c d (asked object) a []) (sym shown)
+        (gives_put s c d on objects (asked object) (its.appends object) home (ap object_home kind_is ∙ homes) colours text asks
+        call tells ok err) where
+          kind_is : kind_asked (who s c d on objects) (asked object) ≡ Some kind
+          kind_is = ap (kind_used (who s c d on objects)) (its.uses object) ∙ at
 
-    pub gives_map_del : IfOk call (StandsIn s c d (shard_of colours key ∷ []) (form_text (forms.Delete key)))
-        → IfErr call (PutRefused (Some home) s c d (shard_of colours key ∷ []) (form_text (forms.Delete key)))
-        → GivesFor s c d (kinds.Map home colours) (λ object. whats.Del object key) answer
-    gives_map_del ok err = record {
-      no_reads = refl;
-      of = λ objects object at.
-          subst (λ (a : Answer). GivesOf s objects c d (whats.Del object key) a []) (sym shown)
-          (gives_put s c d on objects (whats.Del object key) refl (Some home)
-          (ap object_home at) (shard_of colours key ∷ []) (form_text (forms.Delete key))
-          (λ kept set is. (
-            is ∙ (sym (shard_alone c colours key are)
-                ∙ ap (λ (k : Option Kind). shards (object_colours k) (key ∷ [])) (sym at)),
-            refl,
-          ))
-          call (told_home c home call tells) ok err);
-    }
+          asks : (kept : Kept) (set : Colours) → members set ≡ colours
+              → AsksToAppend (who s c d on objects) kept (asked object) set text
+          asks kept set is =
+              subst (λ (k : Option Kind). SaysNode (object_colours k) (saying_of k (found_by (use_of (asked object)) kept) (asked object)) set text)
+              (sym kind_is)
+              (subst (λ (found : Option (List Version)). SaysNode (object_colours (Some kind)) (saying_of (Some kind) found (asked object)) set text)
+              (sym (ap (λ (u : Use). found_by u kept) (its.uses object)))
+              (subst (λ (said : Option Saying). SaysNode (object_colours (Some kind)) said set text) (sym (its.said object))
+              (reaches set is, refl)))
 
-  pub gives_map_put_all : (home : ℕ) (colours : List ℕ) (pairs : List Pair)
-      → (c.region ≢ home → call ≡ Err (faults.NotHome home))
-      → IfOk call (StandsIn s c d (shards colours (keys_of_pairs pairs)) (form_text (forms.PutAll pairs)))
-      → IfErr call (PutRefused (Some home) s c d (shards colours (keys_of_pairs pairs)) (form_text (forms.PutAll pairs)))
-      → GivesFor s c d (kinds.Map home colours) (λ object. whats.PutAll object pairs) answer
-  gives_map_put_all home colours pairs tells ok err = record {
-    no_reads = refl;
-    of = λ objects object at.
-        subst (λ (a : Answer). GivesOf s objects c d (whats.PutAll object pairs) a []) (sym shown)
-        (gives_put s c d on objects (whats.PutAll object pairs) refl (Some home)
-        (ap object_home at) (shards colours (keys_of_pairs pairs)) (form_text (forms.PutAll pairs))
-        (λ kept set is. (is ∙ ap (λ (k : Option Kind). shards (object_colours k) (keys_of_pairs pairs)) (sym at), refl))
-        call (told_home c home call tells) ok err);
-  }
-
-  pub gives_causal_put : (colour : ℕ) (key value : List ℕ) → colour < MAX_COLOURS
-      → IfOk call (StandsIn s c d (colour ∷ []) (form_text (forms.Causal key value)))
-      → IfErr call (PutRefused None s c d (colour ∷ []) (form_text (forms.Causal key value)))
-      → GivesFor s c d (kinds.Causal colour) (λ object. whats.Put object key value) answer
-  gives_causal_put colour key value low ok err = record {
-    no_reads = refl;
-    of = λ objects object at.
-        subst (λ (a : Answer). GivesOf s objects c d (whats.Put object key value) a []) (sym shown)
-        (gives_put s c d on objects (whats.Put object key value) refl None
-        (ap object_home at) (colour ∷ []) (form_text (forms.Causal key value))
-        (λ kept set is. (
-          is ∙ (sym (only_shard colour key low)
-              ∙ ap (λ (k : Option Kind). shards (object_colours k) (key ∷ [])) (sym at)),
-          ap (λ (k : Option Kind). form_text (put_form k key value)) (sym at),
-        ))
-        call (λ h e far. absurd (let f : ⊥ = cc (e) in f)) ok err);
-  }
-
-  pub gives_enq : (home colour : ℕ) (value : List ℕ) → (c.region ≢ home → call ≡ Err (faults.NotHome home))
-      → IfOk call (StandsIn s c d (colour ∷ []) (form_text (forms.Enqueue value)))
-      → IfErr call (PutRefused (Some home) s c d (colour ∷ []) (form_text (forms.Enqueue value)))
-      → GivesFor s c d (kinds.Queue home colour) (λ object. whats.Enq object value) answer
-  gives_enq home colour value tells ok err = record {
-    no_reads = refl;
-    of = λ objects object at.
-        subst (λ (a : Answer). GivesOf s objects c d (whats.Enq object value) a []) (sym shown)
-        (gives_put s c d on objects (whats.Enq object value) refl (Some home)
-        (ap object_home at) (colour ∷ []) (form_text (forms.Enqueue value))
-        (λ kept set is. (is ∙ ap object_colours (sym at), refl)) call (told_home c home call tells) ok err);
-  }
+  -- the same of a key of a map
+  pub gives_in_shard : (asked : ℕ → What) (home : ℕ) (colours : List ℕ) → HasColoursOf c colours
+      → (c.region ≢ home → call ≡ Err (faults.NotHome home)) → (key text : List ℕ)
+      → SaysOf (kinds.Map home colours) asked (ShardsOf (key ∷ [])) text
+      → IfOk call (StandsIn s c d (shard_of colours key ∷ []) text)
+      → IfErr call (PutRefused (Some home) s c d (shard_of colours key ∷ []) text)
+      → GivesFor s c d (kinds.Map home colours) asked answer
+  gives_in_shard asked home colours are tells key text its ok err =
+      gives_said (kinds.Map home colours) asked (ShardsOf (key ∷ [])) text (shard_of colours key ∷ []) (Some home) its refl refl
+      (λ set is. is ∙ sym (shard_alone c colours key are)) (told_home c home call tells) ok err

@@ -1,4 +1,4 @@
-use Rattle.std.proofs.Common.{ℕ, ap, sym, subst, ◌∙◌, arith, ◌∷◌, []}
+use Rattle.std.proofs.Common.{ℕ, ap, refl, sym, subst, ◌∙◌, arith, ◌∷◌, []}
 use Rattle.object_form.specs.Forms.{form_text}
 use Rattle.log_node.specs.declared.forms.Form.TheVariants as forms
 use Rattle.object_fold.specs.Nodes.{shard_of}
@@ -11,7 +11,7 @@ use Rattle.run_script.specs.declared.serving.opened.Opened.{Opened}
 use Rattle.run_script.specs.Opened.{IsOpenedOf, kind_opened}
 use Rattle.run_script.specs.Serving.{GivesFor}
 use Rattle.run_script.proofs.GivingObjects.{gives_unasked_of}
-use Rattle.run_script.proofs.GivingPuts.{gives_map_del, points_fit}
+use Rattle.run_script.proofs.GivingPuts.{gives_in_shard, points_fit}
 use Rattle.run_script.proofs.ReadsFound.{map_not_tx}
 use Rattle.run_script.proofs.serving.puts.del.Goals as goal
 
@@ -52,5 +52,7 @@ returns-clause-gives g c =
     let is = subst (IsOpenedOf c.args.client.now) c.in-Map.is c.requires.kept in
     subst (λ (x : Opened). GivesFor c.args.store.now c.args.client.now c.del-del.new.client (kind_opened x)
     (λ object. whats.Del object c.args.key) c.appended.result) (sym c.in-Map.is)
-    (gives_map_del c.args.store.now c.args.client.now c.del-del.new.client e.client c.del-del.result c.appended.result
-    c.appended.ensures c.in-Map.single.home c.in-Map.single.colours is.0.colours e.away c.args.key e.ok e.err)
+    (gives_in_shard c.args.store.now c.args.client.now c.del-del.new.client e.client c.del-del.result c.appended.result
+    c.appended.ensures (λ object. whats.Del object c.args.key) c.in-Map.single.home c.in-Map.single.colours is.0.colours e.away
+    c.args.key (form_text (forms.Delete c.args.key)) (record { uses = λ object. refl; appends = λ object. refl; said = λ object. refl })
+    e.ok e.err)

@@ -1,15 +1,16 @@
-use Rattle.std.proofs.Common.{ℕ, ap, sym, subst, ◌∙◌, arith, ◌∷◌, []}
+use Rattle.std.proofs.Common.{ℕ, Some, ap, refl, sym, subst, ◌∙◌, arith, ◌∷◌, []}
 use Rattle.object_form.specs.Forms.{form_text}
 use Rattle.log_node.specs.declared.forms.Form.TheVariants as forms
 use Rattle.script_text.specs.declared.script.Kind.TheVariants as kinds
 use Rattle.script_text.specs.declared.commands.What.TheVariants as whats
+use Rattle.lawful_run.specs.Deeds.{Listed}
 use Rattle.log_client.proofs.CallerLemmas.{rests_same}
 use Rattle.log_queue.specs.declared.queue.LogQueue.{LogQueue}
 use Rattle.run_script.specs.declared.serving.opened.Opened.{Opened}
 use Rattle.run_script.specs.Opened.{IsOpenedOf, kind_opened}
 use Rattle.run_script.specs.Serving.{GivesFor}
-use Rattle.run_script.proofs.GivingObjects.{gives_unasked_of}
-use Rattle.run_script.proofs.GivingPuts.{gives_enq, points_fit}
+use Rattle.run_script.proofs.GivingObjects.{gives_unasked_of, told_home}
+use Rattle.run_script.proofs.GivingPuts.{gives_said, points_fit}
 use Rattle.run_script.proofs.ReadsFound.{queue_not_tx}
 use Rattle.run_script.proofs.serving.puts.enq.Goals as goal
 
@@ -41,5 +42,8 @@ returns-clause-gives g c =
     let e = c.enq-enq.ensures in
     subst (λ (x : Opened). GivesFor c.args.store.now c.args.client.now c.enq-enq.new.client (kind_opened x)
     (λ object. whats.Enq object c.args.value) c.appended.result) (sym c.in-Queue.is)
-    (gives_enq c.args.store.now c.args.client.now c.enq-enq.new.client e.client c.enq-enq.result c.appended.result
-    c.appended.ensures c.in-Queue.queue.home c.in-Queue.queue.colour c.args.value e.away e.ok e.err)
+    (gives_said c.args.store.now c.args.client.now c.enq-enq.new.client e.client c.enq-enq.result c.appended.result
+    c.appended.ensures (kinds.Queue c.in-Queue.queue.home c.in-Queue.queue.colour) (λ object. whats.Enq object c.args.value)
+    Listed (form_text (forms.Enqueue c.args.value)) (c.in-Queue.queue.colour ∷ []) (Some c.in-Queue.queue.home)
+    (record { uses = λ object. refl; appends = λ object. refl; said = λ object. refl }) refl refl
+    (λ set one. one) (told_home c.args.client.now c.in-Queue.queue.home c.enq-enq.result e.away) e.ok e.err)

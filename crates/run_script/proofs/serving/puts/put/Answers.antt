@@ -1,9 +1,10 @@
-use Rattle.std.proofs.Common.{ℕ, ap, sym, subst, ◌∙◌, arith, ◌∷◌, []}
+use Rattle.std.proofs.Common.{ℕ, None, ap, refl, sym, subst, ◌∙◌, arith, ◌∷◌, []}
 use Rattle.object_form.specs.Forms.{form_text}
 use Rattle.log_node.specs.declared.forms.Form.TheVariants as forms
 use Rattle.object_fold.specs.Nodes.{shard_of}
 use Rattle.script_text.specs.declared.script.Kind.TheVariants as kinds
 use Rattle.script_text.specs.declared.commands.What.TheVariants as whats
+use Rattle.lawful_run.specs.Deeds.{ShardsOf}
 use Rattle.log_client.proofs.CallerLemmas.{rests_same}
 use Rattle.atomic_map.proofs.CallerLemmas.{map_later as atomic_later}
 use Rattle.log_map.specs.declared.map.LogMap.{LogMap}
@@ -12,7 +13,7 @@ use Rattle.run_script.specs.declared.serving.opened.Opened.{Opened}
 use Rattle.run_script.specs.Opened.{IsOpenedOf, kind_opened}
 use Rattle.run_script.specs.Serving.{GivesFor}
 use Rattle.run_script.proofs.GivingObjects.{gives_unasked_of}
-use Rattle.run_script.proofs.GivingPuts.{gives_causal_put, gives_map_put, points_fit}
+use Rattle.run_script.proofs.GivingPuts.{gives_in_shard, gives_said, only_shard, points_fit}
 use Rattle.run_script.proofs.ReadsFound.{any_map_not_tx}
 use Rattle.run_script.proofs.serving.puts.put.Goals as goal
 
@@ -53,8 +54,10 @@ returns-in-Map-clause-gives g c =
     let is = subst (IsOpenedOf c.args.client.now) c.in-Map.is c.requires.kept in
     subst (λ (x : Opened). GivesFor c.args.store.now c.args.client.now c.put-put.new.client (kind_opened x)
     (λ object. whats.Put object c.args.key c.args.value) c.appended.result) (sym c.in-Map.is)
-    (gives_map_put c.args.store.now c.args.client.now c.put-put.new.client e.client c.put-put.result c.appended.result
-    c.appended.ensures c.in-Map.single.home c.in-Map.single.colours is.0.colours e.away c.args.key c.args.value e.ok e.err)
+    (gives_in_shard c.args.store.now c.args.client.now c.put-put.new.client e.client c.put-put.result c.appended.result
+    c.appended.ensures (λ object. whats.Put object c.args.key c.args.value) c.in-Map.single.home c.in-Map.single.colours
+    is.0.colours e.away c.args.key (form_text (forms.Put c.args.key c.args.value))
+    (record { uses = λ object. refl; appends = λ object. refl; said = λ object. refl }) e.ok e.err)
 
 pub put-put-requires-in-Causal-clause-map : goal.put-put-requires-in-Causal-clause-map
 put-put-requires-in-Causal-clause-map g c κs within = subst (IsOpenedOf c.args.client.now) c.in-Causal.is c.requires.kept
@@ -79,6 +82,10 @@ returns-in-Causal-clause-gives g c =
     let few = is.few in
     subst (λ (x : Opened). GivesFor c.args.store.now c.args.client.now c.put-put-in-Causal.new.client (kind_opened x)
     (λ object. whats.Put object c.args.key c.args.value) c.appended-in-Causal.result) (sym c.in-Causal.is)
-    (gives_causal_put c.args.store.now c.args.client.now c.put-put-in-Causal.new.client e.client
-    c.put-put-in-Causal.result c.appended-in-Causal.result c.appended-in-Causal.ensures c.in-Causal.map.colour c.args.key
-    c.args.value (omega (arith, few)) e.ok e.err)
+    (gives_said c.args.store.now c.args.client.now c.put-put-in-Causal.new.client e.client c.put-put-in-Causal.result
+    c.appended-in-Causal.result c.appended-in-Causal.ensures (kinds.Causal c.in-Causal.map.colour)
+    (λ object. whats.Put object c.args.key c.args.value) (ShardsOf (c.args.key ∷ []))
+    (form_text (forms.Causal c.args.key c.args.value)) (c.in-Causal.map.colour ∷ []) None
+    (record { uses = λ object. refl; appends = λ object. refl; said = λ object. refl }) refl refl
+    (λ set one. one ∙ sym (only_shard c.in-Causal.map.colour c.args.key (omega (arith, few))))
+    (λ home some far. absurd (let f : ⊥ = cc (some) in f)) e.ok e.err)

@@ -1,9 +1,10 @@
-use Rattle.std.proofs.Common.{ℕ, List, ap, sym, subst, ◌∙◌, arith}
+use Rattle.std.proofs.Common.{ℕ, List, Some, ap, refl, sym, subst, ◌∙◌, arith}
 use Rattle.std.proofs.lemmas.List.{length-map}
 use Rattle.object_form.specs.Forms.{form_text}
 use Rattle.log_node.specs.declared.forms.Form.TheVariants as forms
 use Rattle.log_node.specs.declared.forms.Pair.{Pair}
 use Rattle.lawful_run.specs.Asks.{keys_of_pairs, shards}
+use Rattle.lawful_run.specs.Deeds.{ShardsOf}
 use Rattle.script_text.specs.declared.script.Kind.TheVariants as kinds
 use Rattle.script_text.specs.declared.commands.What.TheVariants as whats
 use Rattle.log_client.proofs.CallerLemmas.{rests_same}
@@ -11,8 +12,8 @@ use Rattle.log_map.proofs.CallerLemmas.{map_later}
 use Rattle.atomic_map.specs.declared.atomic.AtomicMap.{AtomicMap}
 use Rattle.run_script.specs.Opened.{IsOpenedOf, kind_opened}
 use Rattle.run_script.specs.Serving.{GivesFor}
-use Rattle.run_script.proofs.GivingObjects.{gives_unasked_of}
-use Rattle.run_script.proofs.GivingPuts.{gives_map_put_all, points_fit}
+use Rattle.run_script.proofs.GivingObjects.{gives_unasked_of, told_home}
+use Rattle.run_script.proofs.GivingPuts.{gives_said, points_fit}
 use Rattle.run_script.proofs.ReplyRoom.{shards_few}
 use Rattle.run_script.proofs.ReadsFound.{map_not_tx}
 use Rattle.run_script.proofs.serving.puts.put_all.Goals as goal
@@ -59,5 +60,9 @@ returns-clause-gives g c =
     ∙ (ap (λ (colours : List ℕ). kinds.Map c.in-Map.single.home colours) is.3 ∙ ap kind_opened (sym c.in-Map.is)) in
     subst (λ (k : _). GivesFor c.args.store.now c.args.client.now c.put_all-put.new.client k
     (λ object. whats.PutAll object c.args.pairs) c.appended.result) kind
-    (gives_map_put_all c.args.store.now c.args.client.now c.put_all-put.new.client e.client c.put_all-put.result
-    c.appended.result c.appended.ensures c.in-Map.several.home c.in-Map.several.colours c.args.pairs e.away e.ok e.err)
+    (gives_said c.args.store.now c.args.client.now c.put_all-put.new.client e.client c.put_all-put.result
+    c.appended.result c.appended.ensures (kinds.Map c.in-Map.several.home c.in-Map.several.colours)
+    (λ object. whats.PutAll object c.args.pairs) (ShardsOf (keys_of_pairs c.args.pairs))
+    (form_text (forms.PutAll c.args.pairs)) (shards c.in-Map.several.colours (keys_of_pairs c.args.pairs))
+    (Some c.in-Map.several.home) (record { uses = λ object. refl; appends = λ object. refl; said = λ object. refl }) refl refl
+    (λ set are. are) (told_home c.args.client.now c.in-Map.several.home c.put_all-put.result e.away) e.ok e.err)
