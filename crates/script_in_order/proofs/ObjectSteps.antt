@@ -26,7 +26,7 @@ use Rattle.report_text.specs.declared.report.Answer.{Answer}
 use Rattle.lawful_run.specs.Asks.{object_colours, keys_of_pairs, put_form}
 use Rattle.script_meaning.specs.States.{kind_in}
 use Rattle.script_meaning.specs.Appends.{appended}
-use Rattle.script_meaning.specs.Objects.{appended_form, shard_set}
+use Rattle.script_meaning.specs.Objects.{shard_set}
 use Rattle.script_meaning.specs.Transactions.{version_keys}
 use Rattle.script_meaning.proofs.CallerLemmas.{at_or, keys_set, key_is_word, object_has, queue_one, set_has, shard_members, shards_below, shards_has}
 use Rattle.script_in_order.specs.Doing.{DoneBy}
@@ -90,11 +90,11 @@ pub form_done : (command : Command) (w new : World) (r : Result Answer AllocErro
     (form asked : Form) → set ≡ wanted → form ≡ asked
     → IfOk r (λ answer. DoneBy (λ grants state. appended grants state command set (form_text form) (members set))
     command w new answer [])
-    → IfOk r (λ answer. DoneBy (λ grants state. appended_form grants state command wanted asked) command w new answer
-    [])
+    → IfOk r (λ answer. DoneBy (λ grants state. appended grants state command wanted (form_text asked) (members wanted))
+    command w new answer [])
 form_done command w new r set wanted form asked is same d =
-    subst (λ (f : Form). IfOk r (λ answer. DoneBy (λ grants state. appended_form grants state command wanted f)
-    command w new answer [])) same
+    subst (λ (f : Form). IfOk r (λ answer. DoneBy
+    (λ grants state. appended grants state command wanted (form_text f) (members wanted)) command w new answer [])) same
     (subst (λ (s : Colours). IfOk r (λ answer. DoneBy
     (λ grants state. appended grants state command s (form_text form) (members s)) command w new answer [])) is d)
 

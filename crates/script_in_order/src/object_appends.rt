@@ -7,7 +7,7 @@ ghost use Rattle.script_text.specs.Fitting.{AreBelow, AreObjectColours, HasColou
 ghost use Rattle.lawful_run.specs.Asks.{object_colours, keys_of_pairs, put_form};
 ghost use Rattle.world_code.specs.WorldView.{world_of};
 ghost use Rattle.script_meaning.specs.Appends.{appended};
-ghost use Rattle.script_meaning.specs.Objects.{shard_set, put_into, deleted_from, put_all_into, enqueued_in};
+ghost use Rattle.script_meaning.specs.Objects.{shard_set};
 ghost use Rattle.script_in_order.specs.Doing.{DoneBy, DoesAtHome, AreKindsWithin};
 
 use crate::appends::append;

@@ -24,39 +24,30 @@ use Rattle.report_text.specs.declared.report.ColumnReport.{ColumnReport}
 use Rattle.report_text.specs.declared.report.Report.{Report}
 use Rattle.lawful_run.specs.Columns.{row_report}
 use Rattle.script_meaning.specs.States.{State, opening, Grants, all_granted, answered, kind_in}
-use Rattle.script_meaning.specs.Appends.{appended, stopped}
+use Rattle.script_meaning.specs.Appends.{stopped}
 use Rattle.script_meaning.specs.Moves.{synced, pulled, trimmed}
 use Rattle.script_meaning.specs.Stamped.{scanned}
-use Rattle.script_meaning.specs.Objects.{caller_in, refusing_home, put_into, deleted_from, put_all_into, enqueued_in}
+use Rattle.script_meaning.specs.Objects.{caller_in, refusing_home, appended_said}
 use Rattle.script_meaning.specs.Dequeues.{dequeued}
 use Rattle.script_meaning.specs.Gets.{got, got_keys}
 use Rattle.script_meaning.specs.Transactions.{read_in, committed}
 use Rattle.script_meaning.specs.Guards.{appended_next}
 use Rattle.script_meaning.specs.Trees.{changed, names_listed}
 
--- the state after a command that was granted memory before it did anything
+-- The state after a command that was granted memory before it did anything. The last row is that of all commands which append
+-- and are answered by where their node stands.
 abbrev pub done_one : List Object → Grants → State → Command → What → State
-done_one objects grants state command (whats.Append colours text) =
-    appended grants state command colours text (members colours)
 done_one objects grants state command (whats.Stop steps colours text) = stopped grants state command colours text steps
 done_one objects grants state command (whats.Sync colour) = synced state command colour
 done_one objects grants state command (whats.Scan colours) = scanned grants state command (members colours)
 done_one objects grants state command (whats.Pull region colour) = pulled grants state command region colour
 done_one objects grants state command (whats.Trim colour) = trimmed state command colour
-done_one objects grants state command (whats.Put object key value) =
-    put_into objects grants state command object key value
 done_one objects grants state command (whats.Get object key) = got grants state command (kind_in objects object) key
-done_one objects grants state command (whats.Del object key) =
-    deleted_from objects grants state command object key
-done_one objects grants state command (whats.PutAll object pairs) =
-    put_all_into objects grants state command object pairs
 done_one objects grants state command (whats.GetAll object keys) =
     got_keys objects grants state command object keys
 done_one objects grants state command (whats.Read object keys) = read_in objects grants state command object keys
 done_one objects grants state command (whats.Commit object pairs) =
     committed objects grants state command object pairs
-done_one objects grants state command (whats.Enq object value) =
-    enqueued_in objects grants state command object value
 done_one objects grants state command (whats.Deq object) = dequeued objects grants state command object
 done_one objects grants state command (whats.Only colour text) = appended_next state command colour text
 done_one objects grants state command (whats.Mk object path value) =
@@ -66,6 +57,7 @@ done_one objects grants state command (whats.Rm object path) =
 done_one objects grants state command (whats.Mv object source target) =
     changed objects grants state command object (move_of (below_root_of source) (below_root_of target))
 done_one objects grants state command (whats.Ls object path) = names_listed objects grants state command object path
+done_one objects grants state command what = appended_said objects grants state command what
 
 -- the same, unless the home of the command's object refuses it
 abbrev pub done_from : Option ℕ → List Object → Grants → State → Command → State

@@ -1,17 +1,14 @@
--- The commands of objects: what each appends, and when its object's home refuses it.
-use Rattle.std.specs.Prelude.{ℕ, ◌==◌, List, [], ◌∷◌, Option, Some, None, if◌then◌else◌}
+-- The commands of objects: what those append that are answered by where it stands, and when an object's home refuses one.
+use Rattle.std.specs.Prelude.{ℕ, ◌==◌, List, [], Option, Some, None, unwrap_or, if◌then◌else◌}
 use Rattle.log_node.specs.declared.ids.Colours.{Colours}
-use Rattle.log_node.specs.declared.forms.Pair.{Pair}
-use Rattle.log_node.specs.declared.forms.Form.{Form}
-use Rattle.log_node.specs.declared.forms.Form.TheVariants as forms
 use Rattle.log_node.specs.Sets.{members, set_of}
-use Rattle.object_form.specs.Forms.{form_text}
 use Rattle.world_laws.specs.Worlds.{World, home_of}
 use Rattle.script_text.specs.declared.script.Object.{Object}
 use Rattle.script_text.specs.declared.script.Command.{Command}
 use Rattle.script_text.specs.declared.commands.What.{What}
 use Rattle.lawful_run.specs.Callers.{Caller}
-use Rattle.lawful_run.specs.Asks.{kind_of_object, colours_of_object, home_asked, shards, keys_of_pairs, put_form}
+use Rattle.lawful_run.specs.Asks.{home_asked, kind_asked, object_colours, shards}
+use Rattle.lawful_run.specs.Deeds.{Reach, NoColours, Named, ShardsOf, Saying, colours_reached, saying_of}
 use Rattle.script_meaning.specs.States.{State, Grants}
 use Rattle.script_meaning.specs.Appends.{appended}
 
@@ -38,31 +35,23 @@ refusing_home caller what = other_home caller.own (home_asked caller what)
 unfoldable pub shard_set : List ℕ → List (List ℕ) → Colours
 shard_set colours keys = set_of (shards colours keys)
 
--- an append of a form's text to the members of a set
-abbrev pub appended_form : Grants → State → Command → Colours → Form → State
-appended_form grants state command set form = appended grants state command set (form_text form) (members set)
+-- the set of the colours of a reach, of an object with these colours
+abbrev pub set_reached : List ℕ → Reach → Colours
+set_reached own (Named colours) = colours
+set_reached own (ShardsOf keys) = shard_set own keys
+set_reached own reach = set_of (colours_reached own reach)
 
--- a put: to the shard of the key
-abbrev pub put_into : List Object → Grants → State → Command → ℕ → List ℕ → List ℕ → State
-put_into objects grants state command object key value =
+-- the node that a command says which uses up no read; one of no colours where it says none
+abbrev pub node_said : Caller → What → Saying
+node_said caller what = unwrap_or (saying_of (kind_asked caller what) None what) (record { reach = NoColours; text = [] })
+
+-- the set of its colours
+abbrev pub set_said : Caller → What → Colours
+set_said caller what = set_reached (object_colours (kind_asked caller what)) (node_said caller what).reach
+
+-- a command that is answered by where its node stands: an append of what it says
+abbrev pub appended_said : List Object → Grants → State → Command → What → State
+appended_said objects grants state command what =
     let caller = caller_in state.world objects command.client in
-    appended_form grants state command (shard_set (colours_of_object caller object) (key ∷ []))
-    (put_form (kind_of_object caller object) key value)
-
--- a deletion: in the shard of the key
-abbrev pub deleted_from : List Object → Grants → State → Command → ℕ → List ℕ → State
-deleted_from objects grants state command object key =
-    appended_form grants state command
-    (shard_set (colours_of_object (caller_in state.world objects command.client) object) (key ∷ [])) (forms.Delete key)
-
--- several puts at once: to the shards of all keys
-abbrev pub put_all_into : List Object → Grants → State → Command → ℕ → List Pair → State
-put_all_into objects grants state command object pairs =
-    appended_form grants state command
-    (shard_set (colours_of_object (caller_in state.world objects command.client) object) (keys_of_pairs pairs)) (forms.PutAll pairs)
-
--- an enqueue: to the colour of the queue
-abbrev pub enqueued_in : List Object → Grants → State → Command → ℕ → List ℕ → State
-enqueued_in objects grants state command object value =
-    appended_form grants state command (set_of (colours_of_object (caller_in state.world objects command.client) object))
-    (forms.Enqueue value)
+    let set = set_said caller what in
+    appended grants state command set (node_said caller what).text (members set)

@@ -1,5 +1,5 @@
 -- After an append, whichever command asks for it, and after a stop within one there holds what held before.
-use Rattle.std.proofs.Common.{◌≡◌, ℕ, zero, suc, ◌<◌, ◌≤◌, List, [], ◌∷◌, ◌++◌, length, take, Bool, true, refl, ap, sym, subst, ◌∙◌, arith}
+use Rattle.std.proofs.Common.{◌≡◌, inl, ℕ, zero, suc, ◌<◌, ◌≤◌, List, [], ◌∷◌, ◌++◌, length, take, Bool, true, Option, None, refl, ap, sym, subst, ◌∙◌, arith}
 use Rattle.std.specs.Prelude.{IsTrue}
 use Rattle.log_node.specs.declared.ids.Colours.{Colours}
 use Rattle.log_node.specs.Sets.{members, set_of}
@@ -11,14 +11,19 @@ use Rattle.script_text.specs.declared.commands.What.{What}
 use Rattle.script_text.specs.declared.commands.What.TheVariants as whats
 use Rattle.script_text.specs.declared.script.Command.{Command}
 use Rattle.script_text.specs.declared.script.Script.{Script}
+use Rattle.script_text.specs.declared.uses.ReadUse.TheVariants.{Leaves}
+use Rattle.script_text.specs.declared.uses.Use.{Use}
+use Rattle.script_text.specs.declared.uses.Use.TheVariants.{OfObject}
+use Rattle.script_text.specs.Commands.{use_of}
 use Rattle.script_text.specs.Items.{is_stop}
 use Rattle.script_text.specs.Fitting.{AreBelow, AreObjectColours, HasColours, is_queue, HasObject}
 use Rattle.report_text.specs.declared.report.Answer.{Answer}
 use Rattle.report_text.specs.declared.report.Answer.TheVariants as answers
 use Rattle.lawful_run.specs.Callers.{Caller}
-use Rattle.lawful_run.specs.Asks.{colours_of_object, Appending}
-use Rattle.lawful_run.specs.Deeds.{manner_of}
-use Rattle.script_meaning.specs.States.{State, Grants, answered}
+use Rattle.lawful_run.specs.Asks.{Appending, colours_of_object, kind_used, object_colours}
+use Rattle.lawful_run.specs.Deeds.{Saying, SaysNode, ShardsOf, found_by, manner_of, saying_of, says}
+use Rattle.lawful_run.specs.Refusals.{nothing}
+use Rattle.script_meaning.specs.States.{State, Grants, answered, kind_in}
 use Rattle.script_meaning.specs.Appends.{answered_stood, appended, stopped, has_no_row_left, append_steps}
 use Rattle.script_meaning.specs.Objects.{caller_in, shard_set}
 use Rattle.script_meaning.proofs.Client.Kept.{Does}
@@ -26,7 +31,7 @@ use Rattle.script_meaning.proofs.Object.ShardSets.{shard_members, set_has, shard
 use Rattle.script_meaning.proofs.Object.ObjectAppends.{AsksIn, does_as}
 use Rattle.script_meaning.proofs.Object.ObjectKinds.{object_has, queue_one}
 use Rattle.script_meaning.proofs.Append.AppendCases as cases
-use Rattle.script_meaning.proofs.Client.Refusing.{did_full, did_stop_at_once}
+use Rattle.script_meaning.proofs.Client.Refusing.{did_full, did_stop_at_once, same_world}
 use Rattle.script_meaning.proofs.Stop.Stopping as stopping
 use Rattle.script_meaning.proofs.Run.Invariant.{IsStopped, Runs, IsFit, runs_done, runs_stopped}
 use Rattle.script_meaning.proofs.Lists.{all_at}
@@ -128,15 +133,32 @@ module _ (script : Script) (commands : List Command) (state : State) (command : 
         (λ w' answer d. does_as script.objects u command.what set text (ap manner_of asked ∙ appending)
         (subst (λ (x : What). AsksIn script.objects u x set text) (sym asked) asks) w w' answer [] d)
 
-    -- in the shards of keys
-    pub runs_shards : (keys : List (List ℕ)) (text : List ℕ) → AsksIn script.objects u what (shard_set own keys) text
-        → (key : List ℕ) × In key keys
+    -- in the shards of keys: without a key there are none, and nothing is done
+    runs_keys : (keys : List (List ℕ)) (text : List ℕ) → AsksIn script.objects u what (shard_set own keys) text
         → Runs script commands' (appended grants state command (shard_set own keys) text (members (shard_set own keys)))
-    runs_shards keys text asks key =
-        runs_form (shard_set own keys) text asks
-        (shards_has script.shape.colours fit.few_colours own its.some its.below keys key.0 key.1)
-        (λ c i. shards_below script.shape.colours fit.few_colours own its.some its.below keys c
-        (subst (In c) (shard_members own keys) i))
+    runs_keys [] text asks =
+        subst (λ (ms : List ℕ). Runs script commands' (appended grants state command (shard_set own []) text ms))
+        (sym (shard_members own []))
+        (runs_done script commands state command runs fit w answers.NoMemory []
+        (same_world script.objects u command.what w answers.NoMemory (λ kept k. (refl, nothing))) runs.finished)
+    runs_keys (key ∷ keys) text asks =
+        runs_form (shard_set own (key ∷ keys)) text asks
+        (shards_has script.shape.colours fit.few_colours own its.some its.below (key ∷ keys) key (inl refl))
+        (λ c i. shards_below script.shape.colours fit.few_colours own its.some its.below (key ∷ keys) c
+        (subst (In c) (shard_members own (key ∷ keys)) i))
+
+    -- by what it says
+    pub runs_said : (keys : List (List ℕ)) (text : List ℕ) → use_of what ≡ OfObject object Leaves
+        → saying_of (kind_in script.objects object) None what ≡ says (ShardsOf keys) text
+        → Runs script commands' (appended grants state command (shard_set own keys) text (members (shard_set own keys)))
+    runs_said keys text uses said = runs_keys keys text asks where
+      asks : AsksIn script.objects u what (shard_set own keys) text
+      asks x kept =
+          subst (λ (of : Use). SaysNode (object_colours (kind_used (caller_in x script.objects u) of))
+          (saying_of (kind_used (caller_in x script.objects u) of) (found_by of kept) what) (shard_set own keys) text)
+          (sym uses)
+          (subst (λ (node : Option Saying). SaysNode own node (shard_set own keys) text) (sym said)
+          (shard_members own keys, refl))
 
     -- in the colour of a queue
     pub runs_queue : ((kind : Kind) → test kind ≡ true → is_queue kind ≡ true) → (text : List ℕ)

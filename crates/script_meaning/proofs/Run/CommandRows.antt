@@ -1,14 +1,11 @@
 -- One row for each command: behind it there holds what held before, steps lead to the state, and where it finds memory it does
 -- what it does with memory granted everywhere. Commands that append and are answered by where their node stands have no
--- rows in the last two.
-use Rattle.std.proofs.Common.{◌≡◌, inl, ℕ, List, [], ◌∷◌, ◌++◌, map, None, refl}
-use Rattle.log_node.specs.declared.ids.Colours.{Colours}
-use Rattle.log_node.specs.Sets.{members, set_of}
-use Rattle.std.specs.Prelude.{unwrap_or}
+-- rows in the last two, and those of them that append in the shards of keys have none in the first.
+use Rattle.std.proofs.Common.{◌≡◌, ℕ, List, [], ◌∷◌, ◌++◌, map, refl}
+use Rattle.log_node.specs.Sets.{members}
 use Rattle.object_form.specs.Laws.{ReadsBack}
 use Rattle.tree_fold.specs.Readings.{below_root_of, make_of, remove_of, move_of}
 use Rattle.tree_fold.proofs.CallerLemmas.{make_fits, remove_fits, move_fits}
-use Rattle.col_core.proofs.CallerLemmas.{both}
 use Rattle.script_text.specs.declared.script.Object.{Object}
 use Rattle.script_text.specs.declared.commands.What.{What}
 use Rattle.script_text.specs.declared.commands.What.TheVariants as whats
@@ -16,12 +13,11 @@ use Rattle.script_text.specs.declared.script.Command.{Command}
 use Rattle.script_text.specs.declared.script.Script.{Script}
 use Rattle.script_text.specs.Fitting.{IsWithin, UsesObject}
 use Rattle.lawful_run.specs.Callers.{Caller}
-use Rattle.lawful_run.specs.Deeds.{Reach, NoColours, Named, ShardsOf, colours_reached, Saying, saying_of}
-use Rattle.lawful_run.specs.Asks.{object_colours, kind_asked, colours_of_object, keys_of_pairs, shards}
+use Rattle.lawful_run.specs.Asks.{colours_of_object, shards}
 use Rattle.lawful_run.proofs.CallerLemmas.{make_asks, remove_asks, move_asks}
 use Rattle.script_meaning.specs.States.{State, Grants, all_granted}
 use Rattle.script_meaning.specs.Stamped.{shown_key, scan_answer}
-use Rattle.script_meaning.specs.Objects.{caller_in, shard_set}
+use Rattle.script_meaning.specs.Objects.{caller_in, node_said, set_said}
 use Rattle.script_meaning.specs.Gets.{keys_answer}
 use Rattle.script_meaning.specs.Telling.{all_colours}
 use Rattle.script_meaning.specs.Trees.{names_answer}
@@ -59,17 +55,8 @@ module _ (back : ReadsBack) (tree : TreesReadBack) (script : Script) (commands :
       moving.runs_pull script commands state command runs fit grants region colour asked within.0 within.1
   runs_what (whats.Trim colour) asked within uses =
       moving.runs_trim script commands state command runs fit colour asked within
-  runs_what (whats.Put object key value) asked within uses =
-      appending.runs_shards script commands state command grants runs fit asked refl object uses.0 (key ∷ []) _
-      (λ _ _. (shard_members _ _, refl)) (key, inl refl)
   runs_what (whats.Get object key) asked within uses =
       runs_get script commands state command grants runs fit object key asked uses.0
-  runs_what (whats.Del object key) asked within uses =
-      appending.runs_shards script commands state command grants runs fit asked refl object uses.0 (key ∷ []) _
-      (λ _ _. (shard_members _ _, refl)) (key, inl refl)
-  runs_what (whats.PutAll object pairs) asked within uses =
-      appending.runs_shards script commands state command grants runs fit asked refl object uses.0 (keys_of_pairs pairs) _
-      (λ _ _. (shard_members _ _, refl)) (a_key 4 (keys_of_pairs pairs) (both _ _ uses.1).0)
   runs_what (whats.GetAll object keys) asked within uses =
       getting.runs_get_keys script commands state command grants runs fit object keys (a_key 4 keys uses.1) asked uses.0
   runs_what (whats.Read object keys) asked within uses = absurd (fit.read object keys asked)
@@ -105,12 +92,8 @@ module _ (back : ReadsBack) (tree : TreesReadBack) (script : Script) (commands :
       ))
   runs_what (whats.Ls object path) asked within uses =
       listing.runs_names tree.1 script commands state command grants runs fit object path asked uses.0 uses.1
-
--- the set of the colours of a reach, of an object with its own ones
-abbrev set_reached : List ℕ → Reach → Colours
-set_reached own (Named colours) = colours
-set_reached own (ShardsOf keys) = shard_set own keys
-set_reached own reach = set_of (colours_reached own reach)
+  runs_what what asked within uses =
+      appending.runs_said script commands state command grants runs fit asked refl _ uses.0 _ _ refl refl
 
 module _ (objects : List Object) (grants : Grants) (state : State) (command : Command) where
   abbrev u : ℕ
@@ -118,13 +101,6 @@ module _ (objects : List Object) (grants : Grants) (state : State) (command : Co
 
   abbrev caller : Caller
   caller = caller_in state.world objects u
-
-  -- the node that a command appends which uses up no read
-  abbrev said : What → Saying
-  said what = unwrap_or (saying_of (kind_asked caller what) None what) (record { reach = NoColours; text = [] })
-
-  abbrev its_set : What → Colours
-  its_set what = set_reached (object_colours (kind_asked caller what)) (said what).reach
 
   pub one_command_extends : (what : What) → Extends state (done_one objects grants state command what)
   one_command_extends (whats.Stop steps colours text) = stop_extends objects grants state command colours text steps
@@ -150,7 +126,7 @@ module _ (objects : List Object) (grants : Grants) (state : State) (command : Co
   one_command_extends (whats.Ls object path) =
       read_extends objects grants state command (all_colours objects state command object) (λ v. names_answer v path) (λ _ _. [])
   one_command_extends what =
-      append_extends objects grants state command (its_set what) (said what).text (members (its_set what))
+      append_extends objects grants state command (set_said caller what) (node_said caller what).text (members (set_said caller what))
 
   pub one_command_exact : (what : What) → HadMemory u (done_one objects grants state command what)
       → done_one objects grants state command what ≡ done_one objects all_granted state command what
@@ -177,4 +153,4 @@ module _ (objects : List Object) (grants : Grants) (state : State) (command : Co
   one_command_exact (whats.Ls object path) =
       reads_exact objects grants state command (all_colours objects state command object) (λ v. names_answer v path) (λ _ _. [])
   one_command_exact what =
-      append_exact objects grants state command (its_set what) (said what).text (members (its_set what))
+      append_exact objects grants state command (set_said caller what) (node_said caller what).text (members (set_said caller what))
