@@ -46,7 +46,6 @@ use Rattle.script_meaning.proofs.World.Settled.{settled_in}
 use Rattle.script_meaning.proofs.Client.Kept.{caller_in, IsKeptBy, MadeBy, made_own, Does}
 use Rattle.script_meaning.proofs.Append.AppendOne.{caller_same}
 use Rattle.script_meaning.proofs.Append.BeginRow as begun
-use Rattle.script_meaning.proofs.Append.BeginRow.{begins_later}
 use Rattle.script_meaning.proofs.Lists.{in_range, in_map_back}
 
 -- Marks and outcomes

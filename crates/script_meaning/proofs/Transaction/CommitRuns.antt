@@ -23,7 +23,7 @@ use Rattle.script_text.specs.declared.commands.What.{What}
 use Rattle.script_text.specs.declared.commands.What.TheVariants as whats
 use Rattle.script_text.specs.Fitting.{AreObjectColours, is_tx, UsesObject}
 use Rattle.report_text.specs.declared.report.Answer.TheVariants as answers
-use Rattle.lawful_run.specs.Asks.{home_asked, colours_of_object, keys_of_pairs, shards, object_home}
+use Rattle.lawful_run.specs.Asks.{home_asked, colours_of_object, keys_of_pairs, object_home}
 use Rattle.lawful_run.specs.Asks as asks
 use Rattle.lawful_run.specs.Callers.{Caller, caller_of}
 use Rattle.lawful_run.specs.Explains.{Explains}
