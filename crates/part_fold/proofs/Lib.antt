@@ -6,4 +6,7 @@ mod StayLemmas
 mod RestLemmas
 mod VerdictLemmas
 mod AgreementLemmas
+mod RuledLemmas
+mod UndecidedLemmas
 mod WorkedRows
+pub mod CallerLemmas

@@ -4,3 +4,4 @@ pub mod Parts
 pub mod Waits
 pub mod PartStates
 pub mod Agreement
+pub mod Ruled

@@ -1,7 +1,7 @@
 // What became of a transaction, as a node says it: its text, written and read.
 ghost use Rattle.std.specs.Prelude.{◌≡◌, ◌++◌, ◌∷◌, Some, IfOk, OnOk};
 ghost use Rattle.object_form.specs.Forms.{writer_text, equals};
-ghost use Rattle.part_fold.specs.Decisions.{IsDecision, outcome_of, decision_text, decision_after, decision_of};
+ghost use Rattle.part_fold.specs.Decisions.{outcome_of, decision_text, decision_after, decision_of};
 
 use log_node::{Key, Text};
 use object_form::{cut, put_key, read_key};
@@ -22,10 +22,9 @@ fn put_decision(bytes: &mut Vec<u8>, decision: Decision) -> Result<(), AllocErro
     bytes.extend_from_slice(if decision.commits { b"=1" } else { b"=0" })
 }
 
-/// The text of a decision on a key with a stamp from 1 to 2^62 - 1 and a count below 2^63. `AllocError` where memory is
-/// refused.
+/// The text of a decision, which is read back where its key has a stamp from 1 to 2^62 - 1 and a count below 2^63.
+/// `AllocError` where memory is refused.
 pub fn write_decision(alloc: Global, decision: &Decision) -> Result<Text, AllocError>
-    requires { IsDecision decision.now }
     ensures { IfOk result (λ text. text ≡ decision_text decision.now) }
 {
     let mut bytes = Vec::new(alloc);

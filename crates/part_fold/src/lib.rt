@@ -6,6 +6,7 @@ mod decision;
 mod laws;
 mod part;
 mod part_fold;
+mod ruled_fold;
 mod transaction;
 
 pub use decision::{Decision, read_decision, write_decision};
@@ -14,4 +15,5 @@ pub use laws::{
     reads_decisions, verdicts_stay,
 };
 pub use part_fold::PartFold;
+pub use ruled_fold::RuledFold;
 pub use transaction::Transaction;

@@ -9,7 +9,7 @@ ghost use Rattle.object_fold.specs.States.{value_in, writer_in, differs_in};
 ghost use Rattle.object_fold.specs.Transactions.{is_same_writer};
 ghost use Rattle.part_fold.specs.declared.decision.Decision.{Decision as Said};
 ghost use Rattle.part_fold.specs.declared.transaction.Transaction.{Transaction as One};
-ghost use Rattle.part_fold.specs.Parts.{own_reads, transaction_by, undecided_after, part_value};
+ghost use Rattle.part_fold.specs.Parts.{Part as Seen, own_reads, transaction_by, undecided_after, part_value};
 ghost use Rattle.part_fold.specs.Waits.{pairs_in};
 ghost use Rattle.part_fold.specs.PartStates.{verdict_in, front_verdict, own_pairs, SettlesFront, IsUnchanged, Holds, StopsAtFront, IsPart};
 
@@ -17,8 +17,8 @@ use crate::decided::Decided;
 use crate::decision::{Decision, read_decision};
 use crate::part::Part;
 use crate::transaction::{Transaction, Waiting};
-use log_node::{Form, Key, Pair, Pairs, Text, Version};
-use object_fold::{Table, Written};
+use log_node::{Form, Key, Node, Pair, Pairs, Text, Version};
+use object_fold::{LineFold, Table, Written};
 use object_form::read_form;
 use std::alloc::{AllocError, Global};
 
@@ -250,5 +250,17 @@ impl PartFold {
             → result ≡ undecided_after self.now.part nodes }
     {
         self.waiting.front_key()
+    }
+}
+
+impl LineFold for PartFold {
+    ghost Holds = { IsPart };
+
+    ghost Opened = { Seen };
+
+    ghost opened = { λ fold. fold.part };
+
+    fn feed(&mut self, alloc: Global, key: Key, node: &Node) -> Result<(), AllocError> {
+        self.feed(alloc, key, &node.text)
     }
 }
