@@ -2,5 +2,6 @@
 mod clients;
 mod guarded;
 mod made;
+mod parts;
 mod shown;
 mod trees;

@@ -1,4 +1,4 @@
-// What answers of a tree show.
+// What answers of a tree and of stamped reads show.
 use log_client::{Appended, StampedRead};
 use log_node::{At, Text};
 use std::process::Abort;

@@ -1,0 +1,4 @@
+mod LaterPlays
+mod ReadAmong
+mod PlayerAnswers
+pub mod CallerLemmas
