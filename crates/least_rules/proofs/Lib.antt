@@ -1,0 +1,10 @@
+mod Alone
+mod ColumnLaws
+mod Empty
+mod Lists
+mod NodeLines
+mod OneNode
+mod OneRow
+mod ReplyLaws
+mod Tools
+mod WholeRow

@@ -1,0 +1,35 @@
+-- Laws of the rules.
+use Rattle.std.specs.Prelude.{ℕ, ◌≤◌, List}
+use Rattle.log_node.specs.declared.node.Node.{Node}
+use Rattle.script_text.specs.declared.script.Script.{Script}
+use Rattle.script_text.specs.Fitting.{IsFitting}
+use Rattle.report_text.specs.declared.report.Report.{Report}
+use Rattle.lawful_run.specs.Lawful.{LawfulRun}
+use Rattle.run_rules.specs.Told.{IsTold}
+use Rattle.run_rules.specs.Telling.{IsWellFormed, account_of}
+use Rattle.run_rules.specs.Keeping.{Keeps, IsLeastBroken, HidesNothing, rule_count}
+
+-- A report of a script that hides nothing keeps all rules where it is that of a lawful run.
+abbrev pub LawfulRunsKeepRules : Type 0
+LawfulRunsKeepRules = (script : Script) (report : Report) → IsFitting script → HidesNothing report
+    → LawfulRun script report → Keeps script report rule_count
+
+-- It is that of a lawful run where it keeps all rules.
+abbrev pub RulesMakeLawful : Type 0
+RulesMakeLawful = (script : Script) (report : Report) → HidesNothing report
+    → Keeps script report rule_count → LawfulRun script report
+
+-- Where a rule is the least that is broken, the report is not that of a lawful run.
+abbrev pub BrokenIsUnlawful : Type 0
+BrokenIsUnlawful = (script : Script) (report : Report) → IsFitting script → HidesNothing report
+    → (rule : ℕ) → IsLeastBroken script report rule → LawfulRun script report → ⊥
+
+-- One rule at most is the least that is broken.
+abbrev pub LeastIsOne : Type 0
+LeastIsOne = (script : Script) (report : Report) (a b : ℕ)
+    → IsLeastBroken script report a → IsLeastBroken script report b → a ≤ b
+
+-- A report that is well formed tells an account, whatever nodes its clients appended.
+abbrev pub ReportsTell : Type 0
+ReportsTell = (script : Script) (report : Report) (nodes : ℕ → List Node) → IsWellFormed script report
+    → IsTold script report (account_of script report nodes)

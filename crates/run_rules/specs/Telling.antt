@@ -1,0 +1,162 @@
+-- The account that a report tells, computed; what it leaves free are the nodes and what reads found.
+use Rattle.std.specs.Prelude.{◌≡◌, ◌≢◌, Bool, true, false, ℕ, ◌+◌, ◌==◌, ◌&&◌, nat_le, nat_lt, List, [], ◌∷◌, length, map, Option, Some, None, slice_get, if◌then◌else◌}
+use Rattle.std.specs.List.{AllPairs, filter, flat_map, range_with_len}
+use Rattle.log_node.specs.declared.ids.Id.{Id}
+use Rattle.log_node.specs.declared.node.At.{At}
+use Rattle.log_node.specs.declared.node.Node.{Node}
+use Rattle.log_node.specs.declared.forms.Version.{Version}
+use Rattle.log_node.specs.declared.marks.ColourMark.{ColourMark}
+use Rattle.log_node.specs.Order.{same_id}
+use Rattle.col_core.specs.declared.Event.{Event}
+use Rattle.col_core.specs.declared.Event.TheVariants.{Propose, Settle}
+use Rattle.col_core.specs.declared.Entry.{Entry}
+use Rattle.col_core.specs.Log.{Log, places_of}
+use Rattle.col_core.specs.Rows.{BegunRow}
+use Rattle.col_core.specs.Keeping.{Kept, nothing_kept, seen_past}
+use Rattle.script_text.specs.declared.commands.What.{What}
+use Rattle.script_text.specs.declared.commands.What.TheVariants as whats
+use Rattle.script_text.specs.declared.script.Command.{Command}
+use Rattle.script_text.specs.declared.script.Script.{Script}
+use Rattle.log_node.specs.Sets.{set_of}
+use Rattle.report_text.specs.declared.report.Answer.{Answer}
+use Rattle.report_text.specs.declared.report.Answer.TheVariants as answers
+use Rattle.report_text.specs.declared.report.KeyAnswer.{KeyAnswer}
+use Rattle.report_text.specs.declared.report.ReplyLine.{ReplyLine}
+use Rattle.report_text.specs.declared.report.ClientReport.{ClientReport}
+use Rattle.report_text.specs.declared.report.RowReport.{RowReport}
+use Rattle.report_text.specs.declared.report.ColumnReport.{ColumnReport}
+use Rattle.report_text.specs.declared.report.Report.{Report}
+use Rattle.lawful_run.specs.Callers.{Caller, caller_of, commands_of}
+use Rattle.lawful_run.specs.Reads.{events_until}
+use Rattle.run_rules.specs.Told.{Untold, Step, Account, kept_at, kept_past}
+use Rattle.lawful_run.specs.Refusals.{kept_before}
+
+-- the journal of the first column with these numbers; nothing where there is none
+abbrev pub journal_among : List ColumnReport → ℕ → ℕ → List Entry
+journal_among [] region colour = []
+journal_among (c ∷ cs) region colour =
+    if (c.region == region) && (c.colour == colour) then c.journal else journal_among cs region colour
+
+-- the event proposes or settles the id
+abbrev pub is_step_of : Id → Event → Bool
+is_step_of id (Propose other _ _) = same_id id other
+is_step_of id (Settle other _) = same_id id other
+is_step_of id _ = false
+
+-- such an event is there
+abbrev pub is_step_at : Id → Option Entry → Bool
+is_step_at id None = false
+is_step_at id (Some e) = is_step_of id e.event
+
+-- the places of a client's own steps of an id
+abbrev pub step_places : ℕ → Id → List Entry → List ℕ
+step_places client id history = filter (λ p. is_step_at id (slice_get history p)) (places_of client history)
+
+-- the places of a client's own events of a column that no command made before, up to one
+abbrev pub made_between : Log → Caller → Kept → ℕ → ℕ → ℕ → List ℕ
+made_between log caller kept region colour place =
+    filter (λ p. nat_le (seen_past 0 (kept.made region colour)) p && nat_lt p place)
+    (places_of caller.client (log.histories region colour))
+
+-- what a pull gave too low: all that it made before its give
+abbrev pub low_told : Log → Caller → Kept → What → Answer → List ℕ
+low_told log caller kept (whats.Pull region colour) (answers.Pulled count give carry) =
+    made_between log caller kept region colour (events_until give)
+low_told log caller kept _ _ = []
+
+-- the keys that an answer shows, of which nobody is named as the writer
+abbrev pub unnamed : Answer → List Version
+unnamed (answers.GotKeys stamp shown raises syncs) = map (λ (k : KeyAnswer). record { key = k.key; writer = None }) shown
+unnamed _ = []
+
+-- what a report tells of what a reply leaves out, but for who wrote what reads found
+abbrev pub untold_told : Log → Caller → Kept → What → Answer → Untold
+untold_told log caller kept what answer = record {
+  places = λ colour. step_places caller.client (record { client = caller.client; count = kept.ids })
+      (log.histories caller.own colour);
+  too_low = low_told log caller kept what answer;
+  found = unnamed answer;
+}
+
+-- a step of a client that kept this before it
+abbrev pub step_of : Log → Caller → Kept → Command → ReplyLine → Step
+step_of log caller kept command reply = record {
+  command = command;
+  reply = reply;
+  kept = kept;
+  untold = untold_told log caller (kept_before command.what kept) command.what reply.answer;
+}
+
+-- the steps of commands with their replies, one after another
+abbrev pub steps_of : Log → Caller → Kept → List Command → List ReplyLine → List Step
+steps_of log caller kept [] replies = []
+steps_of log caller kept (c ∷ cs) [] = []
+steps_of log caller kept (c ∷ cs) (r ∷ rs) =
+    let step = step_of log caller kept c r in step ∷ steps_of log caller (kept_past log caller step) cs rs
+
+-- what is kept behind them
+abbrev pub last_of_steps : Log → Caller → Kept → List Command → List ReplyLine → Kept
+last_of_steps log caller kept [] replies = kept
+last_of_steps log caller kept (c ∷ cs) [] = kept
+last_of_steps log caller kept (c ∷ cs) (r ∷ rs) =
+    last_of_steps log caller (kept_past log caller (step_of log caller kept c r)) cs rs
+
+-- a node of which a row shows the id and the colours alone
+abbrev pub bare_node : RowReport → Node
+bare_node r = record {
+  id = r.id;
+  region = r.region;
+  colours = set_of (map (λ (m : ColourMark). m.colour) r.marks);
+  text = [];
+  floor = 0;
+  wants = [];
+  row = Some r.row;
+}
+
+-- the node with a row's id, where there is one
+abbrev pub node_or : RowReport → Option Node → Node
+node_or r None = bare_node r
+node_or r (Some node) = if same_id node.id r.id then node else bare_node r
+
+-- a row, with its node among those of its client
+abbrev pub row_of : (ℕ → List Node) → RowReport → BegunRow
+row_of nodes r = record {
+  row = r.row;
+  node = node_or r (slice_get (nodes r.id.client) r.id.count);
+  marks = r.marks;
+  last = r.last;
+}
+
+abbrev pub is_in : ℕ → RowReport → Bool
+is_in region r = r.region == region
+
+-- the log of a report, where clients appended these nodes
+abbrev pub log_of : Report → (ℕ → List Node) → Log
+log_of report nodes = record {
+  histories = journal_among report.columns;
+  nodes = nodes;
+  rows = λ region. map (row_of nodes) (filter (is_in region) report.rows);
+}
+
+abbrev pub replies_in : Option ClientReport → List ReplyLine
+replies_in None = []
+replies_in (Some shown) = shown.replies
+
+abbrev pub replies_to : Report → ℕ → List ReplyLine
+replies_to report client = replies_in (slice_get report.clients client)
+
+-- the account that script and report tell, where clients appended these nodes
+abbrev pub account_of : Script → Report → (ℕ → List Node) → Account
+account_of script report nodes = record {
+  log = log_of report nodes;
+  steps = λ n. steps_of (log_of report nodes) (caller_of script n) nothing_kept (commands_of script n) (replies_to report n);
+  last = λ n. last_of_steps (log_of report nodes) (caller_of script n) nothing_kept (commands_of script n)
+      (replies_to report n);
+}
+
+-- Each command has a reply, no two columns have the same numbers, and rows stand by region.
+pub record IsWellFormed (script : Script) (report : Report) : Type 0 where
+  pub replied : (n : ℕ) (c : ClientReport) → slice_get report.clients n ≡ Some c
+      → length (commands_of script n) ≡ length c.replies
+  pub apart : AllPairs (λ (c d : ColumnReport). c.region ≡ d.region → c.colour ≢ d.colour) report.columns
+  pub rows : report.rows ≡ flat_map (λ region. filter (is_in region) report.rows) (range_with_len 0 script.shape.regions)

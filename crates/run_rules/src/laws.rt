@@ -1,0 +1,27 @@
+// Laws of the rules. Each function does nothing, and its contract is the law.
+ghost use Rattle.run_rules.specs.Laws.{BrokenIsUnlawful, LawfulRunsKeepRules, LeastIsOne, ReportsTell, RulesMakeLawful};
+
+/// A report that hides nothing keeps all rules where it is that of a lawful run.
+pub fn lawful_runs_keep_rules()
+    ensures { LawfulRunsKeepRules }
+{}
+
+/// A report that hides nothing is that of a lawful run where it keeps all rules.
+pub fn rules_make_lawful()
+    ensures { RulesMakeLawful }
+{}
+
+/// A report that hides nothing is not that of a lawful run where some rule is the least that is broken.
+pub fn broken_is_unlawful()
+    ensures { BrokenIsUnlawful }
+{}
+
+/// One rule at most is the least that is broken.
+pub fn least_is_one()
+    ensures { LeastIsOne }
+{}
+
+/// A report that is well formed tells an account.
+pub fn reports_tell()
+    ensures { ReportsTell }
+{}

@@ -1,0 +1,6 @@
+//! The rules of a lawful run, one by one.
+#![tactic(auto)]
+
+mod laws;
+
+pub use laws::{broken_is_unlawful, lawful_runs_keep_rules, least_is_one, rules_make_lawful};
