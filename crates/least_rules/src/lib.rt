@@ -12,9 +12,12 @@ pub use appends::{
     an_append_under_another_stamp_breaks_rule_6,
 };
 pub use columns::{
-    a_missing_column_breaks_rule_1, another_base_breaks_rule_2, another_clock_breaks_rule_2,
-    another_colours_name_breaks_rule_1, another_cut_breaks_rule_2, another_line_breaks_rule_2,
-    another_queue_breaks_rule_2, another_regions_name_breaks_rule_1, another_version_breaks_rule_1,
+    a_missing_column_breaks_rule_1, a_settling_of_what_is_not_open_breaks_rule_2,
+    a_stamp_that_is_not_next_breaks_rule_2, a_trim_with_a_stamp_breaks_rule_2,
+    an_event_by_nobody_breaks_rule_2, an_id_that_enters_twice_breaks_rule_2,
+    another_base_breaks_rule_2, another_clock_breaks_rule_2, another_colours_name_breaks_rule_1,
+    another_cut_breaks_rule_2, another_line_breaks_rule_2, another_queue_breaks_rule_2,
+    another_regions_name_breaks_rule_1, another_version_breaks_rule_1,
 };
 pub use replies::{
     a_colour_without_a_point_breaks_rule_1, a_dequeue_answered_as_an_append_breaks_rule_1,

@@ -1,5 +1,5 @@
 -- A report that is well formed tells an account.
-use Rattle.std.proofs.Common.{◌≡◌, ◌∙◌, ℕ, zero, suc, ◌+◌, ◌<◌, ◌≤◌, Bool, true, false, cond, List, [], ◌∷◌, length, map, slice_index_or, Option, Some, None, refl, ap, sym, subst, ◌⊎◌, inl, inr, arith, ◌++◌}
+use Rattle.std.proofs.Common.{◌≡◌, ◌∙◌, ℕ, suc, true, List, [], ◌∷◌, length, map, Option, Some, None, refl, ap, sym, ◌⊎◌, inl, inr, arith, ◌++◌}
 use Rattle.std.specs.Prelude.{◌≢◌, ◌==◌, ◌&&◌, slice_get}
 use Rattle.std.specs.List.{All, AllPairs, filter, flat_map, range_with_len}
 use Rattle.std.proofs.lemmas.Bool.{eqb-true, eq-eqb}
@@ -9,24 +9,18 @@ use Rattle.log_node.specs.declared.ids.Id.{Id}
 use Rattle.log_node.specs.declared.forms.Version.{Version}
 use Rattle.log_node.specs.Order.{same_id}
 use Rattle.col_core.specs.Log.{Log}
-use Rattle.col_core.specs.Rows.{BegunRow}
-use Rattle.col_core.specs.declared.Entry.{Entry}
 use Rattle.col_core.specs.Keeping.{Kept, nothing_kept}
 use Rattle.col_core.proofs.CallerLemmas.{In, all_in, both, by_test, choice, contains_in, if_true, if_false, same_id-true}
 use Rattle.script_text.specs.declared.script.Command.{Command}
-use Rattle.script_text.specs.declared.script.Script.{Script}
 use Rattle.report_text.specs.declared.report.Answer.{Answer}
 use Rattle.report_text.specs.declared.report.Answer.TheVariants as answers
-use Rattle.report_text.specs.declared.report.KeyAnswer.{KeyAnswer}
 use Rattle.report_text.specs.declared.report.ReplyLine.{ReplyLine}
-use Rattle.report_text.specs.declared.report.ClientReport.{ClientReport}
 use Rattle.report_text.specs.declared.report.RowReport.{RowReport}
 use Rattle.report_text.specs.declared.report.ColumnReport.{ColumnReport}
-use Rattle.report_text.specs.declared.report.Report.{Report}
 use Rattle.lawful_run.specs.Callers.{Caller, caller_of, commands_of}
 use Rattle.lawful_run.specs.Columns.{row_report}
-use Rattle.run_rules.specs.Told.{Step, Follow, AreKeysFound, kept_past, IsTold}
-use Rattle.run_rules.specs.Telling.{journal_among, unnamed, step_of, steps_of, last_of_steps, bare_node, node_or, row_of, is_in, log_of, replies_in, replies_to, account_of, IsWellFormed}
+use Rattle.run_rules.specs.Told.{Step, Follow, AreKeysFound, kept_past}
+use Rattle.run_rules.specs.Telling.{journal_among, unnamed, step_of, steps_of, last_of_steps, bare_node, node_or, row_of, is_in, log_of, replies_in, replies_to}
 use Rattle.run_rules.specs.Laws.{ReportsTell}
 use Rattle.run_rules.proofs.Lists.{map_map}
 
