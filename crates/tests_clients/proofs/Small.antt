@@ -1,7 +1,7 @@
 -- What an object keeps beside a client of a small store: both colours are the client's.
 use Rattle.std.proofs.Common.{◌≡◌, ℕ, zero, suc, ◌<◌, ◌%◌, List, [], ◌∷◌, length, refl, ap, ◌∙◌, sym, subst, arith}
 use Rattle.std.specs.Prelude.{slice_index, sum}
-use Rattle.std.specs.List.{All}
+use Rattle.std.specs.List.{All, Contains}
 use Rattle.std.proofs.lemmas.List.Elements.{All-nil, All-cons}
 use Rattle.log_node.specs.declared.limits.TheConstants.{MAX_COLOURS}
 use Rattle.stamp_board.specs.declared.view.Size.{Size}
@@ -42,3 +42,9 @@ shard_is p key text of is =
       place zero lt = refl
       place (suc zero) lt = refl
       place (suc (suc n)) lt = absurd (let f : ⊥ = omega (arith, lt) in f)
+
+-- one of the two colours
+pub one_of_both : (colour : ℕ) → colour ≡ colour % 2 → Contains (0 ∷ 1 ∷ []) colour
+one_of_both zero e = (0, omega arith, refl)
+one_of_both (suc zero) e = (1, omega arith, refl)
+one_of_both (suc (suc n)) e = absurd (let f : ⊥ = omega (arith, e) in f)
