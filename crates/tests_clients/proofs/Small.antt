@@ -18,7 +18,7 @@ pub two_tracks : (s : Store) (c : Client) → IsSmall s → IsClient s c → len
 two_tracks s c small is = is.colours ∙ ap (λ (z : Size). z.colours) small.size
 
 below_two : (P : ℕ → Type 0) → P 0 → P 1 → All P (0 ∷ 1 ∷ [])
-below_two P zero one = All-cons P 0 (1 ∷ []) zero (All-cons P 1 [] one (All-nil P))
+below_two P first second = All-cons P 0 (1 ∷ []) first (All-cons P 1 [] second (All-nil P))
 
 pub both_colours : (s : Store) (c : Client) (colours : List ℕ) → IsSmall s → IsClient s c → colours ≡ 0 ∷ 1 ∷ []
     → HasColoursOf c colours
