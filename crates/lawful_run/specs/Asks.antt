@@ -13,6 +13,7 @@ use Rattle.script_text.specs.declared.script.Object.{Object}
 use Rattle.script_text.specs.declared.commands.What.{What}
 use Rattle.script_text.specs.declared.uses.Use.{Use}
 use Rattle.script_text.specs.declared.uses.Use.TheVariants.{OfLog, OfObject}
+use Rattle.script_text.specs.Apart.{colours_of}
 use Rattle.script_text.specs.Commands.{use_of}
 use Rattle.lawful_run.specs.Callers.{Caller}
 
@@ -23,11 +24,7 @@ kind_of_object caller object = option_map (λ (o : Object). o.kind) (slice_get c
 -- the colours of an object, in their order
 abbrev pub object_colours : Option Kind → List ℕ
 object_colours None = []
-object_colours (Some (kinds.Map home colours)) = colours
-object_colours (Some (kinds.Tx home colours)) = colours
-object_colours (Some (kinds.Causal colour)) = colour ∷ []
-object_colours (Some (kinds.Queue home colour)) = colour ∷ []
-object_colours (Some (kinds.Tree home colours)) = colours
+object_colours (Some kind) = colours_of kind
 
 -- the colours of the object with this number
 abbrev pub colours_of_object : Caller → ℕ → List ℕ
@@ -41,6 +38,7 @@ object_home (Some (kinds.Tx home colours)) = Some home
 object_home (Some (kinds.Causal colour)) = None
 object_home (Some (kinds.Queue home colour)) = Some home
 object_home (Some (kinds.Tree home colours)) = Some home
+object_home (Some (kinds.Parts home colours)) = Some home
 
 -- the home of the object with this number, where it has one
 abbrev pub home_of_object : Caller → ℕ → Option ℕ

@@ -19,7 +19,7 @@ use Rattle.script_text.specs.Pieces.{first_in, names_in}
 use Rattle.script_text.specs.Reads.{holds}
 use Rattle.script_text.specs.Table.{word_at, row_fields, last_of, own_fields, later_fields, fits, nothing}
 use Rattle.script_text.specs.Commands.{what_of}
-use Rattle.script_text.specs.Readings.{◌>>=◌, refuse, number_at, each_at, colours_at, colours_set_at, text_at, value_at, path_at, key_at, pair_at, digits_at, object_at}
+use Rattle.script_text.specs.Readings.{◌>>=◌, refuse, number_at, each_at, object_colour_at, object_colours_at, colours_set_at, text_at, value_at, path_at, key_at, pair_at, digits_at, object_at}
 
 -- what is given after the fields of one kind
 unfoldable pub taken_at : Known → Field → List (List ℕ) → Given → Result Given Reason
@@ -27,7 +27,7 @@ taken_at known fields.Steps own given = digits_at STEPS_DIGITS (first_in own) >>
 taken_at known fields.Cols own given = colours_set_at known.script.colours (names_in (first_in own)) >>= λ s. Ok (record given { colours = s.0; count = s.1 })
 taken_at known fields.Colour own given = number_at reasons.UnknownColour known.script.colours (first_in own) >>= λ c. Ok (record given { colour = c })
 taken_at known fields.Region own given = number_at reasons.UnknownRegion known.script.regions (first_in own) >>= λ r. Ok (record given { region = r })
-taken_at known fields.Text own given = text_at (first_in own) >>= λ t. Ok (record given { text = t })
+taken_at known fields.Text own given = text_at known.script.objects (first_in own) >>= λ t. Ok (record given { text = t })
 taken_at known (fields.Object of) own given = object_at of known.script.objects (first_in own) >>= λ o. Ok (record given { object = o })
 taken_at known fields.Key own given = key_at [] (first_in own) >>= λ k. Ok (record given { key = k })
 taken_at known fields.Value own given = value_at (first_in own) >>= λ v. Ok (record given { value = v })
@@ -35,7 +35,10 @@ taken_at known (fields.Path root) own given = path_at root (first_in own) >>= λ
 taken_at known fields.Target own given = path_at false (first_in own) >>= λ p. Ok (record given { target = p })
 taken_at known (fields.Keys most) own given = each_at key_at [] own >>= λ ks. Ok (record given { keys = ks })
 taken_at known (fields.Pairs most) own given = each_at pair_at [] own >>= λ ps. Ok (record given { pairs = ps })
-taken_at known (fields.Colours most) own given = colours_at known.script.colours own >>= λ ns. Ok (record given { order = ns })
+taken_at known fields.ObjectColour own given =
+    object_colour_at known.script.objects known.script.colours false [] (first_in own) >>= λ c. Ok (record given { colour = c })
+taken_at known (fields.ObjectColours most alone) own given =
+    object_colours_at known.script.objects known.script.colours alone own >>= λ ns. Ok (record given { order = ns })
 
 -- and after all fields
 unfoldable pub given_at : Known → List Field → List (List ℕ) → Given → Result Given Reason
@@ -62,7 +65,7 @@ what_at known client word args = refuse (not (fits (row_fields word) args)) reas
 unfoldable pub append_at : Known → List ℕ → List ℕ → Result What Reason
 append_at known cols text = do
   set ← colours_set_at known.script.colours (names_in cols)
-  bytes ← text_at text
+  bytes ← text_at known.script.objects text
   Ok (whats.Append set.0 bytes)
 
 -- a sync: its colour

@@ -70,6 +70,7 @@ IsKindWithin regions colours (kinds.Tx home of) = (home < regions) × AreObjectC
 IsKindWithin regions colours (kinds.Causal colour) = colour < colours
 IsKindWithin regions colours (kinds.Queue home colour) = (home < regions) × (colour < colours)
 IsKindWithin regions colours (kinds.Tree home of) = (home < regions) × AreObjectColours colours of
+IsKindWithin regions colours (kinds.Parts home of) = (home < regions) × AreObjectColours colours of
 
 -- a map with a home
 abbrev pub is_map : Kind → Bool
@@ -79,7 +80,7 @@ is_map = is_of MAP
 abbrev pub is_any_map : Kind → Bool
 is_any_map = is_of ANY_MAP
 
--- a transactional map
+-- a transactional map, which may keep its colours to itself
 abbrev pub is_tx : Kind → Bool
 is_tx = is_of TX
 

@@ -76,6 +76,11 @@ is_path root (b ∷ bs) = (b == 47) && is_path_behind root bs
 abbrev pub is_text : List ℕ → Bool
 is_text bytes = is_between 1 MAX_TEXT (length bytes) && list_all (is_between 33 126) bytes
 
+-- a text that begins as those of transactions, or of decisions, do: `t:` or `z:`
+abbrev pub is_transactional : List ℕ → Bool
+is_transactional (a ∷ b ∷ bytes) = ((a == 116) || (a == 122)) && (b == 58)
+is_transactional _ = false
+
 -- a number of at most so many digits: 0, or digits of which the first is none
 abbrev pub is_number : ℕ → List ℕ → Bool
 is_number most [] = false

@@ -13,6 +13,7 @@ use Rattle.script_text.specs.declared.fault.Fault.TheVariants as faults
 use Rattle.script_text.specs.declared.table.Kinds.{Kinds}
 use Rattle.script_text.specs.Pieces.{is_name, is_key, is_path, is_text, is_number, number_value, is_among, number_of}
 use Rattle.script_text.specs.Table.{is_of}
+use Rattle.script_text.specs.Apart.{is_taken, is_reserved}
 use Rattle.script_text.specs.Grammar.{has_equals, key_in, value_in}
 
 infixl 10 ◌>>=◌
@@ -82,6 +83,16 @@ fresh_colour_at names set field = do
   colour ← number_at reasons.UnknownColour names field
   refuse (has set colour) reasons.ColourRepeated (Ok colour)
 
+-- the number of a colour of a new object: none that the earlier fields name, and none that is taken
+unfoldable pub object_colour_at : List Object → List (List ℕ) → Bool → List (List ℕ) → List ℕ → Result ℕ Reason
+object_colour_at objects names alone earlier field = do
+  colour ← colour_at names earlier field
+  refuse (is_taken objects alone colour) reasons.ColourTaken (Ok colour)
+
+-- the numbers of a new object's distinct colours
+abbrev pub object_colours_at : List Object → List (List ℕ) → Bool → List (List ℕ) → Result (List ℕ) Reason
+object_colours_at objects names alone fields = each_at (object_colour_at objects names alone) [] fields
+
 -- the numbers of distinct colours
 abbrev pub colours_at : List (List ℕ) → List (List ℕ) → Result (List ℕ) Reason
 colours_at names fields = each_at (colour_at names) [] fields
@@ -92,9 +103,10 @@ colours_set_at names fields = do
   order ← colours_at names fields
   Ok (set_of order, length order)
 
--- a node's text
-unfoldable pub text_at : List ℕ → Result (List ℕ) Reason
-text_at field = refuse (not (is_text field)) reasons.TextLength (Ok field)
+-- a node's text, which none of the objects reserves
+unfoldable pub text_at : List Object → List ℕ → Result (List ℕ) Reason
+text_at objects field =
+    refuse (not (is_text field)) reasons.TextLength (refuse (is_reserved objects field) reasons.ReservedText (Ok field))
 
 -- a value of an object
 unfoldable pub value_at : List ℕ → Result (List ℕ) Reason

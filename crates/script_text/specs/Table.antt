@@ -10,7 +10,7 @@ use Rattle.script_text.specs.declared.table.Field.TheVariants as fields
 use Rattle.script_text.specs.declared.table.Kinds.{Kinds}
 use Rattle.script_text.specs.declared.table.Last.{Last}
 use Rattle.script_text.specs.declared.commands.TheConstants.{WORDS}
-use Rattle.script_text.specs.declared.table.TheConstants.{MAP_LINE, TX_LINE, CAUSAL_LINE, QUEUE_LINE, TREE_LINE, SORTS}
+use Rattle.script_text.specs.declared.table.TheConstants.{MAP_LINE, TX_LINE, CAUSAL_LINE, QUEUE_LINE, TREE_LINE, PARTS_LINE, SORTS}
 use Rattle.script_text.specs.declared.table.Sort.{Sort}
 use Rattle.script_text.specs.declared.table.Sort.TheVariants as sorts
 use Rattle.script_text.specs.declared.given.Given.{Given}
@@ -44,6 +44,7 @@ is_of of (kinds.Tx _ _) = of.tx
 is_of of (kinds.Causal _) = of.causal
 is_of of (kinds.Queue _ _) = of.queue
 is_of of (kinds.Tree _ _) = of.tree
+is_of of (kinds.Parts _ _) = of.parts
 
 -- how many last fields a kind of field may take, or nothing where it is one field
 abbrev pub at_most : Field → Option ℕ
@@ -59,7 +60,8 @@ at_most (fields.Path _) = None
 at_most fields.Target = None
 at_most (fields.Keys most) = Some most
 at_most (fields.Pairs most) = Some most
-at_most (fields.Colours most) = Some most
+at_most fields.ObjectColour = None
+at_most (fields.ObjectColours most _) = Some most
 
 -- the fields that one kind takes: one, or all that are left
 abbrev pub own_in : Option ℕ → List (List ℕ) → List (List ℕ)
@@ -127,6 +129,7 @@ sort_row sorts.Tx = TX_LINE
 sort_row sorts.Causal = CAUSAL_LINE
 sort_row sorts.Queue = QUEUE_LINE
 sort_row sorts.Tree = TREE_LINE
+sort_row sorts.Parts = PARTS_LINE
 
 -- the word of an object's line
 abbrev pub sort_text : Sort → List ℕ
@@ -155,6 +158,7 @@ sort_of (kinds.Tx _ _) = sorts.Tx
 sort_of (kinds.Causal _) = sorts.Causal
 sort_of (kinds.Queue _ _) = sorts.Queue
 sort_of (kinds.Tree _ _) = sorts.Tree
+sort_of (kinds.Parts _ _) = sorts.Parts
 
 -- what an object is, by what its fields give
 abbrev pub kind_of : Sort → Given → Kind
@@ -163,3 +167,4 @@ kind_of sorts.Tx g = kinds.Tx g.region g.order
 kind_of sorts.Causal g = kinds.Causal g.colour
 kind_of sorts.Queue g = kinds.Queue g.region g.colour
 kind_of sorts.Tree g = kinds.Tree g.region g.order
+kind_of sorts.Parts g = kinds.Parts g.region g.order

@@ -16,7 +16,7 @@ use crate::item::Stage;
 use crate::known::Known;
 use crate::line::is_passed_over;
 use crate::names::colour_set;
-use crate::pieces::{behind, is_text, visible_front};
+use crate::pieces::{behind, is_text, is_transactional, visible_front};
 use crate::script::Command;
 use log_node::Text;
 use std::alloc::{AllocError, Global};
@@ -50,7 +50,7 @@ fn append(alloc: Global, known: &Known, args: &[u8]) -> Result<Option<What>, All
     let Some((cols, text)) = first_field(args) else {
         return Ok(None);
     };
-    if !is_text(text) {
+    if !is_text(text) || is_transactional(text) {
         return Ok(None);
     }
     let Ok((colours, _)) = colour_set(&known.script.colours, cols) else {

@@ -10,7 +10,8 @@ ghost use Rattle.script_text.specs.CommandReadings.{taken_at, given_at};
 use crate::fault::Fault;
 use crate::keys::{key_at, keys_at, pairs_at, steps_at, value_at};
 use crate::known::Known;
-use crate::names::{colour_numbers, colour_set, text_at};
+use crate::names::{colour_set, text_at};
+use crate::object_colours::{object_colour, object_colours};
 use crate::objects::object_at;
 use crate::paths::path_at;
 use crate::script::Kind;
@@ -93,7 +94,7 @@ impl Given {
             }
             Field::Colour => self.colour = known.colour_at(first(own))?,
             Field::Region => self.region = known.region_at(first(own))?,
-            Field::Text => self.text = text_at(alloc, first(own))?,
+            Field::Text => self.text = text_at(alloc, &known.script.objects, first(own))?,
             Field::Object { kinds } => {
                 self.object = object_at(kinds, &known.script.objects, first(own))?;
             }
@@ -103,8 +104,9 @@ impl Given {
             Field::Target => self.target = path_at(alloc, false, first(own))?,
             Field::Keys { .. } => self.keys = keys_at(alloc, own)?,
             Field::Pairs { .. } => self.pairs = pairs_at(alloc, own)?,
-            Field::Colours { .. } => {
-                self.order = colour_numbers(alloc, &known.script.colours, own)?;
+            Field::ObjectColour => self.colour = object_colour(known, first(own))?,
+            Field::ObjectColours { alone, .. } => {
+                self.order = object_colours(alloc, known, alone, own)?;
             }
         }
         Ok(())
@@ -163,6 +165,7 @@ impl Given {
             Sort::Causal => Kind::Causal { colour },
             Sort::Queue => Kind::Queue { home, colour },
             Sort::Tree => Kind::Tree { home, colours },
+            Sort::Parts => Kind::Parts { home, colours },
         }
     }
 }

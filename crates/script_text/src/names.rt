@@ -2,13 +2,14 @@
 ghost use Rattle.std.specs.Prelude.{◌≡◌, ◌≤◌, ◌<◌, [], length, IfOk};
 ghost use Rattle.log_node.specs.declared.limits.TheConstants.{MAX_COLOURS};
 ghost use Rattle.script_text.specs.Pieces.{is_among, names_in};
-ghost use Rattle.script_text.specs.Readings.{Gives, fields_in, number_at, new_name_at, new_names_at, colour_at, fresh_colour_at, colours_at, colours_set_at, text_at};
+ghost use Rattle.script_text.specs.Readings.{Gives, fields_in, number_at, new_name_at, new_names_at, colour_at, fresh_colour_at, colours_set_at, text_at};
 
 use crate::fault::Fault;
 use crate::name_set::NameSet;
-use crate::pieces::{behind, comma_front, is_name, is_text};
+use crate::objects::Objects;
+use crate::pieces::{behind, comma_front, is_name, is_text, is_transactional};
 use crate::script::Reason;
-use log_node::{ColourList, Colours, ListOf, Text};
+use log_node::{Colours, Text};
 use std::alloc::Global;
 
 /// A name that is new among these.
@@ -58,7 +59,7 @@ fn is_repeated(earlier: &[&[u8]], field: &[u8]) -> bool
 
 /// The number of a colour that none of the earlier fields names.
 #[tactic(auto, unfolding(crate::specs::Readings::colour_at))]
-fn colour_at(names: &NameSet, earlier: &[&[u8]], field: &[u8]) -> Result<u8, Fault>
+pub fn colour_at(names: &NameSet, earlier: &[&[u8]], field: &[u8]) -> Result<u8, Fault>
     requires { length names.now ≤ 256 }
     ensures value { Gives result (colour_at names.now (fields_in earlier.now) field.now) }
     ensures below { IfOk result (λ c. c < length names.now) }
@@ -68,19 +69,6 @@ fn colour_at(names: &NameSet, earlier: &[&[u8]], field: &[u8]) -> Result<u8, Fau
         return Err(Fault::Refused(Reason::ColourRepeated));
     }
     Ok(colour)
-}
-
-/// The numbers of distinct colours.
-pub fn colour_numbers(alloc: Global, names: &NameSet, fields: &[&[u8]]) -> Result<ColourList, Fault>
-    requires { length names.now ≤ 256 }
-    ensures { Gives result (colours_at names.now (fields_in fields.now)) }
-{
-    let mut colours = ListOf::new(alloc);
-    for (place, field) in fields.iter().enumerate() {
-        let colour = colour_at(names, &fields[..place], field)?;
-        colours.push(colour)?;
-    }
-    Ok(colours)
 }
 
 /// The number of a colour that is not in the set.
@@ -120,13 +108,16 @@ pub fn colour_set(names: &NameSet, cols: &[u8]) -> Result<(Colours, usize), Faul
     }
 }
 
-/// A node's text.
+/// A node's text, which is none of those that such objects reserve.
 #[tactic(auto, unfolding(crate::specs::Readings::text_at))]
-pub fn text_at(alloc: Global, field: &[u8]) -> Result<Text, Fault>
-    ensures { Gives result (text_at field.now) }
+pub fn text_at(alloc: Global, objects: &Objects, field: &[u8]) -> Result<Text, Fault>
+    ensures { Gives result (text_at objects.now field.now) }
 {
     if !is_text(field) {
         return Err(Fault::Refused(Reason::TextLength));
+    }
+    if is_transactional(field) && objects.has_parts() {
+        return Err(Fault::Refused(Reason::ReservedText));
     }
     Ok(Text::copied(alloc, field)?)
 }

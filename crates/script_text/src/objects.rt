@@ -3,12 +3,13 @@ ghost use Rattle.std.specs.Prelude.{◌≡◌, ◌≤◌, [], ◌∷◌, ◌++�
 ghost use Rattle.std.specs.Option.{option_copied};
 ghost use Rattle.script_text.specs.Pieces.{is_among, number_of};
 ghost use Rattle.script_text.specs.Table.{is_of};
+ghost use Rattle.script_text.specs.Apart.{is_parts, has_colour, has_parts, is_taken};
 ghost use Rattle.script_text.specs.Readings.{Gives, object_at};
 
 use crate::fault::Fault;
 use crate::name_set::NameSet;
 use crate::script::{Kind, Object, Reason};
-use crate::table::Kinds;
+use crate::table::{Kinds, PARTS};
 use log_node::Text;
 use std::alloc::{AllocError, Global};
 use std::marker::Model;
@@ -91,6 +92,22 @@ impl Objects {
         self.names.has(name)
     }
 
+    /// Whether an object keeps its colours to itself.
+    pub(crate) fn has_parts(&self) -> bool
+        ensures { result ≡ has_parts self.now }
+    {
+        self.objects.iter().any(|object| is_parts(&object.kind))
+    }
+
+    /// Whether one of the objects and a new one may not both have this colour; `alone` where the new one keeps its colours to itself.
+    pub(crate) fn have_taken(&self, alone: bool, colour: u8) -> bool
+        ensures { result ≡ is_taken self.now alone colour }
+    {
+        self.objects
+            .iter()
+            .any(|object| (alone || is_parts(&object.kind)) && has_colour(&object.kind, colour))
+    }
+
     /// One object more, behind the others. Without memory they stay as they were.
     pub fn push(&mut self, object: Object) -> Result<(), AllocError>
         ensures ok { OnOk result (self.new ≡ self.old ++ object ∷ []) }
@@ -114,6 +131,27 @@ fn is_of(kinds: Kinds, kind: &Kind) -> bool
         Kind::Causal { .. } => kinds.causal,
         Kind::Queue { .. } => kinds.queue,
         Kind::Tree { .. } => kinds.tree,
+        Kind::Parts { .. } => kinds.parts,
+    }
+}
+
+/// Whether an object keeps its colours to itself.
+fn is_parts(kind: &Kind) -> bool
+    ensures { result ≡ is_parts kind.now }
+{
+    is_of(PARTS, kind)
+}
+
+/// Whether an object has this colour.
+fn has_colour(kind: &Kind, colour: u8) -> bool
+    ensures { result ≡ has_colour kind.now colour }
+{
+    match kind {
+        Kind::Map { colours, .. }
+        | Kind::Tx { colours, .. }
+        | Kind::Tree { colours, .. }
+        | Kind::Parts { colours, .. } => colours.as_slice().contains(&colour),
+        Kind::Causal { colour: own } | Kind::Queue { colour: own, .. } => *own == colour,
     }
 }
 

@@ -140,6 +140,13 @@ pub fn is_text(field: &[u8]) -> bool
     1 <= field.len() && field.len() <= MAX_TEXT && are_visible(field)
 }
 
+/// Such a text is a transaction's or a decision's.
+pub fn is_transactional(field: &[u8]) -> bool
+    ensures { result ≡ is_transactional field.now }
+{
+    matches!(field, [b't' | b'z', b':', ..])
+}
+
 /// The name is one of these.
 pub fn is_among(names: &[Text], name: &[u8]) -> bool
     ensures { result ≡ is_among names.now name.now }

@@ -16,6 +16,7 @@ pub struct Kinds {
     pub causal: bool,
     pub queue: bool,
     pub tree: bool,
+    pub parts: bool,
 }
 
 /// What one field, or the last ones, may be.
@@ -39,8 +40,10 @@ pub enum Field {
     Keys { most: usize },
     /// One to this many pairs with distinct keys, which are the last fields.
     Pairs { most: usize },
-    /// One to this many distinct colours, which are the last fields.
-    Colours { most: usize },
+    /// A colour of an object, which no object keeps to itself.
+    ObjectColour,
+    /// One to this many distinct colours of an object, which are the last fields; whether the object keeps them to itself.
+    ObjectColours { most: usize, alone: bool },
 }
 
 /// What is tested after the fields.
@@ -62,6 +65,7 @@ pub const NONE: Kinds = Kinds {
     causal: false,
     queue: false,
     tree: false,
+    parts: false,
 };
 
 pub const MAP: Kinds = Kinds { map: true, ..NONE };
@@ -71,7 +75,12 @@ pub const ANY_MAP: Kinds = Kinds {
     ..MAP
 };
 
-pub const TX: Kinds = Kinds { tx: true, ..NONE };
+pub const PARTS: Kinds = Kinds {
+    parts: true,
+    ..NONE
+};
+
+pub const TX: Kinds = Kinds { tx: true, ..PARTS };
 
 pub const QUEUE: Kinds = Kinds {
     queue: true,
@@ -114,6 +123,7 @@ pub enum Sort {
     Causal,
     Queue,
     Tree,
+    Parts,
 }
 
 /// The word of an object's line, the fields after the object's name, and the first version that has the line.
@@ -121,8 +131,17 @@ pub type SortRow = (&'static [u8], &'static [Field], u8);
 
 const SHARDED: &[Field] = &[
     Field::Region,
-    Field::Colours {
+    Field::ObjectColours {
         most: VERSION_2.colours,
+        alone: false,
+    },
+];
+
+const APART: &[Field] = &[
+    Field::Region,
+    Field::ObjectColours {
+        most: VERSION_2.colours,
+        alone: true,
     },
 ];
 
@@ -130,14 +149,23 @@ pub const MAP_LINE: SortRow = (b"map", SHARDED, 1);
 
 pub const TX_LINE: SortRow = (b"tx", SHARDED, 1);
 
-pub const CAUSAL_LINE: SortRow = (b"causal", &[Field::Colour], 1);
+pub const CAUSAL_LINE: SortRow = (b"causal", &[Field::ObjectColour], 1);
 
-pub const QUEUE_LINE: SortRow = (b"queue", &[Field::Region, Field::Colour], 1);
+pub const QUEUE_LINE: SortRow = (b"queue", &[Field::Region, Field::ObjectColour], 1);
 
 pub const TREE_LINE: SortRow = (b"tree", SHARDED, 2);
 
+pub const PARTS_LINE: SortRow = (b"parts", APART, 2);
+
 /// All sorts.
-pub const SORTS: [Sort; 5] = [Sort::Map, Sort::Tx, Sort::Causal, Sort::Queue, Sort::Tree];
+pub const SORTS: [Sort; 6] = [
+    Sort::Map,
+    Sort::Tx,
+    Sort::Causal,
+    Sort::Queue,
+    Sort::Tree,
+    Sort::Parts,
+];
 
 impl Sort {
     /// The row of an object's line.
@@ -152,6 +180,7 @@ impl Sort {
             Sort::Causal => CAUSAL_LINE,
             Sort::Queue => QUEUE_LINE,
             Sort::Tree => TREE_LINE,
+            Sort::Parts => PARTS_LINE,
         }
     }
 
@@ -179,10 +208,12 @@ impl Field {
         ensures { result ≡ at_most self }
     {
         match self {
-            Field::Keys { most } | Field::Pairs { most } | Field::Colours { most } => Some(most),
+            Field::Keys { most } | Field::Pairs { most } | Field::ObjectColours { most, .. } => {
+                Some(most)
+            }
             Field::Steps | Field::Cols | Field::Colour | Field::Region | Field::Text => None,
             Field::Object { .. } | Field::Key | Field::Value => None,
-            Field::Path { .. } | Field::Target => None,
+            Field::Path { .. } | Field::Target | Field::ObjectColour => None,
         }
     }
 
