@@ -1,6 +1,6 @@
 -- A client's objects while it is served: each stays open, and what is asked of one is answered by that one.
 use Rattle.std.proofs.Common.{◌≡◌, ◌⊎◌, ℕ, zero, suc, List, [], ◌∷◌, length, map, set, get_or, Some, slice_get, refl, ap, sym, subst, ◌∙◌, inl, inr, arith}
-use Rattle.std.specs.Prelude.{Bool, IsTrue, false, ◌<◌, ◌≤◌}
+use Rattle.std.specs.Prelude.{Bool, IsTrue, false, true, ◌<◌, ◌≤◌}
 use Rattle.std.specs.List.{All}
 use Rattle.std.proofs.lemmas.Simd.{map-map}
 use Rattle.std.proofs.lemmas.Option.{slice_get-map, get_or_from_slice_get, slice_get_within}
@@ -32,7 +32,7 @@ use Rattle.atomic_map.proofs.CallerLemmas.{map_later as atomic_later}
 use Rattle.region_fold.proofs.CallerLemmas.{map_later as tx_later}
 use Rattle.run_script.specs.declared.serving.opened.Opened.{Opened}
 use Rattle.run_script.specs.declared.serving.opened.Opened.TheVariants as opened
-use Rattle.run_script.specs.Opened.{AreKept, AreOf, HasBy, HasCommand, IsOpenedOf, IsOfOne, IsUnfolded, StaysOpen, kind_opened, object_in, object_asked}
+use Rattle.run_script.specs.Opened.{AreKept, AreOf, HasBy, HasCommand, IsOpenedOf, IsOfOne, IsUnfolded, StaysOpen, kind_opened, tx_kind, object_in, object_asked}
 use Rattle.run_script.specs.Serving.{ServesLog, ServesObject, GivesFor, GivesTo}
 use Rattle.run_script.proofs.ByPlace.{mapped, unmapped}
 use Rattle.run_script.proofs.ReadsFound.{finds_same, given_at}
@@ -108,6 +108,11 @@ map_colours c regions home colours few within = record {
   within = within.1.below;
   few = λ n d lt. let low = within.1.below n d lt in omega (arith, low, few);
 }
+
+pub tx_within : (alone : Bool) (c : Client) (regions home : ℕ) (colours : List ℕ) → length (tracks_of c) ≤ MAX_COLOURS
+    → IsKindWithin regions (length (tracks_of c)) (tx_kind alone home colours) → HasColoursOf c colours
+tx_within false c regions home colours few within = map_colours c regions home colours few within
+tx_within true c regions home colours few within = map_colours c regions home colours few within
 
 pub one_colour : (c : Client) (colour given : ℕ) → colour ≡ given → length (tracks_of c) ≤ MAX_COLOURS
     → colour < length (tracks_of c) → (given < length (tracks_of c)) × (given < MAX_COLOURS)

@@ -1,6 +1,6 @@
 -- What the reads of a client's objects found, while it is served.
 use Rattle.std.proofs.Common.{◌≡◌, ◌≢◌, ℕ, zero, suc, List, [], ◌∷◌, set, Option, Some, None, slice_get, refl, ap, sym, subst, ◌∙◌, inl, eq-eqb}
-use Rattle.std.specs.Prelude.{IsTrue, false, ◌==◌}
+use Rattle.std.specs.Prelude.{IsTrue, Bool, false, true, ◌==◌}
 use Rattle.std.specs.List.{All}
 use Rattle.std.proofs.lemmas.Option.{get_or_from_slice_get, slice_get_within}
 use Rattle.log_node.specs.declared.forms.Version.{Version}
@@ -20,6 +20,7 @@ use Rattle.script_text.specs.declared.uses.Use.{Use}
 use Rattle.script_text.specs.declared.uses.Use.TheVariants.{OfObject}
 use Rattle.script_text.specs.Commands.{use_of}
 use Rattle.report_text.specs.declared.report.Answer.{Answer}
+use Rattle.lawful_run.specs.Asks.{object_colours, object_home}
 use Rattle.lawful_run.specs.Callers.{Caller}
 use Rattle.lawful_run.specs.Explains.{Explains}
 use Rattle.lawful_run.specs.Refusals.{before_by, behind_by, kept_before, kept_behind}
@@ -30,17 +31,27 @@ use Rattle.log_client.specs.declared.client.Client.{Client}
 use Rattle.log_client.specs.Clients.{caller_of, seen_of}
 use Rattle.run_script.specs.declared.serving.opened.Opened.{Opened}
 use Rattle.run_script.specs.declared.serving.opened.Opened.TheVariants as opened
-use Rattle.run_script.specs.Opened.{HaveReads, IsUnfolded, KeepsReadsBut, found_in, kind_opened, versions_in}
+use Rattle.run_script.specs.Opened.{HaveReads, IsUnfolded, KeepsReadsBut, found_in, kind_opened, tx_kind, versions_in}
 use Rattle.run_script.specs.Serving.{ServesLog, GivesAll, ServesObject, GivesOf, KnowsRead, KnowsReads}
 use Rattle.run_script.proofs.CommandAnswers.{IsOfLog, of_log}
 use Rattle.run_script.proofs.Giving.{knowing}
 
 -- WHERE NOTHING IS FOUND
 
+-- the home and the colours of a transactional map, whether it keeps them to itself or not
+pub tx_home : (alone : Bool) (home : ℕ) (colours : List ℕ) → object_home (Some (tx_kind alone home colours)) ≡ Some home
+tx_home false home colours = refl
+tx_home true home colours = refl
+
+pub tx_colours : (alone : Bool) (home : ℕ) (colours : List ℕ) → object_colours (Some (tx_kind alone home colours)) ≡ colours
+tx_colours false home colours = refl
+tx_colours true home colours = refl
+
 -- nothing is found of an object that is no transactional map
 pub finds_none : (x : Opened) → is_tx (kind_opened x) ≡ false → versions_in x ≡ None
 finds_none (opened.Map single several) other = refl
-finds_none (opened.Tx map found) other = absurd (let f : ⊥ = cc (other) in f)
+finds_none (opened.Tx false map found) other = absurd (let f : ⊥ = cc (other) in f)
+finds_none (opened.Tx true map found) other = absurd (let f : ⊥ = cc (other) in f)
 finds_none (opened.Causal of) other = refl
 finds_none (opened.Queue of) other = refl
 finds_none (opened.Tree of) other = refl
@@ -51,18 +62,22 @@ finds_same x y other same = finds_none y (ap is_tx same ∙ other) ∙ sym (find
 
 pub map_not_tx : (kind : Kind) → IsTrue (is_map kind) → is_tx kind ≡ false
 map_not_tx (kinds.Tx home colours) is = absurd (let f : ⊥ = cc (is) in f)
+map_not_tx (kinds.Parts home colours) is = absurd (let f : ⊥ = cc (is) in f)
 map_not_tx _ is = refl
 
 pub any_map_not_tx : (kind : Kind) → IsTrue (is_any_map kind) → is_tx kind ≡ false
 any_map_not_tx (kinds.Tx home colours) is = absurd (let f : ⊥ = cc (is) in f)
+any_map_not_tx (kinds.Parts home colours) is = absurd (let f : ⊥ = cc (is) in f)
 any_map_not_tx _ is = refl
 
 pub queue_not_tx : (kind : Kind) → IsTrue (is_queue kind) → is_tx kind ≡ false
 queue_not_tx (kinds.Tx home colours) is = absurd (let f : ⊥ = cc (is) in f)
+queue_not_tx (kinds.Parts home colours) is = absurd (let f : ⊥ = cc (is) in f)
 queue_not_tx _ is = refl
 
 pub tree_not_tx : (kind : Kind) → IsTrue (is_tree kind) → is_tx kind ≡ false
 tree_not_tx (kinds.Tx home colours) is = absurd (let f : ⊥ = cc (is) in f)
+tree_not_tx (kinds.Parts home colours) is = absurd (let f : ⊥ = cc (is) in f)
 tree_not_tx _ is = refl
 
 -- who keeps nothing keeps the reads of objects of which nothing was read

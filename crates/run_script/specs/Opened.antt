@@ -1,5 +1,5 @@
 -- The objects of a script as a client has opened them, beside which it keeps them.
-use Rattle.std.specs.Prelude.{◌≡◌, ℕ, ◌≤◌, List, length, map, Option, Some, None, slice_get, IsTrue, IfSome}
+use Rattle.std.specs.Prelude.{◌≡◌, Bool, false, true, ℕ, ◌≤◌, List, length, map, Option, Some, None, slice_get, IsTrue, IfSome}
 use Rattle.std.specs.Option.{option_map}
 use Rattle.log_node.specs.declared.limits.TheConstants.{MAX_COLOURS}
 use Rattle.log_node.specs.declared.forms.Version.{Version}
@@ -26,10 +26,15 @@ use Rattle.region_fold.specs.declared.transactions.Tx.{Tx}
 use Rattle.run_script.specs.declared.serving.opened.Opened.{Opened}
 use Rattle.run_script.specs.declared.serving.opened.Opened.TheVariants as opened
 
+-- a transactional map with this home and these colours, which may keep them to itself
+abbrev pub tx_kind : Bool → ℕ → List ℕ → Kind
+tx_kind false home colours = kinds.Tx home colours
+tx_kind true home colours = kinds.Parts home colours
+
 -- what was opened
 abbrev pub kind_opened : Opened → Kind
 kind_opened (opened.Map single several) = kinds.Map single.home single.colours
-kind_opened (opened.Tx map found) = kinds.Tx map.home map.colours
+kind_opened (opened.Tx alone map found) = tx_kind alone map.home map.colours
 kind_opened (opened.Causal of) = kinds.Causal of.colour
 kind_opened (opened.Queue of) = kinds.Queue of.home of.colour
 kind_opened (opened.Tree of) = kinds.Tree of.home of.colours
@@ -42,7 +47,7 @@ AreOf objects xs = map (λ (o : Object). o.kind) objects ≡ map kind_opened xs
 abbrev pub IsOpenedOf : Client → Opened → Type 0
 IsOpenedOf c (opened.Map single several) =
     IsMapOf c single × IsAtomicMapOf c several × (several.home ≡ single.home) × (several.colours ≡ single.colours)
-IsOpenedOf c (opened.Tx map found) = IsTxMapOf c map × IfSome found (λ (t : Tx). AreVersions t.versions)
+IsOpenedOf c (opened.Tx alone map found) = IsTxMapOf c map × IfSome found (λ (t : Tx). AreVersions t.versions)
 IsOpenedOf c (opened.Causal of) = IsCausalMapOf c of
 IsOpenedOf c (opened.Queue of) = IsQueueOf c of
 IsOpenedOf c (opened.Tree of) = IsTreeOf c of
@@ -56,7 +61,7 @@ AreKept c xs = (n : ℕ) (x : Opened) → slice_get xs n ≡ Some x → IsOpened
 -- what the last read of it found, and no commit has used up
 abbrev pub versions_in : Opened → Option (List Version)
 versions_in (opened.Map single several) = None
-versions_in (opened.Tx map found) = option_map (λ (t : Tx). t.versions) found
+versions_in (opened.Tx alone map found) = option_map (λ (t : Tx). t.versions) found
 versions_in (opened.Causal of) = None
 versions_in (opened.Queue of) = None
 versions_in (opened.Tree of) = None

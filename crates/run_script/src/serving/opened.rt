@@ -1,7 +1,7 @@
 // The objects of a script as a client opens them.
 ghost use Rattle.std.specs.Prelude.{◌≡◌, IfOk};
 ghost use Rattle.std.specs.List.{All};
-ghost use Rattle.run_script.specs.Opened.{kind_opened, AreOf, IsUnfolded};
+ghost use Rattle.run_script.specs.Opened.{kind_opened, tx_kind, AreOf, IsUnfolded};
 
 use atomic_map::AtomicMap;
 use causal_map::CausalMap;
@@ -13,12 +13,12 @@ use region_fold::{Tx, TxMap};
 use script_text::{Kind, Object};
 use std::alloc::{AllocError, Global};
 
-/// An object of a script, as one client has opened it; of a transactional map what its last read found, until a commit uses
-/// it up.
+/// An object of a script, as one client has opened it; of a transactional map whether it keeps its colours to itself, and what
+/// its last read found, until a commit uses it up.
 #[derive(Drop)]
 pub enum Opened {
     Map { single: LogMap, several: AtomicMap },
-    Tx { map: TxMap, found: Option<Tx> },
+    Tx { alone: bool, map: TxMap, found: Option<Tx> },
     Causal(CausalMap),
     Queue(LogQueue),
     Tree(LogTree),
@@ -29,6 +29,19 @@ fn copied(alloc: Global, colours: &[u8]) -> Result<ColourList, AllocError>
     ensures { IfOk result (λ copy. copy ≡ colours.now) }
 {
     Ok(ListOf::from(Vec::from_slice(alloc, colours)?))
+}
+
+// Opens a transactional map.
+fn open_tx(alloc: Global, alone: bool, home: u8, colours: &[u8]) -> Result<Opened, AllocError>
+    ensures kind { IfOk result (λ x. kind_opened x ≡ tx_kind alone home colours.now) }
+    ensures unfolded { IfOk result IsUnfolded }
+{
+    let map = TxMap::open(alloc, home, copied(alloc, colours)?);
+    Ok(Opened::Tx {
+        alone,
+        map,
+        found: None,
+    })
 }
 
 // Opens an object of this kind.
@@ -44,11 +57,8 @@ fn open(alloc: Global, kind: &Kind) -> Result<Opened, AllocError>
             let several = AtomicMap::open(alloc, *home, again);
             Ok(Opened::Map { single, several })
         }
-        Kind::Tx { home, colours } => {
-            let copy = copied(alloc, colours.as_slice())?;
-            let map = TxMap::open(alloc, *home, copy);
-            Ok(Opened::Tx { map, found: None })
-        }
+        Kind::Tx { home, colours } => open_tx(alloc, false, *home, colours.as_slice()),
+        Kind::Parts { home, colours } => open_tx(alloc, true, *home, colours.as_slice()),
         Kind::Causal { colour } => {
             let map = CausalMap::open(alloc, *colour);
             Ok(Opened::Causal(map))

@@ -154,7 +154,7 @@ pub fn read<R: Wait, G: Gate>(
         (λ object. What.Read object keys) result }
 {
     match opened {
-        Opened::Tx { map, found } => {
+        Opened::Tx { map, found, .. } => {
             *found = None;
             let Ok(answers) = Vec::with_capacity(alloc, keys.len()) else {
                 return Answer::NoMemory;
@@ -227,7 +227,7 @@ pub fn commit<R: Wait, G: Gate>(
         (λ object. What.Commit object pairs) result }
 {
     match opened {
-        Opened::Tx { map, found } => {
+        Opened::Tx { map, found, .. } => {
             let tx = mem::replace(found, None);
             let Ok(pieces) = Vec::with_capacity(alloc, most_points(&tx, &pairs)) else {
                 return Answer::NoMemory;

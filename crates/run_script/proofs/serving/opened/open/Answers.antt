@@ -23,17 +23,6 @@ returns-in_ok-again-in-Map-clause-unfolded c = (
       ),
 )
 
-pub returns-in_ok-copy-in-Tx-clause-unfolded : goal.returns-in_ok-copy-in-Tx-clause-unfolded
-returns-in_ok-copy-in-Tx-clause-unfolded c = (
-  refl,
-  λ client regions few within.
-      let e = c.open-map.ensures in (
-        e.map client (subst (HasColoursOf client) e.of.1
-            (map_colours client regions c.open-map.result.home c.open-map.result.colours few within)),
-        tt,
-      ),
-)
-
 pub returns-in-Causal-clause-unfolded : goal.returns-in-Causal-clause-unfolded
 returns-in-Causal-clause-unfolded c = (
   refl,

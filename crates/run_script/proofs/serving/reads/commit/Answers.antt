@@ -15,23 +15,23 @@ use Rattle.run_script.proofs.serving.reads.commit.Goals as goal
 pub returns-in_default-with_capacity-clause-gives : goal.returns-in_default-with_capacity-clause-gives
 returns-in_default-with_capacity-clause-gives g c =
     subst (λ (x : Opened). GivesTo c.args.store.now c.args.client.now c.args.client.now x
-    (opened.Tx c.in-Tx.map c.replace-tx.new.dest) (λ object. whats.Commit object c.args.pairs) answers.NoMemory)
+    (opened.Tx c.in-Tx.alone c.in-Tx.map c.replace-tx.new.dest) (λ object. whats.Commit object c.args.pairs) answers.NoMemory)
     (sym c.in-Tx.is)
     (subst (λ (o : Option Tx). GivesTo c.args.store.now c.args.client.now c.args.client.now
-    (opened.Tx c.in-Tx.map c.in-Tx.found) (opened.Tx c.in-Tx.map o) (λ object. whats.Commit object c.args.pairs)
+    (opened.Tx c.in-Tx.alone c.in-Tx.map c.in-Tx.found) (opened.Tx c.in-Tx.alone c.in-Tx.map o) (λ object. whats.Commit object c.args.pairs)
     answers.NoMemory) (sym c.replace-tx.ensures.after)
-    (gives_uncommitted c.args.store.now c.args.client.now c.requires.client c.in-Tx.map c.in-Tx.map c.in-Tx.found
+    (gives_uncommitted c.args.store.now c.args.client.now c.requires.client c.in-Tx.alone c.in-Tx.map c.in-Tx.map c.in-Tx.found
     c.args.pairs))
 
 pub returns-in_default-room_for-clause-gives : goal.returns-in_default-room_for-clause-gives
 returns-in_default-room_for-clause-gives g c =
     subst (λ (x : Opened). GivesTo c.args.store.now c.args.client.now c.args.client.now x
-    (opened.Tx c.in-Tx.map c.replace-tx.new.dest) (λ object. whats.Commit object c.args.pairs) answers.NoMemory)
+    (opened.Tx c.in-Tx.alone c.in-Tx.map c.replace-tx.new.dest) (λ object. whats.Commit object c.args.pairs) answers.NoMemory)
     (sym c.in-Tx.is)
     (subst (λ (o : Option Tx). GivesTo c.args.store.now c.args.client.now c.args.client.now
-    (opened.Tx c.in-Tx.map c.in-Tx.found) (opened.Tx c.in-Tx.map o) (λ object. whats.Commit object c.args.pairs)
+    (opened.Tx c.in-Tx.alone c.in-Tx.map c.in-Tx.found) (opened.Tx c.in-Tx.alone c.in-Tx.map o) (λ object. whats.Commit object c.args.pairs)
     answers.NoMemory) (sym c.replace-tx.ensures.after)
-    (gives_uncommitted c.args.store.now c.args.client.now c.requires.client c.in-Tx.map c.in-Tx.map c.in-Tx.found
+    (gives_uncommitted c.args.store.now c.args.client.now c.requires.client c.in-Tx.alone c.in-Tx.map c.in-Tx.map c.in-Tx.found
     c.args.pairs))
 
 pub most_points-requires-clause-found : goal.most_points-requires-clause-found
@@ -54,13 +54,13 @@ pub returns-clause-gives : goal.returns-clause-gives
 returns-clause-gives g c =
     let e = c.commit-commit.ensures in
     subst (λ (x : Opened). GivesTo c.args.store.now c.args.client.now c.commit-commit.new.client x
-    (opened.Tx c.commit-commit.new.self c.replace-tx.new.dest) (λ object. whats.Commit object c.args.pairs) c.told_shown.result)
+    (opened.Tx c.in-Tx.alone c.commit-commit.new.self c.replace-tx.new.dest) (λ object. whats.Commit object c.args.pairs) c.told_shown.result)
     (sym c.in-Tx.is)
     (subst (λ (o : Option Tx). GivesTo c.args.store.now c.args.client.now c.commit-commit.new.client
-    (opened.Tx c.in-Tx.map c.in-Tx.found) (opened.Tx c.commit-commit.new.self o)
+    (opened.Tx c.in-Tx.alone c.in-Tx.map c.in-Tx.found) (opened.Tx c.in-Tx.alone c.commit-commit.new.self o)
     (λ object. whats.Commit object c.args.pairs) c.told_shown.result) (sym c.replace-tx.ensures.after)
     (subst (λ (o : Option Tx). GivesTo c.args.store.now c.args.client.now c.commit-commit.new.client
-    (opened.Tx c.in-Tx.map o) (opened.Tx c.commit-commit.new.self None)
+    (opened.Tx c.in-Tx.alone c.in-Tx.map o) (opened.Tx c.in-Tx.alone c.commit-commit.new.self None)
     (λ object. whats.Commit object c.args.pairs) c.told_shown.result) c.replace-tx.ensures.value
-    (gives_commit c.args.store.now c.args.client.now c.commit-commit.new.client e.client c.told_shown.result c.in-Tx.map
+    (gives_commit c.args.store.now c.args.client.now c.commit-commit.new.client e.client c.told_shown.result c.in-Tx.alone c.in-Tx.map
     c.commit-commit.new.self c.replace-tx.result c.args.pairs c.commit-commit.result c.told_shown.ensures e.away e.ok e.err)))
