@@ -1,4 +1,4 @@
-use Rattle.std.proofs.Common.{◌≡◌, ℕ, Bool, List, [], take, drop}
+use Rattle.std.proofs.Common.{◌≡◌, ℕ, Bool, [], take, drop}
 use Rattle.script_text.specs.declared.known.Known.{Known}
 use Rattle.script_text.specs.Readings.{each_at, object_colour_at, fields_in}
 use Rattle.script_text.proofs.EachLemmas.{Reader, with_front}
