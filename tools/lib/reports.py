@@ -49,7 +49,7 @@ class Script:
                 self.colours = fields
             elif word == "client":
                 self.clients[fields[0]] = fields[1]
-            elif word in ("map", "tx", "queue", "tree"):
+            elif word in ("map", "tx", "queue", "tree", "parts"):
                 self.objects[fields[0]] = (word, fields[1], fields[2:])
             elif word == "causal":
                 self.objects[fields[0]] = (word, None, fields[1:])

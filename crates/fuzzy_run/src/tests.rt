@@ -8,6 +8,7 @@ use std::test::Fail;
 use std::thread::Threads;
 
 mod causal;
+mod colours_apart;
 mod edges;
 mod in_turn;
 mod large;

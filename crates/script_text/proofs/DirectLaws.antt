@@ -24,7 +24,7 @@ pub append_is : (known : Known) (client : ℕ) (args : List (List ℕ)) → what
 unfolding what_at given_at taken_at ended_well append_at
 append_is known client [] = refl
 append_is known client (a ∷ []) = refl
-append_is known client (cols ∷ text ∷ []) = append_of (colours_set_at known.script.colours (names_in cols)) (text_at text)
+append_is known client (cols ∷ text ∷ []) = append_of (colours_set_at known.script.colours (names_in cols)) (text_at known.script.objects text)
 append_is known client (a ∷ b ∷ c ∷ later) = rw (ne_eqb (length (c ∷ later)) 0 (λ e. absurd (omega (arith, e)))) refl
 
 sync_of : (colour : Result ℕ Reason)

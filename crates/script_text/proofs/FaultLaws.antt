@@ -176,7 +176,7 @@ cols_given before own given next e =
 text_given : (before : List Item) (own : List (List ℕ)) (given next : Given) → taken_at (known_of before) fields.Text own given ≡ Ok next → (next.number ≡ given.number) × (next.count ≡ given.count)
 unfolding taken_at put_text
 text_given before own given next e =
-    let b = bind_ok (text_at (first_in own)) (λ t. Ok (put_text given t)) next e in
+    let b = bind_ok (text_at (objects before) (first_in own)) (λ t. Ok (put_text given t)) next e in
     let last = sym (ok_is (put_text given b.0) next b.2) in
     (ap (λ (g : Given). g.number) last, ap (λ (g : Given). g.count) last)
 

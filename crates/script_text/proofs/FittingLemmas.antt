@@ -26,7 +26,7 @@ use Rattle.script_text.specs.declared.item.Stage.TheVariants as stages
 use Rattle.script_text.specs.Pieces.{is_between}
 use Rattle.script_text.specs.Versions.{is_version, limits_in}
 use Rattle.script_text.specs.Items.{stage_after, stage_of, may_begin, may_come, is_begun, has_begun, version_in, regions_in, colours_in, clients_in, commands_in, last_said, version_of, limits_of, region_names, colour_names, client_names, client_homes, commands}
-use Rattle.script_text.specs.Grammar.{may_follow, is_colour, is_region, are_colours, are_new_numbers, ends_well, Spells, SpellAll, SpellsWhat, Says}
+use Rattle.script_text.specs.Grammar.{may_follow, is_colour, is_free, is_region, are_colours, are_new_numbers, ends_well, Spells, SpellAll, SpellsWhat, Says}
 use Rattle.script_text.specs.Fitting.{AreBelow, HasColours, IsWithin}
 use Rattle.script_text.proofs.VersionLemmas.{limits_within, nothing_before}
 use Rattle.script_text.proofs.NameLemmas.{any_turned, below_all}
@@ -293,7 +293,9 @@ kind_within before few (fields.Path root) own given next s w = rw s.3 (record { 
 kind_within before few fields.Target own given next s w = rw s.3 (record { set = w.set; colour = w.colour; region = w.region })
 kind_within before few (fields.Keys most) own given next s w = rw s.1 (record { set = w.set; colour = w.colour; region = w.region })
 kind_within before few (fields.Pairs most) own given next s w = rw s.2 (record { set = w.set; colour = w.colour; region = w.region })
-kind_within before few (fields.Colours most) own given next s w = rw s.4 (record { set = w.set; colour = w.colour; region = w.region })
+kind_within before few fields.ObjectColour own given next s w =
+    rw s.3 (record { set = w.set; colour = ltb-true _ _ (and-left (is_colour before s.0) (is_free before false s.0) s.2); region = w.region })
+kind_within before few (fields.ObjectColours most alone) own given next s w = rw s.4 (record { set = w.set; colour = w.colour; region = w.region })
 
 all_within : (before : List Item) → length (colour_names before) ≤ MAX_COLOURS → (row : List Field) (args : List (List ℕ)) (given last : Given) → SpellAll before row args given last
     → IsGivenWithin (length (region_names before)) (length (colour_names before)) given → IsGivenWithin (length (region_names before)) (length (colour_names before)) last

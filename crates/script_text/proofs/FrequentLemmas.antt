@@ -13,7 +13,7 @@ use Rattle.script_text.specs.declared.script.Reason.TheVariants as reasons
 use Rattle.script_text.specs.declared.commands.Word.TheVariants as words
 use Rattle.script_text.specs.declared.item.Item.TheVariants as items
 use Rattle.script_text.specs.declared.known.Known.{Known}
-use Rattle.script_text.specs.Pieces.{fields_of, names_in, is_ascii_line, is_between, is_text}
+use Rattle.script_text.specs.Pieces.{fields_of, names_in, is_ascii_line, is_between, is_text, is_transactional}
 use Rattle.script_text.specs.Words.{word_text}
 use Rattle.script_text.specs.Items.{is_begun}
 use Rattle.script_text.specs.Grammar.{is_passed_over}
@@ -57,12 +57,12 @@ stripped bytes word None m = tt
 
 -- ---- what is asked for
 
-pub append_read : (known : Known) (args cols text : List ℕ) (set : Colours × ℕ) → fields_of args ≡ cols ∷ fields_of text → is_text text ≡ true
+pub append_read : (known : Known) (args cols text : List ℕ) (set : Colours × ℕ) → fields_of args ≡ cols ∷ fields_of text → is_text text ≡ true → is_transactional text ≡ false
     → colours_set_at known.script.colours (names_in cols) ≡ Ok set → with_two (append_at known) (fields_of args) ≡ Ok (whats.Append set.0 text)
 unfolding append_at text_at
-append_read known args cols text set fields h read =
+append_read known args cols text set fields h plain read =
     let whole = cut_whole text (text_front text h) in
-    rw (fields, whole.0, read, h) refl
+    rw (fields, whole.0, read, h, plain) refl
 
 pub sync_read : (known : Known) (field : List ℕ) (colour : ℕ) → IsVisibleFront field (length field)
     → number_at reasons.UnknownColour known.script.colours field ≡ Ok colour → with_one (sync_at known) (fields_of field) ≡ Ok (whats.Sync colour)

@@ -1,5 +1,5 @@
 -- A header line gives an item exactly where it says one that may follow.
-use Rattle.std.proofs.Common.{◌≡◌, ℕ, ◌+◌, ◌<◌, ◌≤◌, true, false, not, ◌&&◌, ltb, leb, inl, inr, List, [], ◌∷◌, length, map, drop, Option, Some, None, Result, Ok, refl, sym, ap, subst, ◌∙◌, codes, arith}
+use Rattle.std.proofs.Common.{◌≡◌, ℕ, ◌+◌, ◌<◌, ◌≤◌, Bool, true, false, not, ◌&&◌, ltb, leb, inl, inr, List, [], ◌∷◌, length, map, drop, Option, Some, None, Result, Ok, refl, sym, ap, subst, ◌∙◌, codes, arith}
 use Rattle.std.specs.List.{list_all}
 use Rattle.std.specs.Option.{is_some}
 use Rattle.std.specs.Fmt.{decimal}
@@ -26,7 +26,7 @@ use Rattle.script_text.specs.declared.limits.Limits.{Limits}
 use Rattle.script_text.specs.Pieces.{is_among, is_between, is_number, number_value, name_of}
 use Rattle.script_text.specs.Versions.{is_version}
 use Rattle.script_text.specs.Items.{header_words, may_declare, may_begin, stage_of, version_of, may_come, limits_of, region_names, colour_names, client_names, objects, object_names}
-use Rattle.script_text.specs.Grammar.{SpellsNumber, may_follow, are_new_names, are_new_numbers, are_colours, is_region, is_colour, colour_name, SpellAll}
+use Rattle.script_text.specs.Grammar.{SpellsNumber, may_follow, are_new_names, are_new_numbers, are_colours, is_region, is_colour, is_free, colour_name, SpellAll}
 use Rattle.script_text.specs.Laws.{Follows}
 use Rattle.script_text.specs.Known.{known_of}
 use Rattle.script_text.specs.Readings.{◌>>=◌, refuse, number_at, new_name_at, new_names_at}
@@ -167,6 +167,7 @@ sort_kind sorts.Tx given = refl
 sort_kind sorts.Causal given = refl
 sort_kind sorts.Queue given = refl
 sort_kind sorts.Tree given = refl
+sort_kind sorts.Parts given = refl
 
 sort_ok : (version : ℕ) (word : List ℕ) (sort : Sort) → sort_at version word ≡ Some sort → word ≡ sort_text sort
 sort_ok version word sort e =
@@ -422,20 +423,21 @@ one_more : (args : List (List ℕ)) → length args ≤ length (drop 1 args) + 1
 one_more [] = omega arith
 one_more (a ∷ args) = omega arith
 
-few_sharded : (before : List Item) (args : List (List ℕ)) (order : List ℕ) → IsLawful (known_of before) → drop 1 args ≡ map (colour_name before) order → are_colours before order ≡ true
-    → length args ≤ (limits_of before).colours + 1
-few_sharded before args order l named ok =
+few_sharded : (before : List Item) (alone : Bool) (args : List (List ℕ)) (order : List ℕ) → IsLawful (known_of before) → drop 1 args ≡ map (colour_name before) order
+    → are_colours before order && list_all (is_free before alone) order ≡ true → length args ≤ (limits_of before).colours + 1
+few_sharded before alone args order l named ok =
     let one = one_more args in
     let same = ap length named ∙ length-map order (colour_name before) in
-    let few = few_order before order l ok in
+    let few = few_order before order l (and_parts (are_colours before order) (list_all (is_free before alone) order) ok).0 in
     omega (arith, one, same, few)
 
 -- an object's fields are no more than the version allows
 few_fields : (before : List Item) (sort : Sort) (args : List (List ℕ)) (given : Given) → IsLawful (known_of before) → SpellAll before (sort_fields sort) args nothing given
     → length args ≤ (limits_of before).colours + 1
-few_fields before sorts.Map args given l s = few_sharded before args s.2.1.0 l s.2.1.1 s.2.1.2
-few_fields before sorts.Tx args given l s = few_sharded before args s.2.1.0 l s.2.1.1 s.2.1.2
-few_fields before sorts.Tree args given l s = few_sharded before args s.2.1.0 l s.2.1.1 s.2.1.2
+few_fields before sorts.Map args given l s = few_sharded before false args s.2.1.0 l s.2.1.1 s.2.1.2
+few_fields before sorts.Tx args given l s = few_sharded before false args s.2.1.0 l s.2.1.1 s.2.1.2
+few_fields before sorts.Tree args given l s = few_sharded before false args s.2.1.0 l s.2.1.1 s.2.1.2
+few_fields before sorts.Parts args given l s = few_sharded before true args s.2.1.0 l s.2.1.1 s.2.1.2
 few_fields before sorts.Causal args given l s =
     let one = one_more args in
     let last = ap length s.2.0 in
@@ -444,7 +446,7 @@ few_fields before sorts.Queue args given l s =
     let one = one_more args in
     let two = one_more (drop 1 args) in
     let last = ap length s.2.2.0 in
-    let named = ltb-true s.2.1.0 (length (colour_names before)) s.2.1.2 in
+    let named = ltb-true s.2.1.0 (length (colour_names before)) (and_parts (is_colour before s.2.1.0) (is_free before false s.2.1.0) s.2.1.2).0 in
     let few = l.few in
     omega (arith, one, two, last, named, few)
 

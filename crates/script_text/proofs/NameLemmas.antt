@@ -185,7 +185,7 @@ named_among names (m ∷ ns) n h lt below fresh =
       some_number : ℕ → Option ℕ
       some_number k = Some k
 
-colour_again : (names earlier : List (List ℕ)) (n : ℕ) → are_new_names [] names ≡ true → n < length names → is_among earlier (name_of names n) ≡ false → colour_at names earlier (name_of names n) ≡ Ok n
+pub colour_again : (names earlier : List (List ℕ)) (n : ℕ) → are_new_names [] names ≡ true → n < length names → is_among earlier (name_of names n) ≡ false → colour_at names earlier (name_of names n) ≡ Ok n
 unfolding colour_at
 colour_again names earlier n h lt apart = rw (number_at_again reasons.UnknownColour names n h lt, apart) refl
 

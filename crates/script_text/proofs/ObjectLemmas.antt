@@ -1,5 +1,5 @@
 -- The objects that a script declares, and the commands that use them.
-use Rattle.std.proofs.Common.{◌≡◌, ℕ, ◌<◌, Bool, true, false, List, [], ◌∷◌, ◌++◌, length, Some, None, refl, ap, sym, subst, ◌∙◌, leb-true, ltb-true}
+use Rattle.std.proofs.Common.{◌≡◌, ℕ, ◌<◌, Bool, true, false, ◌&&◌, List, [], ◌∷◌, ◌++◌, length, Some, None, refl, ap, sym, subst, ◌∙◌, leb-true, ltb-true}
 use Rattle.std.specs.Prelude.{IsTrue, codes}
 use Rattle.std.specs.List.{All, list_all}
 use Rattle.std.proofs.lemmas.List.Elements.{All-nil}
@@ -18,7 +18,7 @@ use Rattle.script_text.specs.declared.item.Stage.TheVariants as stages
 use Rattle.script_text.specs.Table.{nothing, sort_fields, sort_text, sort_of, kind_of}
 use Rattle.script_text.specs.Commands.{word_of}
 use Rattle.script_text.specs.Items.{stage_after, stage_of, may_begin, may_come, version_of, regions_in, colours_in, objects_in, commands_in, last_said, region_names, colour_names, client_homes, objects, commands}
-use Rattle.script_text.specs.Grammar.{may_follow, is_colour, are_colours, SpellAll, SpellsKind, SpellsWhat, Says}
+use Rattle.script_text.specs.Grammar.{may_follow, is_colour, is_free, are_colours, SpellAll, SpellsKind, SpellsWhat, Says}
 use Rattle.script_text.specs.Fitting.{AreObjectColours, IsKindWithin, UsesObject}
 use Rattle.script_text.proofs.CommandRows.{uses_of}
 use Rattle.script_text.proofs.VersionLemmas.{at_fuzzylog}
@@ -60,13 +60,15 @@ all_of P test h [] e = All-nil P
 all_of P test h (x ∷ xs) e =
     All-cons P x xs (h x (and-left (test x) (list_all test xs) e)) (all_of P test h xs (and-right (test x) (list_all test xs) e))
 
-colours_within : (before : List Item) (order : List ℕ) → IsTrue (are_colours before order)
+colours_within : (before : List Item) (alone : Bool) (order : List ℕ) → IsTrue (are_colours before order && list_all (is_free before alone) order)
     → AreObjectColours (length (colour_names before)) order
-colours_within before order ok = record {
-  some = leb-true _ _ (and-left _ _ (and-left _ _ ok));
-  below = all_of (λ c. c < length (colour_names before)) (is_colour before) (λ c e. ltb-true _ _ e) order
-      (and-right _ _ ok);
-}
+colours_within before alone order ok =
+    let lawful : are_colours before order ≡ true = and-left _ _ ok in
+    record {
+      some = leb-true _ _ (and-left _ _ (and-left _ _ lawful));
+      below = all_of (λ c. c < length (colour_names before)) (is_colour before) (λ c e. ltb-true _ _ e) order
+          (and-right _ _ lawful);
+    }
 
 kind_is : (before : List Item) (args : List (List ℕ)) (sort : Sort) (given : Given)
     → SpellAll before (sort_fields sort) args nothing given
@@ -74,22 +76,26 @@ kind_is : (before : List Item) (args : List (List ℕ)) (sort : Sort) (given : G
 kind_is before args sorts.Map given s =
     let whole = s.2.2.1 ∙ (s.2.1.4 ∙ ap (λ (g : Given). record g { order = s.2.1.0 }) s.1.3) in
     subst (λ (g : Given). IsKindWithin (length (region_names before)) (length (colour_names before)) (kind_of sorts.Map g))
-    (sym whole) (ltb-true _ _ s.1.2, colours_within before s.2.1.0 s.2.1.2)
+    (sym whole) (ltb-true _ _ s.1.2, colours_within before false s.2.1.0 s.2.1.2)
 kind_is before args sorts.Tx given s =
     let whole = s.2.2.1 ∙ (s.2.1.4 ∙ ap (λ (g : Given). record g { order = s.2.1.0 }) s.1.3) in
     subst (λ (g : Given). IsKindWithin (length (region_names before)) (length (colour_names before)) (kind_of sorts.Tx g))
-    (sym whole) (ltb-true _ _ s.1.2, colours_within before s.2.1.0 s.2.1.2)
+    (sym whole) (ltb-true _ _ s.1.2, colours_within before false s.2.1.0 s.2.1.2)
 kind_is before args sorts.Tree given s =
     let whole = s.2.2.1 ∙ (s.2.1.4 ∙ ap (λ (g : Given). record g { order = s.2.1.0 }) s.1.3) in
     subst (λ (g : Given). IsKindWithin (length (region_names before)) (length (colour_names before)) (kind_of sorts.Tree g))
-    (sym whole) (ltb-true _ _ s.1.2, colours_within before s.2.1.0 s.2.1.2)
+    (sym whole) (ltb-true _ _ s.1.2, colours_within before false s.2.1.0 s.2.1.2)
+kind_is before args sorts.Parts given s =
+    let whole = s.2.2.1 ∙ (s.2.1.4 ∙ ap (λ (g : Given). record g { order = s.2.1.0 }) s.1.3) in
+    subst (λ (g : Given). IsKindWithin (length (region_names before)) (length (colour_names before)) (kind_of sorts.Parts g))
+    (sym whole) (ltb-true _ _ s.1.2, colours_within before true s.2.1.0 s.2.1.2)
 kind_is before args sorts.Causal given s =
     subst (λ (g : Given). IsKindWithin (length (region_names before)) (length (colour_names before)) (kind_of sorts.Causal g))
-    (sym (s.2.1 ∙ s.1.3)) (ltb-true _ _ s.1.2)
+    (sym (s.2.1 ∙ s.1.3)) (ltb-true _ _ (and-left _ _ s.1.2))
 kind_is before args sorts.Queue given s =
     let whole = s.2.2.1 ∙ (s.2.1.3 ∙ ap (λ (g : Given). record g { colour = s.2.1.0 }) s.1.3) in
     subst (λ (g : Given). IsKindWithin (length (region_names before)) (length (colour_names before)) (kind_of sorts.Queue g))
-    (sym whole) (ltb-true _ _ s.1.2, ltb-true _ _ s.2.1.2)
+    (sym whole) (ltb-true _ _ s.1.2, ltb-true _ _ (and-left _ _ s.2.1.2))
 
 -- ONE MORE ITEM
 

@@ -26,6 +26,7 @@ sort_full sorts.Tx = refl
 sort_full sorts.Causal = refl
 sort_full sorts.Queue = refl
 sort_full sorts.Tree = refl
+sort_full sorts.Parts = refl
 
 pub says_full : (before : List Item) (number : ℕ) (fields : List (List ℕ)) (item : Item) → IsLawful (known_of before) → Follows before number fields item → any_empty fields ≡ false
 says_full before number fields (items.Version version) l f =

@@ -1,5 +1,6 @@
 -- A reading gives the reason of the first test that holds.
 use Rattle.std.proofs.Common.{◌≡◌, ℕ, suc, Bool, true, false, not, eqb, List, [], ◌∷◌, ◌++◌, length, map, Option, Some, None, Result, Ok, Err, refl, ◌∙◌, append_assoc, inl, inr, arith}
+use Rattle.std.specs.Prelude.{unwrap_or}
 use Rattle.std.specs.List.{find}
 use Rattle.std.specs.Str.{bytes_eq}
 use Rattle.std.specs.Option.{option_map}
@@ -12,10 +13,12 @@ use Rattle.script_text.specs.declared.item.Item.{Item}
 use Rattle.script_text.specs.Table.{is_of}
 use Rattle.script_text.specs.Pieces.{is_name, is_key, is_path, is_text, is_among, number_of}
 use Rattle.script_text.specs.Items.{colour_names, objects}
+use Rattle.script_text.specs.Apart.{is_taken, is_reserved}
 use Rattle.script_text.specs.Grammar.{has_equals, key_in, value_in}
-use Rattle.script_text.specs.Faults.{when, first_of, each_field, new_name, colour_field, colour_fields, text_field, value_field, path_field, key_field, pair_field, is_unknown, is_other, object_field}
-use Rattle.script_text.specs.Readings.{◌>>=◌, refuse, found_or, number_at, new_name_at, each_at, colour_at, text_at, value_at, path_at, key_at, new_pair_at, pair_at, object_at, with_none, with_one, with_two}
+use Rattle.script_text.specs.Faults.{when, first_of, each_field, new_name, colour_field, colour_fields, object_colour_field, text_field, value_field, path_field, key_field, pair_field, is_unknown, is_other, object_field}
+use Rattle.script_text.specs.Readings.{◌>>=◌, refuse, found_or, number_at, new_name_at, each_at, colour_at, object_colour_at, text_at, value_at, path_at, key_at, new_pair_at, pair_at, object_at, with_none, with_one, with_two}
 use Rattle.script_text.proofs.EachLemmas.{Reader}
+use Rattle.script_text.proofs.NameLemmas.{found_ok, colour_ok}
 
 -- where a value is read no test holds; else the reason is that of the first that does
 abbrev pub Tests : {A : Type 0} → List (Option Reason) → Result A Reason → Type 0
@@ -77,9 +80,12 @@ new_name_tests names field =
     tests_refuse (not (is_name field)) reasons.BadName (when (is_among names field) reasons.NameRepeated ∷ []) (refuse (is_among names field) reasons.NameRepeated (Ok field)) (λ _.
     tests_refuse (is_among names field) reasons.NameRepeated [] (Ok field) (λ _. tests_ok field))
 
-pub text_tests : (field : List ℕ) → Tests (text_field field) (text_at field)
+pub text_tests : (before : List Item) (field : List ℕ) → Tests (text_field before field) (text_at (objects before) field)
 unfolding text_at
-text_tests field = tests_refuse (not (is_text field)) reasons.TextLength [] (Ok field) (λ _. tests_ok field)
+text_tests before field =
+    let reserved = is_reserved (objects before) field in
+    tests_refuse (not (is_text field)) reasons.TextLength (when reserved reasons.ReservedText ∷ []) (refuse reserved reasons.ReservedText (Ok field)) (λ _.
+    tests_refuse reserved reasons.ReservedText [] (Ok field) (λ _. tests_ok field))
 
 pub value_tests : (field : List ℕ) → Tests (value_field field) (value_at field)
 unfolding value_at
@@ -121,6 +127,22 @@ colour_tests before earlier field =
 
 pub colours_tests : (before : List Item) (fields : List (List ℕ)) → Tests (colour_fields before fields) (each_at (colour_at (colour_names before)) [] fields)
 colours_tests before fields = each_tests (λ earlier field. colour_field before field ++ when (is_among earlier field) reasons.ColourRepeated ∷ []) (colour_at (colour_names before)) (colour_tests before) [] fields
+
+-- the number that is read is the name's
+number_is : (why : Reason) (names : List (List ℕ)) (field : List ℕ) (n : ℕ) → number_at why names field ≡ Ok n → number_of names field ≡ Some n
+unfolding number_at
+number_is why names field n e = found_ok why (number_of names field) n e
+
+pub object_colour_tests : (before : List Item) (alone : Bool) (earlier : List (List ℕ)) (field : List ℕ)
+    → Tests (object_colour_field before alone earlier field) (object_colour_at (objects before) (colour_names before) alone earlier field)
+unfolding object_colour_at
+object_colour_tests before alone earlier field =
+    let names = colour_names before in
+    tests_then (colour_field before field ++ when (is_among earlier field) reasons.ColourRepeated ∷ [])
+    (when (is_taken (objects before) alone (unwrap_or (number_of names field) 0)) reasons.ColourTaken ∷ []) (colour_at names earlier field)
+    (λ colour. refuse (is_taken (objects before) alone colour) reasons.ColourTaken (Ok colour)) (colour_tests before earlier field) (λ colour e.
+    rw (number_is reasons.UnknownColour names field colour (colour_ok names earlier field colour e).0)
+    (tests_refuse (is_taken (objects before) alone colour) reasons.ColourTaken [] (Ok colour) (λ _. tests_ok colour)))
 
 -- ---- objects
 

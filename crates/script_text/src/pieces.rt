@@ -2,7 +2,7 @@
 ghost use Rattle.std.specs.Prelude.{◌≡◌, ◌<◌, ◌≤◌, ◌==◌, ◌↔◌, [], ◌∷◌, ℕ, true, false, ◌+◌, length, drop, map, slice_index_or, Ok, IfOk, IsNone, IfSome, IsTrue};
 ghost use Rattle.std.specs.List.{list_all};
 ghost use Rattle.script_text.specs.declared.limits.TheConstants.{ROWS_DIGITS};
-ghost use Rattle.script_text.specs.Pieces.{lines_of, fields_of, is_between, is_ascii_line, is_letter_or_digit, is_name, is_key, is_text, is_among, is_digit, is_number, number_value};
+ghost use Rattle.script_text.specs.Pieces.{lines_of, fields_of, is_between, is_ascii_line, is_letter_or_digit, is_name, is_key, is_text, is_transactional, is_among, is_digit, is_number, number_value};
 ghost use Rattle.script_text.specs.Grammar.{has_equals, key_in, value_in};
 ghost use Rattle.script_text.specs.Readings.{fields_in};
 
@@ -144,7 +144,10 @@ pub fn is_text(field: &[u8]) -> bool
 pub fn is_transactional(field: &[u8]) -> bool
     ensures { result ≡ is_transactional field.now }
 {
-    matches!(field, [b't' | b'z', b':', ..])
+    match field {
+        [first, second, ..] => (*first == b't' || *first == b'z') && *second == b':',
+        _ => false,
+    }
 }
 
 /// The name is one of these.

@@ -10,4 +10,4 @@ returns-clause-full c =
 pub returns-clause-what : goal.returns-clause-what
 returns-clause-what c =
     let cut = c.in-Some.ensures in
-    rw c.in_ok-text.ensures (append_read c.args.known.now c.args.args.now c.in-Some.cols.now c.in-Some.text.now _ cut.fields (sym c.if-not-is_text.ensures) c.in-Ok.ensures.value)
+    rw c.in_ok-text.ensures (append_read c.args.known.now c.args.args.now c.in-Some.cols.now c.in-Some.text.now _ cut.fields (sym c.if-not-is_text.ensures) (sym c.if-is_transactional.ensures) c.in-Ok.ensures.value)
