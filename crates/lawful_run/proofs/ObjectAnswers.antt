@@ -49,6 +49,18 @@ pub one_shard : (colours key : List ℕ) → shard_of colours key < MAX_COLOURS
 one_shard colours key low =
     sym (members-set_of (shard_of colours key ∷ [])) ∙ members-one (shard_of colours key) low
 
+-- what asks for a key gets, and syncs the key's shard
+pub key_gets : (what : What) (object : ℕ) (key : List ℕ) → AsksForKey what object key → manner_of what ≡ Getting
+key_gets what object key asks = ap (λ (d : Deed). d.manner) asks.gets
+
+pub key_synced : (caller : Caller) (what : What) (object : ℕ) (key : List ℕ) (kind : Option Kind)
+    → AsksForKey what object key → kind_of_object caller object ≡ kind
+    → colours_synced caller what ≡ shards (object_colours kind) (key ∷ [])
+key_synced caller what object key kind asks at =
+    ap (λ (d : Deed). colours_reached (object_colours (kind_asked caller what)) d.syncs) asks.gets
+    ∙ (ap (λ (u : Use). shards (object_colours (kind_used caller u)) (key ∷ [])) asks.uses
+    ∙ ap (λ (k : Option Kind). shards (object_colours k) (key ∷ [])) at)
+
 module _ (log : Log) (caller : Caller) (kept : Kept) where
   -- A put, a deletion, several puts at once and an enqueue are explained by their append.
   pub explains_append : (what : What) (colours : Colours) (text : List ℕ) (stamp : ℕ) (row : Option ℕ)
@@ -85,7 +97,8 @@ module _ (log : Log) (caller : Caller) (kept : Kept) where
 
   -- A get of a map is explained by a sync of the key's shard, and the fold of the own nodes that its snapshot counts.
   pub explains_get : (what : What) (object home : ℕ) (colours key : List ℕ) (sync : SyncPiece) (nodes : List ObjectNode)
-      → AsksForKey what object key → kind_of_object caller object ≡ Some (kinds.Map home colours) → shard_of colours key < MAX_COLOURS
+      → AsksForKey what object key → kind_of_object caller object ≡ Some (kinds.Map home colours)
+      → shard_of colours key < MAX_COLOURS
       → sync.colour ≡ shard_of colours key → Syncs log caller kept sync.colour sync.events sync.counts
       → AreObjectNodes log (own_played log caller sync) nodes
       → Explains log caller kept what
@@ -98,9 +111,8 @@ module _ (log : Log) (caller : Caller) (kept : Kept) where
     home,
     colours,
     kind,
-    ap (λ (d : Deed). colours_reached (object_colours (kind_asked caller what)) d.syncs) asks.gets
-        ∙ ap (λ (u : Use). shards (object_colours (kind_used caller u)) (key ∷ [])) asks.uses
-        ∙ ap (λ (k : Option Kind). shards (object_colours k) (key ∷ [])) kind ∙ (one_shard colours key low ∙ ap (λ (c : ℕ). c ∷ []) (sym shard)),
+    key_synced caller what object key (Some (kinds.Map home colours)) asks kind
+        ∙ (one_shard colours key low ∙ ap (λ (c : ℕ). c ∷ []) (sym shard)),
     syncs,
     record { nodes = nodes; played = played; value_is = refl },
     refl,
