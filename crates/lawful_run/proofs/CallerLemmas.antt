@@ -8,7 +8,7 @@ pub use Rattle.lawful_run.proofs.LaterReads.{raise_later, raises_later, syncs_la
 pub use Rattle.lawful_run.proofs.LettingGo.{before_is, behind_is, asks_before, commit_asks}
 pub use Rattle.lawful_run.proofs.Prefixes.{get-append, get_within, prefix_get, prefix_length, prefix_take}
 pub use Rattle.lawful_run.proofs.ObjectAnswers.{explains_append, explains_next, explains_moved, explains_get, explains_values, explains_get_trimmed, explains_get_without}
-pub use Rattle.lawful_run.proofs.ObjectAnswers.{explains_take, explains_unread, explains_unread_without, explains_away, one_shard}
+pub use Rattle.lawful_run.proofs.ObjectAnswers.{explains_take, explains_unread, explains_unread_without, explains_away, key_gets, key_synced, one_shard}
 pub use Rattle.lawful_run.proofs.ObjectAnswers.{explains_read, explains_verdict, explains_unruled, explains_unruled_without, explains_no_read}
 pub use Rattle.lawful_run.proofs.ObjectAnswers.{explains_change, explains_names}
 pub use Rattle.lawful_run.proofs.Places.{more_places, range_more, same_places}

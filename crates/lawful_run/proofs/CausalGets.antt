@@ -1,5 +1,5 @@
 -- A get of a causal map answers by nodes of the closing lines of all regions.
-use Rattle.std.proofs.Common.{◌≡◌, ◌<◌, ℕ, List, Some, slice_get, ap, ◌∙◌}
+use Rattle.std.proofs.Common.{◌≡◌, ◌<◌, ℕ, List, Some, slice_get, ap, refl, ◌∙◌}
 use Rattle.log_node.specs.declared.ids.Key.{Key}
 use Rattle.object_fold.specs.Causal.{ChainNode}
 use Rattle.col_core.specs.History.{line}
@@ -60,9 +60,11 @@ causal_gets_are_folds script report fits run client n reply h values sync is l c
     let own = (caller_of script client).own in
     let w = closing_line script report fits run own sync.colour l closing in
     let g = x.6 in (
+      r.command.what,
+      (r.command, r.asked, refl),
       x.1,
       x.2,
-      (r.command, r.asked, x.3),
+      x.3,
       x.4,
       g.nodes,
       all_zip_of (IsChainNode run.log (chain own (first run.log own sync.colour sync.events)))

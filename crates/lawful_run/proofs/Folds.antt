@@ -296,9 +296,11 @@ gets_are_folds script report fits run client n reply h value sync is l closing =
     let own = (caller_of script client).own in
     let g = x.9 in
     let keys = played_first script report fits run client r.kept sync x.8 l closing in (
+      r.command.what,
+      (r.command, r.asked, refl),
       x.1,
       x.2,
-      (r.command, r.asked, x.3),
+      x.3,
       x.4,
       x.5,
       x.6,

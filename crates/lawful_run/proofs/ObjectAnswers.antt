@@ -28,14 +28,15 @@ use Rattle.script_text.specs.declared.script.Kind.{Kind}
 use Rattle.script_text.specs.declared.script.Kind.TheVariants as kinds
 use Rattle.script_text.specs.declared.commands.What.{What}
 use Rattle.script_text.specs.declared.commands.What.TheVariants as whats
+use Rattle.script_text.specs.declared.uses.Use.{Use}
 use Rattle.report_text.specs.declared.report.Answer.TheVariants as answers
 use Rattle.report_text.specs.declared.report.KeyAnswer.{KeyAnswer}
 use Rattle.report_text.specs.declared.report.PointPiece.{PointPiece}
 use Rattle.report_text.specs.declared.report.RaisePiece.{RaisePiece}
 use Rattle.report_text.specs.declared.report.SyncPiece.{SyncPiece}
 use Rattle.lawful_run.specs.Callers.{Caller, node_of}
-use Rattle.lawful_run.specs.Asks.{kind_of_object, object_colours, colours_of_object, home_of_object, home_asked, rising, shards, Appending, Getting, Committing, Dequeuing, Manner}
-use Rattle.lawful_run.specs.Deeds.{colours_synced, AsksToAppend, manner_of}
+use Rattle.lawful_run.specs.Asks.{kind_of_object, object_colours, colours_of_object, home_of_object, home_asked, kind_asked, kind_used, rising, shards, Appending, Getting, Committing, Dequeuing, Manner}
+use Rattle.lawful_run.specs.Deeds.{AsksForKey, Deed, colours_reached, colours_synced, AsksToAppend, manner_of}
 use Rattle.lawful_run.specs.Appends.{Appends, AppendsUnshown, IsSoLong, WasNext}
 use Rattle.lawful_run.specs.Reads.{Syncs, IsTrimmed, HidesSyncs, kept_after_piece, ReadsAt, AreKeysRead, HidesRead, RefusesRead}
 use Rattle.lawful_run.specs.Objects.{AreObjectNodes, AreAnswers, IsChainNode, TakesFront, own_played, places_within, shown_verdict}
@@ -47,6 +48,18 @@ pub one_shard : (colours key : List ℕ) → shard_of colours key < MAX_COLOURS
     → shards colours (key ∷ []) ≡ shard_of colours key ∷ []
 one_shard colours key low =
     sym (members-set_of (shard_of colours key ∷ [])) ∙ members-one (shard_of colours key) low
+
+-- what asks for a key gets, and syncs the key's shard
+pub key_gets : (what : What) (object : ℕ) (key : List ℕ) → AsksForKey what object key → manner_of what ≡ Getting
+key_gets what object key asks = ap (λ (d : Deed). d.manner) asks.gets
+
+pub key_synced : (caller : Caller) (what : What) (object : ℕ) (key : List ℕ) (kind : Option Kind)
+    → AsksForKey what object key → kind_of_object caller object ≡ kind
+    → colours_synced caller what ≡ shards (object_colours kind) (key ∷ [])
+key_synced caller what object key kind asks at =
+    ap (λ (d : Deed). colours_reached (object_colours (kind_asked caller what)) d.syncs) asks.gets
+    ∙ (ap (λ (u : Use). shards (object_colours (kind_used caller u)) (key ∷ [])) asks.uses
+    ∙ ap (λ (k : Option Kind). shards (object_colours k) (key ∷ [])) at)
 
 module _ (log : Log) (caller : Caller) (kept : Kept) where
   -- A put, a deletion, several puts at once and an enqueue are explained by their append.
@@ -83,37 +96,40 @@ module _ (log : Log) (caller : Caller) (kept : Kept) where
   explains_moved colour text lined waiting events so_long moved = (refl, text, refl, so_long, moved, refl)
 
   -- A get of a map is explained by a sync of the key's shard, and the fold of the own nodes that its snapshot counts.
-  pub explains_get : (object home : ℕ) (colours key : List ℕ) (sync : SyncPiece) (nodes : List ObjectNode)
-      → kind_of_object caller object ≡ Some (kinds.Map home colours) → shard_of colours key < MAX_COLOURS
+  pub explains_get : (what : What) (object home : ℕ) (colours key : List ℕ) (sync : SyncPiece) (nodes : List ObjectNode)
+      → AsksForKey what object key → kind_of_object caller object ≡ Some (kinds.Map home colours)
+      → shard_of colours key < MAX_COLOURS
       → sync.colour ≡ shard_of colours key → Syncs log caller kept sync.colour sync.events sync.counts
       → AreObjectNodes log (own_played log caller sync) nodes
-      → Explains log caller kept (whats.Get object key)
+      → Explains log caller kept what
       (answers.Got (shard_value colours sync.colour nodes key) sync) [] (kept_after_piece log caller kept sync)
-  explains_get object home colours key sync nodes kind low shard syncs played = (
+  explains_get what object home colours key sync nodes asks kind low shard syncs played = (
     refl,
     object,
     key,
-    refl,
+    asks,
     home,
     colours,
     kind,
-    ap (λ (k : Option Kind). shards (object_colours k) (key ∷ [])) kind ∙ (one_shard colours key low ∙ ap (λ (c : ℕ). c ∷ []) (sym shard)),
+    key_synced caller what object key (Some (kinds.Map home colours)) asks kind
+        ∙ (one_shard colours key low ∙ ap (λ (c : ℕ). c ∷ []) (sym shard)),
     syncs,
     record { nodes = nodes; played = played; value_is = refl },
     refl,
   )
 
   -- A get of a causal map is explained by a sync of its colour, and the answer over all nodes that its snapshot counts.
-  pub explains_values : (object : ℕ) (key : List ℕ) (sync : SyncPiece) (nodes : List ChainNode)
-      (values : List (List ℕ)) → kind_of_object caller object ≡ Some (kinds.Causal sync.colour)
+  pub explains_values : (what : What) (object : ℕ) (key : List ℕ) (sync : SyncPiece) (nodes : List ChainNode)
+      (values : List (List ℕ)) → AsksForKey what object key
+      → kind_of_object caller object ≡ Some (kinds.Causal sync.colour)
       → Syncs log caller kept sync.colour sync.events sync.counts
       → AllZip (IsChainNode log (chain caller.own (first log caller.own sync.colour sync.events)))
       (places_within sync.counts) nodes
       → IsCausalAnswer nodes key values
-      → Explains log caller kept (whats.Get object key) (answers.GotMany values sync) []
+      → Explains log caller kept what (answers.GotMany values sync) []
       (kept_after_piece log caller kept sync)
-  explains_values object key sync nodes values kind syncs played answer =
-      (refl, object, key, refl, kind, syncs, record { nodes = nodes; played = played; answer = answer }, refl)
+  explains_values what object key sync nodes values asks kind syncs played answer =
+      (refl, object, key, asks, kind, syncs, record { nodes = nodes; played = played; answer = answer }, refl)
 
   -- A get that is refused, or finds no memory after its sync.
   pub explains_get_trimmed : (what : What) (colour : ℕ) (base : Counts) (after : Kept) → manner_of what ≡ Getting

@@ -13,7 +13,7 @@ use Rattle.col_core.specs.Keeping.{Kept}
 use Rattle.script_text.specs.declared.script.Kind.{Kind}
 use Rattle.script_text.specs.declared.commands.What.{What}
 use Rattle.script_text.specs.declared.commands.What.TheVariants as whats
-use Rattle.script_text.specs.declared.uses.ReadUse.TheVariants.{UsesUp}
+use Rattle.script_text.specs.declared.uses.ReadUse.TheVariants.{Leaves, UsesUp}
 use Rattle.script_text.specs.declared.uses.Use.{Use}
 use Rattle.script_text.specs.declared.uses.Use.TheVariants.{OfObject}
 use Rattle.script_text.specs.Commands.{use_of}
@@ -74,6 +74,11 @@ deed_of (whats.Ls object path) = record { manner = Reading; syncs = Whole }
 -- the manner of a command
 abbrev pub manner_of : What → Manner
 manner_of what = (deed_of what).manner
+
+-- the command gets by one key of an object: it syncs the key's shard alone
+pub record AsksForKey (what : What) (object : ℕ) (key : List ℕ) : Type 0 where
+  pub uses : use_of what ≡ OfObject object Leaves
+  pub gets : deed_of what ≡ record { manner = Getting; syncs = ShardsOf (key ∷ []) }
 
 -- the colours that a command syncs, in rising number
 abbrev pub colours_synced : Caller → What → List ℕ

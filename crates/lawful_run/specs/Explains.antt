@@ -29,7 +29,7 @@ use Rattle.report_text.specs.declared.report.PointPiece.{PointPiece}
 use Rattle.report_text.specs.declared.report.ReplyLine.{ReplyLine}
 use Rattle.lawful_run.specs.Callers.{Caller, node_of}
 use Rattle.lawful_run.specs.Asks.{kind_of_object, home_of_object, colours_of_object, home_asked, Appending, Guarding, Stopping, Committing, Dequeuing, Syncing, Getting, Reading}
-use Rattle.lawful_run.specs.Deeds.{colours_synced, manner_of}
+use Rattle.lawful_run.specs.Deeds.{AsksForKey, colours_synced, manner_of}
 use Rattle.lawful_run.specs.Appends.{Appends, AppendsUnshown, HasNoStamp, HasNoRowLeft, IsSoLong, WasNext}
 use Rattle.lawful_run.specs.Shapes.{AppendsBy, TellsBehind, TellsRead}
 use Rattle.lawful_run.specs.Stops.{Stops}
@@ -106,14 +106,14 @@ Explains log caller kept what (answers.Based at base) nodes after =
     (nodes ≡ []) × (colour : ℕ) × (what ≡ whats.Trim colour) × (place : ℕ) × (at ≡ Event place)
     × Trims log caller kept colour place base × (after ≡ kept_after_event kept caller.own colour place)
 Explains log caller kept what (answers.Got value sync) nodes after =
-    (nodes ≡ []) × (object : ℕ) × (key : List ℕ) × (what ≡ whats.Get object key)
+    (nodes ≡ []) × (object : ℕ) × (key : List ℕ) × AsksForKey what object key
     × (home : ℕ) × (colours : List ℕ) × (kind_of_object caller object ≡ Some (kinds.Map home colours))
     × (colours_synced caller what ≡ sync.colour ∷ [])
     × Syncs log caller kept sync.colour sync.events sync.counts
     × GetsValue log caller colours sync key value
     × (after ≡ kept_after_piece log caller kept sync)
 Explains log caller kept what (answers.GotMany values sync) nodes after =
-    (nodes ≡ []) × (object : ℕ) × (key : List ℕ) × (what ≡ whats.Get object key)
+    (nodes ≡ []) × (object : ℕ) × (key : List ℕ) × AsksForKey what object key
     × (kind_of_object caller object ≡ Some (kinds.Causal sync.colour))
     × Syncs log caller kept sync.colour sync.events sync.counts
     × GetsValues log caller sync key values

@@ -36,6 +36,7 @@ use Rattle.report_text.specs.declared.report.ColumnReport.{ColumnReport}
 use Rattle.report_text.specs.declared.report.Report.{Report}
 use Rattle.lawful_run.specs.Callers.{caller_of, commands_of}
 use Rattle.lawful_run.specs.Asks.{kind_of_object, colours_of_object}
+use Rattle.lawful_run.specs.Deeds.{AsksForKey}
 use Rattle.lawful_run.specs.Objects.{AreAnswers, places_within, shown_verdict}
 use Rattle.lawful_run.specs.Lawful.{LawfulRun}
 use Rattle.lawful_run.specs.Readings.{HasReply, IsAppend, StandsAtEnd, StandsAtPoints, Nowhere, told}
@@ -87,7 +88,7 @@ GetsAreFolds =
     → (client n : ℕ) (reply : ReplyLine) → HasReply report client n reply
     → (value : Value) (sync : SyncPiece) → reply.answer ≡ answers.Got value sync
     → (line : List Key) → IsClosing report (caller_of script client).own sync.colour line
-    → (object : ℕ) × (key : List ℕ) × Commands script client n (whats.Get object key)
+    → (what : What) × Commands script client n what × (object : ℕ) × (key : List ℕ) × AsksForKey what object key
     × (home : ℕ) × (colours : List ℕ) × (kind_of_object (caller_of script client) object ≡ Some (kinds.Map home colours))
     × (nodes : List ObjectNode) × AreNodesOf run (take (at sync.counts (caller_of script client).own) line) nodes
     × (value ≡ shard_value colours sync.colour nodes key)
@@ -112,7 +113,7 @@ CausalGetsAreFolds =
     → (client n : ℕ) (reply : ReplyLine) → HasReply report client n reply
     → (values : List (List ℕ)) (sync : SyncPiece) → reply.answer ≡ answers.GotMany values sync
     → (line : List Key) → IsClosing report (caller_of script client).own sync.colour line
-    → (object : ℕ) × (key : List ℕ) × Commands script client n (whats.Get object key)
+    → (what : What) × Commands script client n what × (object : ℕ) × (key : List ℕ) × AsksForKey what object key
     × (kind_of_object (caller_of script client) object ≡ Some (kinds.Causal sync.colour))
     × (nodes : List ChainNode) × AllZip (IsChainNodeOf run sync.colour) (places_within sync.counts) nodes
     × IsCausalAnswer nodes key values

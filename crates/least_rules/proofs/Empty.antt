@@ -247,7 +247,7 @@ value_of_nothing = breaks_next a_value_of_nothing 9 (omega arith) (omega arith)
     (replies 7 words.Get (answers.Got (Some (codes "v")) (look x 0 (counts 0 0)))) 9
     (rules_9 1 a_value_of_nothing.script.objects 7 (whats.Get 0 (codes "k"))
     (replies 7 words.Get (answers.Got (Some (codes "v")) (look x 0 (counts 0 0)))) (record {
-      replied = record { line = refl; word = refl; answer = (refl, 0, codes "k", refl, e, x ∷ [], refl, refl) };
+      replied = record { line = refl; word = refl; answer = (refl, 0, codes "k", record { uses = refl; gets = refl }, e, x ∷ [], refl, refl) };
       names = ((omega arith, omega arith), omega arith);
       used = tt;
       stands = tt;

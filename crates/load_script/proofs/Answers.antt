@@ -15,7 +15,7 @@ use Rattle.report_text.specs.declared.report.Answer.TheVariants as answers
 use Rattle.report_text.specs.declared.report.PointPiece.{PointPiece}
 use Rattle.report_text.specs.declared.report.ReplyLine.{ReplyLine}
 use Rattle.lawful_run.specs.Callers.{Caller, node_of}
-use Rattle.lawful_run.specs.Asks.{home_asked, Manner, Appending, Stopping, Syncing, Moving, Getting, Reading, Committing, Dequeuing}
+use Rattle.lawful_run.specs.Asks.{home_asked, Manner, Appending, Syncing, Moving, Getting, Reading, Committing, Dequeuing}
 use Rattle.lawful_run.specs.Deeds.{AsksToAppend, colours_synced, manner_of}
 use Rattle.lawful_run.specs.Appends.{Appends, HasNoStamp, HasNoRowLeft}
 use Rattle.lawful_run.specs.Reads.{Syncs, ShowsPlayed, greatest_stamp}
@@ -23,6 +23,7 @@ use Rattle.lawful_run.specs.Moves.{Pulls, kept_after_pull}
 use Rattle.lawful_run.specs.Refusals.{Refuses, kept_before, kept_behind}
 use Rattle.lawful_run.specs.Explains.{Explains, Answers}
 use Rattle.lawful_run.specs.Readings.{told}
+use Rattle.lawful_run.proofs.CallerLemmas.{key_gets}
 use Rattle.load_script.specs.Summing.{appended, is_node, tells_node}
 use Rattle.load_script.specs.Plain.{IsPlainWhat}
 
@@ -112,8 +113,8 @@ module _ (log : Log) (caller : Caller) (kept : Kept) (what : What) (after : Kept
   comes q (answers.Pulled count give carry) nodes n e = pulled e.1 e.2 count e.4 carry e.6 e.3 refl e.7 e.8
   comes q answers.SameRegion nodes n e = unchanged (ap (λ (w : What). is_node (appended w)) e.3) refl e.1
   comes q (answers.Based shown base) nodes n e = absurd (subst IsPlainWhat e.2 q)
-  comes q (answers.Got value sync) nodes n e = absurd (subst IsPlainWhat e.3 q)
-  comes q (answers.GotMany values sync) nodes n e = absurd (subst IsPlainWhat e.3 q)
+  comes q (answers.Got value sync) nodes n e = absurd (other_manner Getting (key_gets what e.1 e.2 e.3))
+  comes q (answers.GotMany values sync) nodes n e = absurd (other_manner Getting (key_gets what e.1 e.2 e.3))
   comes q (answers.GotKeys stamp shown raises syncs) nodes n e = let t = e.2 in elim t.5 [
     | inl g ↦ absurd (subst IsPlainWhat g.2 q)
     | inr g ↦ absurd (subst IsPlainWhat g.2 q)

@@ -35,26 +35,8 @@ use Rattle.run_rules.proofs.PlayedStamps.{stamps_played}
 
 -- a word of a sync is that of one
 pub sync_manner : (what : What) → is_sync (word_of what) ≡ true → manner_of what ≡ Syncing
-sync_manner (whats.Append colours text) e = absurd (let f : ⊥ = cc (e) in f)
-sync_manner (whats.Stop steps colours text) e = absurd (let f : ⊥ = cc (e) in f)
 sync_manner (whats.Sync colour) e = refl
-sync_manner (whats.Scan colours) e = absurd (let f : ⊥ = cc (e) in f)
-sync_manner (whats.Pull region colour) e = absurd (let f : ⊥ = cc (e) in f)
-sync_manner (whats.Trim colour) e = absurd (let f : ⊥ = cc (e) in f)
-sync_manner (whats.Put object key value) e = absurd (let f : ⊥ = cc (e) in f)
-sync_manner (whats.Get object key) e = absurd (let f : ⊥ = cc (e) in f)
-sync_manner (whats.Del object key) e = absurd (let f : ⊥ = cc (e) in f)
-sync_manner (whats.PutAll object pairs) e = absurd (let f : ⊥ = cc (e) in f)
-sync_manner (whats.GetAll object keys) e = absurd (let f : ⊥ = cc (e) in f)
-sync_manner (whats.Read object keys) e = absurd (let f : ⊥ = cc (e) in f)
-sync_manner (whats.Commit object pairs) e = absurd (let f : ⊥ = cc (e) in f)
-sync_manner (whats.Enq object value) e = absurd (let f : ⊥ = cc (e) in f)
-sync_manner (whats.Deq object) e = absurd (let f : ⊥ = cc (e) in f)
-sync_manner (whats.Only colour text) e = absurd (let f : ⊥ = cc (e) in f)
-sync_manner (whats.Mk object path value) e = absurd (let f : ⊥ = cc (e) in f)
-sync_manner (whats.Rm object path) e = absurd (let f : ⊥ = cc (e) in f)
-sync_manner (whats.Mv object source target) e = absurd (let f : ⊥ = cc (e) in f)
-sync_manner (whats.Ls object path) e = absurd (let f : ⊥ = cc (e) in f)
+sync_manner _ e = absurd (let f : ⊥ = cc (e) in f)
 
 -- a trim is told of a sync alone where nothing is hidden
 pub shown_sync : (what : What) (b : Bool) → is_sync (word_of what) ≡ b → not b ≡ false → manner_of what ≡ Syncing

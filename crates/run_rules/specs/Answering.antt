@@ -16,7 +16,7 @@ use Rattle.report_text.specs.declared.report.RaisePiece.{RaisePiece}
 use Rattle.report_text.specs.declared.report.SyncPiece.{SyncPiece}
 use Rattle.lawful_run.specs.Callers.{Caller}
 use Rattle.lawful_run.specs.Asks.{kind_of_object, home_asked, Appending, Guarding, Stopping, Committing, Dequeuing, Syncing, Getting, Reading}
-use Rattle.lawful_run.specs.Deeds.{colours_synced, manner_of}
+use Rattle.lawful_run.specs.Deeds.{AsksForKey, colours_synced, manner_of}
 use Rattle.run_rules.specs.Told.{colours_asked, is_several}
 
 -- a point for each colour of the node, and a row where there are several
@@ -52,11 +52,11 @@ CanHave caller kept what nodes answers.SameRegion =
     (nodes ≡ []) × (region : ℕ) × (colour : ℕ) × (what ≡ whats.Pull region colour)
 CanHave caller kept what nodes (answers.Based at base) = (nodes ≡ []) × (colour : ℕ) × (what ≡ whats.Trim colour)
 CanHave caller kept what nodes (answers.Got value sync) =
-    (nodes ≡ []) × (object : ℕ) × (key : List ℕ) × (what ≡ whats.Get object key)
+    (nodes ≡ []) × (object : ℕ) × (key : List ℕ) × AsksForKey what object key
     × (home : ℕ) × (colours : List ℕ) × (kind_of_object caller object ≡ Some (kinds.Map home colours))
     × (colours_synced caller what ≡ sync.colour ∷ [])
 CanHave caller kept what nodes (answers.GotMany values sync) =
-    (nodes ≡ []) × (object : ℕ) × (key : List ℕ) × (what ≡ whats.Get object key)
+    (nodes ≡ []) × (object : ℕ) × (key : List ℕ) × AsksForKey what object key
     × (kind_of_object caller object ≡ Some (kinds.Causal sync.colour))
 CanHave caller kept what nodes (answers.GotKeys stamp shown raises syncs) =
     (nodes ≡ []) × AsksKeys what (map (λ (k : KeyAnswer). k.key) shown)

@@ -21,7 +21,7 @@ use Rattle.report_text.specs.declared.report.SyncPiece.{SyncPiece}
 use Rattle.report_text.specs.declared.report.Report.{Report}
 use Rattle.lawful_run.specs.Callers.{Caller, node_of}
 use Rattle.lawful_run.specs.Asks.{kind_of_object, home_of_object, home_asked, Guarding, Stopping}
-use Rattle.lawful_run.specs.Deeds.{colours_synced, manner_of}
+use Rattle.lawful_run.specs.Deeds.{AsksForKey, colours_synced, manner_of}
 use Rattle.lawful_run.specs.Appends.{HasNoStamp, HasNoRowLeft, IsSoLong, WasNext}
 use Rattle.lawful_run.specs.Shapes.{AppendsBy}
 use Rattle.lawful_run.specs.Reads.{Syncs, ShowsPlayed, IsTrimmed, ReadsAt, AreKeysRead, ShowsKey}
@@ -92,11 +92,11 @@ own_key caller kept stamp = entry_key stamp (record { client = caller.client; co
 
 abbrev pub AnswersRight : Log → Untold → Caller → Kept → What → Answer → Type 0
 AnswersRight log untold caller kept what (answers.Got value sync) =
-    (object : ℕ) × (key : List ℕ) × (what ≡ whats.Get object key)
+    (object : ℕ) × (key : List ℕ) × AsksForKey what object key
     × (home : ℕ) × (colours : List ℕ) × (kind_of_object caller object ≡ Some (kinds.Map home colours))
     × GetsValue log caller colours sync key value
 AnswersRight log untold caller kept what (answers.GotMany values sync) =
-    (object : ℕ) × (key : List ℕ) × (what ≡ whats.Get object key)
+    (object : ℕ) × (key : List ℕ) × AsksForKey what object key
     × (kind_of_object caller object ≡ Some (kinds.Causal sync.colour)) × GetsValues log caller sync key values
 AnswersRight log untold caller kept what (answers.GotKeys stamp shown raises syncs) =
     OfNodesRead log caller stamp syncs (AnswersKeys caller what shown (kept_after_read log caller kept stamp raises syncs)

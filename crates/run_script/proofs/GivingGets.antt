@@ -15,22 +15,17 @@ use Rattle.script_text.specs.declared.script.Kind.TheVariants as kinds
 use Rattle.script_text.specs.declared.script.Object.{Object}
 use Rattle.script_text.specs.declared.commands.What.{What}
 use Rattle.script_text.specs.declared.commands.What.TheVariants as whats
-use Rattle.script_text.specs.declared.uses.ReadUse.TheVariants.{Leaves}
 use Rattle.script_text.specs.declared.uses.Use.{Use}
-use Rattle.script_text.specs.declared.uses.Use.TheVariants.{OfObject}
-use Rattle.script_text.specs.Commands.{use_of}
-use Rattle.report_text.specs.declared.report.SyncPiece.{SyncPiece}
 use Rattle.script_meaning.specs.States.{kind_in}
 use Rattle.report_text.specs.declared.report.Answer.{Answer}
 use Rattle.report_text.specs.declared.report.Answer.TheVariants as answers
-use Rattle.lawful_run.specs.Asks.{Getting, home_asked, kind_of_object, kind_used, object_colours, object_home, shards}
-use Rattle.lawful_run.specs.Deeds.{AsksToAppend, Deed, ShardsOf, colours_reached, colours_synced, deed_of, manner_of}
+use Rattle.lawful_run.specs.Asks.{Getting, home_asked, kind_used, object_colours, object_home, shards}
+use Rattle.lawful_run.specs.Deeds.{AsksForKey, AsksToAppend, colours_synced, manner_of}
 use Rattle.lawful_run.specs.Callers.{Caller}
 use Rattle.lawful_run.specs.Explains.{Explains}
-use Rattle.lawful_run.specs.Objects.{GetsValue, GetsValues}
-use Rattle.lawful_run.specs.Reads.{HidesSyncs, IsTrimmed, Syncs, kept_after_piece}
+use Rattle.lawful_run.specs.Reads.{HidesSyncs, IsTrimmed}
 use Rattle.lawful_run.specs.Refusals.{IsAway, IsHomeRefusal}
-use Rattle.lawful_run.proofs.CallerLemmas.{explains_get_trimmed, explains_get_without, explains_take, explains_unread, explains_unread_without}
+use Rattle.lawful_run.proofs.CallerLemmas.{explains_get_trimmed, explains_get_without, explains_take, explains_unread, explains_unread_without, key_gets, key_synced}
 use Rattle.append_core.specs.declared.stood.Point.{Point}
 use Rattle.log_client.specs.declared.store.Store.{Store}
 use Rattle.log_client.specs.declared.client.Client.{Client}
@@ -102,51 +97,29 @@ module _ (s : Store) (c d : Client) (on : RestsOn s c d) (objects : List Object)
     get_refused faults.NoTx is away = absurd is
     get_refused faults.NoMemory is away = without (untold_hidden s c d colour is) away
 
--- what is asked so is explained where it is answered by the value of the key in a map
-abbrev pub ExplainsGot : (ℕ → What) → List ℕ → Type 0
-ExplainsGot asked key =
-    (log : Log) (caller : Caller) (kept after : Kept) (object : ℕ) (value : Value) (sync : SyncPiece)
-    → ((home : ℕ) × (colours : List ℕ) × (kind_of_object caller object ≡ Some (kinds.Map home colours))
-    × (colours_synced caller (asked object) ≡ sync.colour ∷ [])
-    × Syncs log caller kept sync.colour sync.events sync.counts × GetsValue log caller colours sync key value
-    × (after ≡ kept_after_piece log caller kept sync))
-    → Explains log caller kept (asked object) (answers.Got value sync) [] after
-
--- the same of the values of the key in a causal map
-abbrev pub ExplainsGotMany : (ℕ → What) → List ℕ → Type 0
-ExplainsGotMany asked key =
-    (log : Log) (caller : Caller) (kept after : Kept) (object : ℕ) (values : List (List ℕ)) (sync : SyncPiece)
-    → ((kind_of_object caller object ≡ Some (kinds.Causal sync.colour))
-    × Syncs log caller kept sync.colour sync.events sync.counts × GetsValues log caller sync key values
-    × (after ≡ kept_after_piece log caller kept sync))
-    → Explains log caller kept (asked object) (answers.GotMany values sync) [] after
-
 -- of a command that asks for a key of an object
 module _ (s : Store) (c d : Client) (on : RestsOn s c d) (answer : Answer) (asked : ℕ → What) (key : List ℕ)
-    (uses : (object : ℕ) → use_of (asked object) ≡ OfObject object Leaves)
-    (deeds : (object : ℕ) → deed_of (asked object) ≡ record { manner = Getting; syncs = ShardsOf (key ∷ []) }) where
+    (asks : (object : ℕ) → AsksForKey (asked object) object key) where
   module _ (objects : List Object) (object : ℕ) (kind : Kind) (at : kind_in objects object ≡ Some kind) where
     abbrev it : Caller
     it = caller_of s d objects
 
     getting : manner_of (asked object) ≡ Getting
-    getting = ap (λ (x : Deed). x.manner) (deeds object)
+    getting = key_gets (asked object) object key (asks object)
 
     homes : home_asked it (asked object) ≡ object_home (Some kind)
-    homes = ap (λ (u : Use). object_home (kind_used it u)) (uses object) ∙ ap object_home at
+    homes = ap (λ (u : Use). object_home (kind_used it u)) (asks object).uses ∙ ap object_home at
 
     syncs : colours_synced it (asked object) ≡ shards (object_colours (Some kind)) (key ∷ [])
-    syncs = ap (λ (u : Use). colours_reached (object_colours (kind_used it u)) (deed_of (asked object)).syncs) (uses object)
-        ∙ (ap (λ (x : Deed). colours_reached (object_colours (kind_of_object it object)) x.syncs) (deeds object)
-        ∙ ap (λ (k : Option Kind). shards (object_colours k) (key ∷ [])) at)
+    syncs = key_synced it (asked object) object key (Some kind) (asks object) at
 
-  pub gives_map_get : ExplainsGot asked key → (home : ℕ) (colours : List ℕ) (call : Result (Value × Synced) ObjectFault)
+  pub gives_map_get : (home : ℕ) (colours : List ℕ) (call : Result (Value × Synced) ObjectFault)
       → answer ≡ get_answer call → HasColoursOf c colours → (Helps d → Helps c)
       → (c.region ≢ home → call ≡ Err (faults.NotHome home))
       → IfOk call (λ r. Gets s c d colours (shard_of colours key) key r.0 r.1)
       → IfErr call (GetRefused (Some home) s c d (shard_of colours key))
       → GivesFor s c d (kinds.Map home colours) asked answer
-  gives_map_get explains home colours call shown are idle tells ok err = record { no_reads = refl; of = each } where
+  gives_map_get home colours call shown are idle tells ok err = record { no_reads = refl; of = each } where
     each : (objects : List Object) (object : ℕ) → kind_in objects object ≡ Some (kinds.Map home colours)
         → GivesOf s objects c d (asked object) answer []
     each objects object at =
@@ -165,19 +138,19 @@ module _ (s : Store) (c d : Client) (on : RestsOn s c d) (answer : Answer) (aske
               gives_by s c d on objects (asked object) (get_answer (Ok got)) (GetsAs colours key got.1 got.0) (inr idle)
               (away_by s c d on objects (asked object) (Some home) (Ok got) get_answer (λ h. refl) home_is
               (told_home c home (Ok got) tells)) ok.explained
-              (λ log kept after r. explains log (caller_of s d objects) kept after object got.0 (sync_piece got.1)
-              (home, colours, at, synced ∙ ap (λ (k : ℕ). k ∷ []) (sym ok.synced), r.0, r.1, r.2))
+              (λ log kept after r. (refl, object, key, asks object, home, colours, at,
+              synced ∙ ap (λ (k : ℕ). k ∷ []) (sym ok.synced), r.0, r.1, r.2))
           by (Err fault) tells ok err =
               get_refused s c d on objects (asked object) (getting objects object (kinds.Map home colours) at) idle (Some home)
               home_is (shard_of colours key) synced fault err
               (away_by s c d on objects (asked object) (Some home) (Err fault) get_answer (λ h. refl) home_is
               (told_home c home (Err fault) tells))
 
-  pub gives_causal_get : ExplainsGotMany asked key → (colour : ℕ) (call : Result (List (List ℕ) × Synced) ObjectFault)
+  pub gives_causal_get : (colour : ℕ) (call : Result (List (List ℕ) × Synced) ObjectFault)
       → answer ≡ many_answer call → colour < MAX_COLOURS → (Helps d → Helps c)
       → IfOk call (λ r. GetsMany s c d colour key r.0 r.1) → IfErr call (GetRefused None s c d colour)
       → GivesFor s c d (kinds.Causal colour) asked answer
-  gives_causal_get explains colour call shown low idle ok err = record { no_reads = refl; of = each } where
+  gives_causal_get colour call shown low idle ok err = record { no_reads = refl; of = each } where
     each : (objects : List Object) (object : ℕ) → kind_in objects object ≡ Some (kinds.Causal colour)
         → GivesOf s objects c d (asked object) answer []
     each objects object at =
@@ -193,8 +166,8 @@ module _ (s : Store) (c d : Client) (on : RestsOn s c d) (answer : Answer) (aske
           by (Ok got) ok err =
               gives_by s c d on objects (asked object) (many_answer (Ok got)) (GetsManyAs key got.1 got.0) (inr idle)
               (no_home (many_answer (Ok got))) ok.explained
-              (λ log kept after r. explains log (caller_of s d objects) kept after object got.0 (sync_piece got.1)
-              (at ∙ ap (λ (k : ℕ). Some (kinds.Causal k)) (sym ok.synced), r.0, r.1, r.2))
+              (λ log kept after r. (refl, object, key, asks object,
+              at ∙ ap (λ (k : ℕ). Some (kinds.Causal k)) (sym ok.synced), r.0, r.1, r.2))
           by (Err fault) ok err =
               get_refused s c d on objects (asked object) (getting objects object (kinds.Causal colour) at) idle None
               (homes objects object (kinds.Causal colour) at) colour

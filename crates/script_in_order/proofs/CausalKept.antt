@@ -41,7 +41,7 @@ by_kind w colour (folds.Map shards) (home, colours, is, f) = absurd (let g : ⊥
 by_kind w colour (folds.Queue queue) (home, other, is, f) = absurd (let g : ⊥ = cc in g)
 by_kind w colour (folds.Causal regions) (other, is, f) =
     let e : other ≡ colour = cc in subst (λ (c : ℕ). AreCausalFolds w c regions.items) e f
-by_kind w colour (folds.Tx fold) (home, colours, is, f) = absurd (let g : ⊥ = cc in g)
+by_kind w colour (folds.Tx fold) (is, f) = absurd (let g : ⊥ = cc in g)
 by_kind w colour (folds.Tree fold) (home, colours, is, f) = absurd (let g : ⊥ = cc in g)
 
 object_of : (found : Option Object) (kind : Kind) → option_map (λ (o : Object). o.kind) found ≡ Some kind

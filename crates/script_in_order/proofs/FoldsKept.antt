@@ -1,5 +1,5 @@
 -- Folds stay right while the world goes on.
-use Rattle.std.proofs.Common.{◌≡◌, ℕ, zero, suc, ◌<◌, ◌≤◌, List, [], ◌∷◌, ◌++◌, length, map, take, Vec, Global, Option, Some, None, get_or, set, length-set, refl, ap, sym, subst, ◌∙◌, inl, inr, ◌⊎◌, arith}
+use Rattle.std.proofs.Common.{◌≡◌, true, false, ℕ, zero, suc, ◌<◌, ◌≤◌, List, [], ◌∷◌, ◌++◌, length, map, take, Vec, Global, Option, Some, None, get_or, set, length-set, refl, ap, sym, subst, ◌∙◌, inl, inr, ◌⊎◌, arith}
 use Rattle.std.specs.Prelude.{◌≢◌, slice_get}
 use Rattle.std.specs.List.{Contains}
 use Rattle.std.specs.Option.{option_map}
@@ -22,6 +22,7 @@ use Rattle.world_laws.proofs.CallerLemmas.{run_grows}
 use Rattle.script_text.specs.declared.script.Kind.{Kind}
 use Rattle.script_text.specs.declared.script.Kind.TheVariants as kinds
 use Rattle.script_text.specs.declared.script.Object.{Object}
+use Rattle.script_text.specs.Fitting.{HasObject, is_tx}
 use Rattle.script_meaning.proofs.CallerLemmas.{RunsTo, line_longer, nodes_stay}
 use Rattle.script_meaning.specs.States.{kind_in}
 use Rattle.script_meaning.specs.Dequeues.{object_node_at}
@@ -33,7 +34,7 @@ use Rattle.script_in_order.specs.declared.lines_fold.LinesFold.{LinesFold}
 use Rattle.script_in_order.proofs.LinesFolds.{lines_stay}
 use Rattle.script_in_order.specs.declared.folds.Fold.{Fold}
 use Rattle.script_in_order.specs.declared.folds.Fold.TheVariants as folds
-use Rattle.script_in_order.specs.Folds.{IsKeptLine, IsShardFold, AreShardFolds, IsQueueFold, IsLinesFold, IsFoldOf, AreFolded, ShardsWithin, QueueWithin, IsTxAt, IsTreeAt, whole_line, nodes_at}
+use Rattle.script_in_order.specs.Folds.{IsKeptLine, IsShardFold, AreShardFolds, IsQueueFold, IsLinesFold, IsFoldOf, AreFolded, ShardsWithin, QueueWithin, IsTreeAt, whole_line, nodes_at}
 
 module _ (w v : World) (reached : IsReached w) (to : RunsTo w v) where
   line_stays : {F : Type 0} (Holds : F → List ObjectNode → Type 0) (home colour : ℕ) (kept : KeptLine F)
@@ -83,12 +84,7 @@ module _ (w v : World) (reached : IsReached w) (to : RunsTo w v) where
   )
   fold_stays kind (folds.Queue queue) (home, colour, is, f) = (home, colour, is, line_stays IsValueQueue home colour queue f)
   fold_stays kind (folds.Causal regions) (colour, is, f) = (colour, is, causal_stays colour regions.items f)
-  fold_stays kind (folds.Tx fold) (home, colours, is, f) = (
-    home,
-    colours,
-    is,
-    lines_stay w v reached to IsTxState fold f,
-  )
+  fold_stays kind (folds.Tx fold) (is, f) = (is, lines_stay w v reached to IsTxState fold f)
   fold_stays kind (folds.Tree fold) (home, colours, is, f) = (
     home,
     colours,
@@ -283,7 +279,7 @@ module _ (w : World) (home : ℕ) (colours : List ℕ) where
   only_map (folds.Map shards) f n = n shards refl
   only_map (folds.Queue queue) (h, c, e, right) n = let g : ⊥ = cc in g
   only_map (folds.Causal regions) (c, e, right) n = let g : ⊥ = cc in g
-  only_map (folds.Tx fold) (h, cs, e, right) n = let g : ⊥ = cc in g
+  only_map (folds.Tx fold) (is, right) n = let g : ⊥ = cc in g
   only_map (folds.Tree fold) (h, cs, e, right) n = let g : ⊥ = cc in g
 
 -- the fold of a queue
@@ -300,31 +296,39 @@ module _ (w : World) (home colour : ℕ) where
   only_queue (folds.Map shards) (h, cs, e, right) n = let g : ⊥ = cc in g
   only_queue (folds.Queue queue) f n = n queue refl
   only_queue (folds.Causal regions) (c, e, right) n = let g : ⊥ = cc in g
-  only_queue (folds.Tx fold) (h, cs, e, right) n = let g : ⊥ = cc in g
+  only_queue (folds.Tx fold) (is, right) n = let g : ⊥ = cc in g
   only_queue (folds.Tree fold) (h, cs, e, right) n = let g : ⊥ = cc in g
 
--- the fold of a transactional map
-module _ (w : World) (home : ℕ) (colours : List ℕ) where
-  pub tx_fold : (fold : LinesFold TxState) → IsFoldOf w (kinds.Tx home colours) (folds.Tx fold)
-      → IsLinesFold IsTxState w fold
-  tx_fold fold (h, cs, e, right) = right
+-- what is folded of a transactional map
+other_kind : (kind other : Kind) → is_tx kind ≡ true → kind ≡ other → is_tx other ≡ false → ⊥
+other_kind kind other is e not = let f : true ≡ false = sym is ∙ (ap is_tx e ∙ not) in let g : ⊥ = cc in g
 
-  pub only_tx : (fold : Fold) → IsFoldOf w (kinds.Tx home colours) fold
-      → ((tx : LinesFold TxState) → fold ≡ folds.Tx tx → ⊥) → ⊥
-  only_tx (folds.Map shards) (h, cs, e, right) n = let g : ⊥ = cc in g
-  only_tx (folds.Queue queue) (h, c, e, right) n = let g : ⊥ = cc in g
-  only_tx (folds.Causal regions) (c, e, right) n = let g : ⊥ = cc in g
-  only_tx (folds.Tx tx) f n = n tx refl
-  only_tx (folds.Tree fold) (h, cs, e, right) n = let g : ⊥ = cc in g
+pub only_tx : (w : World) (kind : Kind) → is_tx kind ≡ true → (fold : Fold) → IsFoldOf w kind fold
+    → ((tx : LinesFold TxState) → fold ≡ folds.Tx tx → ⊥) → ⊥
+only_tx w kind is (folds.Map shards) (h, cs, e, right) n = other_kind kind (kinds.Map h cs) is e refl
+only_tx w kind is (folds.Queue queue) (h, c, e, right) n = other_kind kind (kinds.Queue h c) is e refl
+only_tx w kind is (folds.Causal regions) (c, e, right) n = other_kind kind (kinds.Causal c) is e refl
+only_tx w kind is (folds.Tx tx) f n = n tx refl
+only_tx w kind is (folds.Tree fold) (h, cs, e, right) n = other_kind kind (kinds.Tree h cs) is e refl
 
--- that of an object
-pub tx_of : (w : World) (objects : List Object) (all : List Fold) (object : ℕ) (fold : Fold) (tx : LinesFold TxState)
-    → AreFolded w objects all → IsTxAt objects object → fold ≡ get_or all object fold → fold ≡ folds.Tx tx
-    → IsLinesFold IsTxState w tx
-tx_of w objects all object fold tx f at there same =
-    tx_fold w at.0 at.1 tx
-    (subst (IsFoldOf w (kinds.Tx at.0 at.1)) same
-    (fold_there w objects all object (kinds.Tx at.0 at.1) f at.2 fold there))
+-- the fold of an object that is one
+module _ (w : World) (objects : List Object) (all : List Fold) (object : ℕ) (f : AreFolded w objects all)
+    (has : HasObject objects object is_tx) where
+  its_kind : kind_in objects object ≡ Some has.found.kind
+  its_kind = ap (option_map (λ (o : Object). o.kind)) has.there
+
+  there_of : (fold : Fold) → fold ≡ get_or all object fold → IsFoldOf w has.found.kind fold
+  there_of fold there = fold_there w objects all object has.found.kind f its_kind fold there
+
+  pub tx_of : (fold : Fold) (tx : LinesFold TxState) → fold ≡ get_or all object fold → fold ≡ folds.Tx tx
+      → IsLinesFold IsTxState w tx
+  tx_of fold tx there same = (subst (IsFoldOf w has.found.kind) same (there_of fold there)).1
+
+  pub none_else : (fold : Fold) → fold ≡ get_or all object fold → ((tx : LinesFold TxState) → fold ≡ folds.Tx tx → ⊥) → ⊥
+  none_else fold there = only_tx w has.found.kind has.kind fold (there_of fold there)
+
+  pub tx_put : (tx : LinesFold TxState) → IsLinesFold IsTxState w tx → AreFolded w objects (set all object (folds.Tx tx))
+  tx_put tx right = fold_put w objects all object has.found.kind f its_kind (folds.Tx tx) (has.kind, right)
 
 -- the fold of a tree
 module _ (w : World) (home : ℕ) (colours : List ℕ) where
@@ -336,7 +340,7 @@ module _ (w : World) (home : ℕ) (colours : List ℕ) where
   only_tree (folds.Map shards) (h, cs, e, right) n = let g : ⊥ = cc in g
   only_tree (folds.Queue queue) (h, c, e, right) n = let g : ⊥ = cc in g
   only_tree (folds.Causal regions) (c, e, right) n = let g : ⊥ = cc in g
-  only_tree (folds.Tx fold) (h, cs, e, right) n = let g : ⊥ = cc in g
+  only_tree (folds.Tx fold) (is, right) n = let g : ⊥ = cc in g
   only_tree (folds.Tree tree) f n = n tree refl
 
 -- that of an object

@@ -8,8 +8,6 @@ use Rattle.log_node.specs.declared.ids.Colours.{Colours}
 use Rattle.log_node.specs.Sets.{members, set_of}
 use Rattle.col_core.proofs.CallerLemmas.{In}
 use Rattle.script_text.specs.declared.script.Kind.{Kind}
-use Rattle.script_text.specs.declared.script.Kind.TheVariants as kinds
-use Rattle.script_in_order.specs.Folds.{IsTxAt}
 use Rattle.script_text.specs.Fitting.{AreBelow, HasColours, AreObjectColours, IsKindWithin, UsesOne, UsesObject, HasObject, is_tx, is_tree}
 use Rattle.script_text.specs.Grammar.{are_pairs}
 use Rattle.lawful_run.specs.Asks.{object_colours, keys_of_pairs}
@@ -88,18 +86,6 @@ pub tx_is : (objects : List Object) (object : ℕ) (other : Object) → HasObjec
     → (is_tx (get_or objects object other).kind || is_tree (get_or objects object other).kind) ≡ true
 tx_is objects object other has =
     ap (λ (b : Bool). b || is_tree (get_or objects object other).kind) (has_kind objects object other has)
-
-its_kinds : (kind : Kind) → is_tx kind ≡ true → (home : ℕ) × (colours : List ℕ) × (kind ≡ kinds.Tx home colours)
-its_kinds (kinds.Tx home of) is = (home, of, refl)
-its_kinds _ is = absurd (let f : ⊥ = cc in f)
-
-pub tx_at : (objects : List Object) (object : ℕ) → HasObject objects object is_tx → IsTxAt objects object
-tx_at objects object has =
-    let kind = its_kinds has.found.kind has.kind in (
-      kind.0,
-      kind.1,
-      ap (option_map (λ (o : Object). o.kind)) has.there ∙ ap (λ (k : Kind). Some k) kind.2,
-    )
 
 -- A READ OF KEYS
 

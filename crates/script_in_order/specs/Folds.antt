@@ -1,5 +1,5 @@
 -- What of each object is folded, and when that is right.
-use Rattle.std.specs.Prelude.{◌≡◌, ℕ, ◌≤◌, ◌<◌, List, [], length, map, take, drop, Some, slice_get}
+use Rattle.std.specs.Prelude.{◌≡◌, IsTrue, ℕ, ◌≤◌, ◌<◌, List, [], length, map, take, drop, Some, slice_get}
 use Rattle.std.specs.List.{Contains, fold}
 use Rattle.log_node.specs.declared.ids.Key.{Key}
 use Rattle.object_fold.specs.declared.kept_line.KeptLine.{KeptLine}
@@ -14,6 +14,7 @@ use Rattle.world_laws.specs.Worlds.{World, home_of, home_history}
 use Rattle.script_text.specs.declared.script.Kind.{Kind}
 use Rattle.script_text.specs.declared.script.Kind.TheVariants as kinds
 use Rattle.script_text.specs.declared.script.Object.{Object}
+use Rattle.script_text.specs.Fitting.{is_tx}
 use Rattle.script_meaning.specs.States.{kind_in}
 use Rattle.script_meaning.specs.Dequeues.{object_node_at}
 use Rattle.script_in_order.specs.CausalFolds.{AreCausalFolds}
@@ -88,8 +89,7 @@ IsFoldOf w kind (folds.Queue queue) =
     (home : ℕ) × (colour : ℕ) × (kind ≡ kinds.Queue home colour) × IsQueueFold w home colour queue
 IsFoldOf w kind (folds.Causal regions) =
     (colour : ℕ) × (kind ≡ kinds.Causal colour) × AreCausalFolds w colour regions.items
-IsFoldOf w kind (folds.Tx fold) =
-    (home : ℕ) × (colours : List ℕ) × (kind ≡ kinds.Tx home colours) × IsLinesFold IsTxState w fold
+IsFoldOf w kind (folds.Tx fold) = IsTrue (is_tx kind) × IsLinesFold IsTxState w fold
 IsFoldOf w kind (folds.Tree fold) =
     (home : ℕ) × (colours : List ℕ) × (kind ≡ kinds.Tree home colours) × IsLinesFold IsTree w fold
 
@@ -129,10 +129,6 @@ IsMapAt w client objects object colours = kind_in objects object ≡ Some (kinds
 -- the object is a queue on the colour, at home in the client's region
 abbrev pub IsQueueAt : World → ℕ → List Object → ℕ → ℕ → Type 0
 IsQueueAt w client objects object colour = kind_in objects object ≡ Some (kinds.Queue (home_of w client) colour)
-
--- the object is a transactional map
-abbrev pub IsTxAt : List Object → ℕ → Type 0
-IsTxAt objects object = (home : ℕ) × (colours : List ℕ) × (kind_in objects object ≡ Some (kinds.Tx home colours))
 
 -- the object is a tree
 abbrev pub IsTreeAt : List Object → ℕ → Type 0

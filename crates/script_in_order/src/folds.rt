@@ -11,7 +11,7 @@ ghost use Rattle.object_fold.specs.Queues.{front_after};
 ghost use Rattle.tree_fold.specs.Trees.{tree_after};
 ghost use Rattle.col_core.specs.History.{line};
 ghost use Rattle.world_laws.specs.Worlds.{World as Meant};
-ghost use Rattle.script_text.specs.Fitting.{AreBelow, IsKindWithin, IsFitting};
+ghost use Rattle.script_text.specs.Fitting.{AreBelow, IsKindWithin, IsFitting, HasObject, is_tx};
 ghost use Rattle.world_code.specs.WorldView.{world_of};
 ghost use Rattle.script_meaning.specs.States.{kind_in};
 ghost use Rattle.script_meaning.specs.CausalGets.{causal_values};
@@ -20,7 +20,7 @@ ghost use Rattle.script_meaning.specs.Gets.{key_answers};
 ghost use Rattle.script_meaning.specs.Stamped.{keys_read};
 ghost use Rattle.script_meaning.specs.Trees.{names_in};
 ghost use Rattle.script_in_order.specs.CausalFolds.{held_nodes, cut_to_play, AreCausalFolds};
-ghost use Rattle.script_in_order.specs.Folds.{nodes_at, AreThere, IsKeptLine, IsShardFold, AreShardFolds, IsQueueFold, IsFoldOf, AreFolded, ShardsWithin, QueueWithin, MayFold, IsTxAt, IsTreeAt};
+ghost use Rattle.script_in_order.specs.Folds.{nodes_at, AreThere, IsKeptLine, IsShardFold, AreShardFolds, IsQueueFold, IsFoldOf, AreFolded, ShardsWithin, QueueWithin, MayFold, IsTreeAt};
 
 use crate::causal::values;
 use crate::lines_fold::{LinesFold, LinesRead};
@@ -196,10 +196,7 @@ fn open_fold(alloc: Global, kind: &Kind, shape: &Shape) -> Result<Fold, AllocErr
             home: _home,
             colour: _colour,
         } => Ok(Fold::Queue(KeptLine::new(ValueQueue::new(alloc)))),
-        Kind::Tx {
-            home: _home,
-            colours: _colours,
-        } => Ok(Fold::Tx(LinesFold::open(alloc))),
+        Kind::Tx { .. } | Kind::Parts { .. } => Ok(Fold::Tx(LinesFold::open(alloc))),
         Kind::Tree {
             home: _home,
             colours: _colours,
@@ -316,11 +313,11 @@ impl Folds {
     ) -> Result<(ListOf<KeyAnswer>, Versions), AllocError>
         requires client { read.client < length world.now.shape.homes }
         requires within { AreBelow world.now.shape.colours read.colours }
-        requires may { (objects : List Object) × IsTxAt objects object × AreFolded (world_of world.now) objects self.old }
+        requires may { (objects : List Object) × HasObject objects object is_tx × AreFolded (world_of world.now) objects self.old }
         ensures found { IfOk result (λ found. let nodes = map (object_node_at (world_of world.now))
             (keys_read (world_of world.now) read.client read.stamp (members read.colours)) in
             (found.0 ≡ key_answers (value_of (writes_after nodes)) keys.now) × (found.1 ≡ versions_after nodes keys.now)) }
-        ensures folded { (objects : List Object) → IsTxAt objects object → AreFolded (world_of world.now) objects self.old
+        ensures folded { (objects : List Object) → HasObject objects object is_tx → AreFolded (world_of world.now) objects self.old
             → AreFolded (world_of world.now) objects self.new }
     {
         match &mut self.of[object as usize] {

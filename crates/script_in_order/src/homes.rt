@@ -27,6 +27,7 @@ fn object_home(objects: &[Object], object: u8) -> Option<u8>
             Kind::Map { home, .. }
             | Kind::Tx { home, .. }
             | Kind::Tree { home, .. }
+            | Kind::Parts { home, .. }
             | Kind::Queue { home, .. } => Some(*home),
             Kind::Causal { .. } => None,
         },

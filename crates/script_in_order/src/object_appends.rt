@@ -24,23 +24,11 @@ pub fn shard(kind: &Kind, key: &[u8]) -> u8
     ensures { result ≡ shard_of (object_colours (Some kind.now)) key.now }
 {
     match kind {
-        Kind::Map {
-            home: _home,
-            colours,
-        } => shard_of(colours.as_slice(), key),
-        Kind::Tx {
-            home: _home,
-            colours,
-        } => shard_of(colours.as_slice(), key),
-        Kind::Tree {
-            home: _home,
-            colours,
-        } => shard_of(colours.as_slice(), key),
-        Kind::Causal { colour } => *colour,
-        Kind::Queue {
-            home: _home,
-            colour,
-        } => *colour,
+        Kind::Map { colours, .. }
+        | Kind::Tx { colours, .. }
+        | Kind::Tree { colours, .. }
+        | Kind::Parts { colours, .. } => shard_of(colours.as_slice(), key),
+        Kind::Causal { colour } | Kind::Queue { colour, .. } => *colour,
     }
 }
 
@@ -83,14 +71,9 @@ pub fn all_colours(kind: &Kind) -> Colours
     ensures { result ≡ set_of (object_colours (Some kind.now)) }
 {
     match kind {
-        Kind::Tx {
-            home: _home,
-            colours,
-        } => Colours::of(colours.as_slice()),
-        Kind::Tree {
-            home: _home,
-            colours,
-        } => Colours::of(colours.as_slice()),
+        Kind::Tx { colours, .. } | Kind::Parts { colours, .. } | Kind::Tree { colours, .. } => {
+            Colours::of(colours.as_slice())
+        }
         _ => unreachable!(),
     }
 }

@@ -30,6 +30,7 @@ use Rattle.script_text.specs.declared.commands.What.TheVariants as whats
 use Rattle.lawful_run.specs.Callers.{Caller, caller_of, node_of}
 use Rattle.col_core.specs.Ids.{IsStepOf}
 use Rattle.lawful_run.specs.Asks.{kind_of_object}
+use Rattle.lawful_run.specs.Deeds.{AsksForKey}
 use Rattle.lawful_run.specs.Reads.{HidesRead, ShowsKey, Syncs, RaisesClock, kept_after_place, Raises, ClearSyncs}
 use Rattle.lawful_run.specs.Refusals.{FindsNoMemory, nothing, gone, gave, hidden}
 use Rattle.wrong_reports.specs.Cases.{IsUnlawful, a, b, e, x, id, by, counts, enters}
@@ -312,8 +313,8 @@ get_elsewhere run =
     let c = (only run.log _ _ _ _ (run.clients 0 _ refl).explained).explained.7 in
     cc (c)
 
-same_object : (object other : ℕ) (key more : List ℕ) → whats.Get object key ≡ whats.Get other more → object ≡ other
-same_object object other key more e = cc (e)
+same_object : (object other : ℕ) (key more : List ℕ) → AsksForKey (whats.Get object key) other more → object ≡ other
+same_object object other key more asks = let e = asks.uses in cc (e)
 
 pub causal_elsewhere : IsUnlawful a_causal_get_of_another_colour
 causal_elsewhere run =
@@ -328,8 +329,8 @@ dequeue_elsewhere run =
     let c = (only run.log _ _ _ _ (run.clients 0 _ refl).explained).explained.2 in
     omega (arith, c)
 
-asked_key : (object other : ℕ) (key more : List ℕ) → whats.Get object key ≡ whats.Get other more → key ≡ more
-asked_key object other key more e = cc (e)
+asked_key : (object other : ℕ) (key more : List ℕ) → AsksForKey (whats.Get object key) other more → key ≡ more
+asked_key object other key more asks = let e = asks.gets in cc (e)
 
 colours_are : (home other : ℕ) (colours more : List ℕ)
     → Some (kinds.Map home colours) ≡ Some (kinds.Map other more) → colours ≡ more

@@ -17,20 +17,16 @@ use Rattle.world_laws.specs.Laws.{log_of}
 use Rattle.script_text.specs.declared.script.Kind.{Kind}
 use Rattle.script_text.specs.declared.script.Kind.TheVariants as kinds
 use Rattle.script_text.specs.declared.script.Object.{Object}
-use Rattle.script_text.specs.declared.commands.What.{What}
 use Rattle.script_text.specs.declared.commands.What.TheVariants as whats
 use Rattle.script_text.specs.declared.script.Command.{Command}
 use Rattle.script_text.specs.declared.script.Script.{Script}
 use Rattle.script_text.specs.Fitting.{HasObject, is_any_map}
 use Rattle.report_text.specs.declared.report.Answer.{Answer}
 use Rattle.report_text.specs.declared.report.Answer.TheVariants as answers
-use Rattle.lawful_run.specs.Asks.{object_colours, shards}
-use Rattle.lawful_run.specs.Deeds.{colours_synced, manner_of}
+use Rattle.lawful_run.specs.Deeds.{AsksForKey, colours_synced}
 use Rattle.lawful_run.specs.Callers.{Caller}
-use Rattle.lawful_run.specs.Explains.{Explains}
 use Rattle.lawful_run.specs.Objects.{IsChainNode, places_within}
-use Rattle.lawful_run.specs.Reads.{kept_after_piece}
-use Rattle.lawful_run.proofs.CallerLemmas.{explains_values, one_shard}
+use Rattle.lawful_run.proofs.CallerLemmas.{explains_values, key_gets, key_synced, one_shard}
 use Rattle.script_meaning.specs.States.{State, Grants, kind_in}
 use Rattle.script_meaning.specs.Gets.{got}
 use Rattle.script_meaning.specs.CausalGets.{causal_node, nodes_up_to_cut, causal_values, got_values}
@@ -48,7 +44,7 @@ use Rattle.script_meaning.proofs.Move.Sync as sync
 
 module _ (script : Script) (commands : List Command) (state : State) (command : Command) (grants : Grants)
     (runs : Runs script commands state) (fit : IsFit script commands command) (object c : ℕ) (key : List ℕ)
-    (asked : command.what ≡ whats.Get object key) (kind : kind_in script.objects object ≡ Some (kinds.Causal c))
+    (asked : AsksForKey command.what object key) (kind : kind_in script.objects object ≡ Some (kinds.Causal c))
     (lt : c < script.shape.colours) where
   abbrev u : ℕ
   u = command.client
@@ -76,10 +72,9 @@ module _ (script : Script) (commands : List Command) (state : State) (command : 
 
   synced : colours_synced caller command.what ≡ c ∷ []
   synced =
-      ap (colours_synced caller) asked
-      ∙ (ap (λ (k : Option Kind). shards (object_colours k) (key ∷ [])) kind
+      key_synced caller command.what object key (Some (kinds.Causal c)) asked kind
       ∙ (one_shard (c ∷ []) key (subst (λ (d : ℕ). d < MAX_COLOURS) (sym one_colour) low)
-      ∙ ap (λ (d : ℕ). d ∷ []) one_colour))
+      ∙ ap (λ (d : ℕ). d ∷ []) one_colour)
 
   client_ok : is_client w u ≡ true
   client_ok = fits.client_ok script commands state command runs fit
@@ -116,23 +111,21 @@ module _ (script : Script) (commands : List Command) (state : State) (command : 
 
   pub runs_got_values : Runs script commands' (got_values state command c key)
   runs_got_values =
-      runs_get_by script commands state command grants runs fit c lt (ap manner_of asked) synced answer
-      (λ kept syncs. subst (λ (what : What). Explains (log_of w) caller kept what answer []
-      (kept_after_piece (log_of w) caller kept (sync_now w u c))) (sym asked)
-      (explains_values (log_of w) caller kept object key (sync_now w u c) (nodes_up_to_cut w u c)
-      (causal_values (nodes_up_to_cut w u c) key) kind syncs
+      runs_get_by script commands state command grants runs fit c lt (key_gets command.what object key asked) synced answer
+      (λ kept syncs. explains_values (log_of w) caller kept command.what object key (sync_now w u c) (nodes_up_to_cut w u c)
+      (causal_values (nodes_up_to_cut w u c) key) asked kind syncs
       (subst (λ (ds : List Dated). AllZip (IsChainNode (log_of w) (chain own ds)) (places_within (played_cut w u c))
       (nodes_up_to_cut w u c))
       (sym (sync.all script.objects w runs.reached u c (fits.own_few script commands state command runs fit) client_ok
       column_ok))
       (beside (IsChainNode (log_of w) (chains_after own (w.histories own c)))
       (causal_node w (chains_after own (w.histories own c))) (places_within (played_cut w u c)) stands))
-      (causal_answer (nodes_up_to_cut w u c) key)))
+      (causal_answer (nodes_up_to_cut w u c) key))
 
 -- a get, by the kind of its object
 module _ (script : Script) (commands : List Command) (state : State) (command : Command) (grants : Grants)
     (runs : Runs script commands state) (fit : IsFit script commands command) (object : ℕ) (key : List ℕ)
-    (asked : command.what ≡ whats.Get object key) (has : HasObject script.objects object is_any_map) where
+    (asked : AsksForKey command.what object key) (has : HasObject script.objects object is_any_map) where
   by_kind : (kind : Kind) → kind_in script.objects object ≡ Some kind → is_any_map kind ≡ true
       → Runs script (commands ++ command ∷ []) (got grants state command (Some kind) key)
   by_kind (kinds.Map home colours) is map =

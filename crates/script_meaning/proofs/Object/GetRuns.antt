@@ -19,7 +19,6 @@ use Rattle.world_laws.specs.Laws.{IsReached, log_of}
 use Rattle.world_laws.proofs.CallerLemmas.{played_client}
 use Rattle.script_text.specs.declared.script.Kind.{Kind}
 use Rattle.script_text.specs.declared.script.Kind.TheVariants as kinds
-use Rattle.script_text.specs.declared.commands.What.{What}
 use Rattle.script_text.specs.declared.commands.What.TheVariants as whats
 use Rattle.script_text.specs.declared.script.Command.{Command}
 use Rattle.script_text.specs.declared.script.Script.{Script}
@@ -31,11 +30,11 @@ use Rattle.report_text.specs.declared.report.RaisePiece.{RaisePiece}
 use Rattle.report_text.specs.declared.report.SyncPiece.{SyncPiece}
 use Rattle.lawful_run.specs.Callers.{Caller}
 use Rattle.lawful_run.specs.Asks.{Getting, object_colours, colours_of_object, shards}
-use Rattle.lawful_run.specs.Deeds.{manner_of, colours_synced}
+use Rattle.lawful_run.specs.Deeds.{AsksForKey, manner_of, colours_synced}
 use Rattle.lawful_run.specs.Explains.{Explains}
 use Rattle.lawful_run.specs.Objects.{AreObjectNodes, own_played}
 use Rattle.lawful_run.specs.Reads.{Syncs, ReadsAt, kept_after_piece}
-use Rattle.lawful_run.proofs.CallerLemmas.{explains_get, one_shard}
+use Rattle.lawful_run.proofs.CallerLemmas.{explains_get, key_gets, key_synced, one_shard}
 use Rattle.script_meaning.specs.States.{State, Grants, answered, kind_in}
 use Rattle.script_meaning.specs.Stamped.{read_stamp, keys_read, stamped_read}
 use Rattle.script_meaning.specs.Dequeues.{object_node_at, first_nodes, sync_now, base_now}
@@ -113,7 +112,7 @@ module _ (script : Script) (commands : List Command) (state : State) (command : 
       runs.finished)
 
   -- a get of a map
-  module _ (object home : ℕ) (colours key : List ℕ) (asked : command.what ≡ whats.Get object key)
+  module _ (object home : ℕ) (colours key : List ℕ) (asked : AsksForKey command.what object key)
       (is_map : kind_in script.objects object ≡ Some (kinds.Map home colours))
       (has : HasObject script.objects object is_any_map) where
     abbrev c : ℕ
@@ -130,8 +129,8 @@ module _ (script : Script) (commands : List Command) (state : State) (command : 
     small = let a = low in let b = fit.few_colours in omega (arith, a, b)
 
     synced : colours_synced caller command.what ≡ c ∷ []
-    synced = ap (colours_synced caller) asked
-        ∙ (ap (λ (k : Option Kind). shards (object_colours k) (key ∷ [])) is_map ∙ one_shard colours key small)
+    synced = key_synced caller command.what object key (Some (kinds.Map home colours)) asked is_map
+        ∙ one_shard colours key small
 
     abbrev count : ℕ
     count = at (played_cut w u c) (home_of w u)
@@ -148,11 +147,9 @@ module _ (script : Script) (commands : List Command) (state : State) (command : 
 
     pub runs_get_value : Runs script commands' (got_value state command colours key)
     runs_get_value =
-        runs_get_by c low (ap manner_of asked) synced answer
-        (λ kept syncs. subst (λ (what : What). Explains (log_of w) caller kept what answer []
-        (kept_after_piece (log_of w) caller kept (sync_now w u c))) (sym asked)
-        (explains_get (log_of w) caller kept object home colours key (sync_now w u c) (first_nodes w u c count) is_map
-        small refl syncs played))
+        runs_get_by c low (key_gets command.what object key asked) synced answer
+        (λ kept syncs. explains_get (log_of w) caller kept command.what object home colours key (sync_now w u c)
+        (first_nodes w u c count) asked is_map small refl syncs played)
 
   -- several keys
   module _ (object : ℕ) (keys : List (List ℕ)) (one : (key : List ℕ) × In key keys)

@@ -76,9 +76,9 @@ module _ (objects : List Object) (u : ℕ) (what : What) (colours : Colours) (te
       let x = e.3 in absurd (let f : ⊥ = cc in f)
   explains_as log w kept answers.SameRegion nodes after e = let x = e.3 in absurd (let f : ⊥ = cc in f)
   explains_as log w kept (answers.Based at base) nodes after e = let x = e.2 in absurd (let f : ⊥ = cc in f)
-  explains_as log w kept (answers.Got value sync) nodes after e = let x = e.3 in absurd (let f : ⊥ = cc in f)
+  explains_as log w kept (answers.Got value sync) nodes after e = let x = e.3.uses in absurd (let f : ⊥ = cc in f)
   explains_as log w kept (answers.GotMany values sync) nodes after e =
-      let x = e.3 in absurd (let f : ⊥ = cc in f)
+      let x = e.3.uses in absurd (let f : ⊥ = cc in f)
   explains_as log w kept (answers.GotKeys stamp shown raises syncs) nodes after e = let t = e.2 in absurd (elim t.5 [
     | inl g ↦ let x = g.2 in let f : ⊥ = cc in f
     | inr g ↦ let x = g.2 in let f : ⊥ = cc in f

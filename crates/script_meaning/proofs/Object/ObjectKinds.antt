@@ -87,6 +87,7 @@ queue_colour objects regions count all object has =
 -- a transactional map has a home
 pub tx_home : (kind : Kind) → is_tx kind ≡ true → (home : ℕ) × (object_home (Some kind) ≡ Some home)
 tx_home (kinds.Tx home colours) t = (home, refl)
+tx_home (kinds.Parts home colours) t = (home, refl)
 tx_home _ t = absurd (let f : ⊥ = cc in f)
 
 none_some : {A : Type 0} (x : A) → Some x ≡ None → ⊥

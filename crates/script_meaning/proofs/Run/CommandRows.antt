@@ -1,7 +1,7 @@
 -- One row for each command: behind it there holds what held before, steps lead to the state, and where it finds memory it does
 -- what it does with memory granted everywhere. Commands that append and are answered by where their node stands have no
 -- rows in the last two, and those of them that append in the shards of keys have none in the first.
-use Rattle.std.proofs.Common.{◌≡◌, ℕ, List, [], ◌∷◌, ◌++◌, map, refl}
+use Rattle.std.proofs.Common.{◌≡◌, ℕ, List, [], ◌∷◌, ◌++◌, map, refl, sym, subst}
 use Rattle.log_node.specs.Sets.{members}
 use Rattle.object_form.specs.Laws.{ReadsBack}
 use Rattle.tree_fold.specs.Readings.{below_root_of, make_of, remove_of, move_of}
@@ -14,6 +14,7 @@ use Rattle.script_text.specs.declared.script.Script.{Script}
 use Rattle.script_text.specs.Fitting.{IsWithin, UsesObject}
 use Rattle.lawful_run.specs.Callers.{Caller}
 use Rattle.lawful_run.specs.Asks.{colours_of_object, shards}
+use Rattle.lawful_run.specs.Deeds.{AsksForKey}
 use Rattle.lawful_run.proofs.CallerLemmas.{make_asks, remove_asks, move_asks}
 use Rattle.script_meaning.specs.States.{State, Grants, all_granted}
 use Rattle.script_meaning.specs.Stamped.{shown_key, scan_answer}
@@ -56,7 +57,8 @@ module _ (back : ReadsBack) (tree : TreesReadBack) (script : Script) (commands :
   runs_what (whats.Trim colour) asked within uses =
       moving.runs_trim script commands state command runs fit colour asked within
   runs_what (whats.Get object key) asked within uses =
-      runs_get script commands state command grants runs fit object key asked uses.0
+      runs_get script commands state command grants runs fit object key
+      (subst (λ (w : What). AsksForKey w object key) (sym asked) (record { uses = refl; gets = refl })) uses.0
   runs_what (whats.GetAll object keys) asked within uses =
       getting.runs_get_keys script commands state command grants runs fit object keys (a_key 4 keys uses.1) asked uses.0
   runs_what (whats.Read object keys) asked within uses = absurd (fit.read object keys asked)

@@ -1,7 +1,6 @@
 use Rattle.std.proofs.Common.{◌≡◌, ◌∙◌, List, get_or, set, refl, ap, sym, subst}
 use Rattle.log_node.specs.declared.forms.Form.TheVariants as forms
 use Rattle.object_form.specs.Forms.{IsForm, form_text}
-use Rattle.script_text.specs.declared.script.Kind.TheVariants as kinds
 use Rattle.script_text.specs.Fitting.{is_tx}
 use Rattle.world_code.specs.WorldView.{world_of}
 use Rattle.script_meaning.specs.Transactions.{verdict_tells}
@@ -9,10 +8,10 @@ use Rattle.script_meaning.proofs.CallerLemmas.{pairs_are}
 use Rattle.script_in_order.specs.declared.folds.Fold.{Fold}
 use Rattle.script_in_order.specs.declared.folds.Fold.TheVariants as folds
 use Rattle.script_in_order.specs.Folds.{AreFolded}
-use Rattle.script_in_order.proofs.FoldsKept.{fold_there, fold_put, tx_of, only_tx}
+use Rattle.script_in_order.proofs.FoldsKept.{tx_of, none_else, tx_put}
 use Rattle.script_in_order.proofs.ObjectSteps.{kind_is, small}
 use Rattle.script_in_order.proofs.TellSteps.{folds_after}
-use Rattle.script_in_order.proofs.TransactionSteps.{tx_is, whole_members, whole_low, whole_some, set_made, its_set, its_some, its_low, tx_at, commit_told}
+use Rattle.script_in_order.proofs.TransactionSteps.{tx_is, whole_members, whole_low, whole_some, set_made, its_set, its_some, its_low, commit_told}
 use Rattle.script_in_order.proofs.transactions.commit_on.Goals as goal
 
 pub all_colours-colours-requires-clause-telling : goal.all_colours-colours-requires-clause-telling
@@ -61,20 +60,16 @@ append_and_tell-requires c =
           has c.shards_of-set.result set_is;
       many = its_some objects c.args.command.now object c.args.pairs.now c.args.reads regions count few c.requires.kinds
           other has c.shards_of-set.result set_is c.requires.uses.1;
-      folded = tx_of w objects c.args.folds.now object c.index_mut.result.now c.in-Tx.fold c.requires.folded
-          (tx_at objects object has) there c.in-Tx.is;
+      folded = tx_of w objects c.args.folds.now object c.requires.folded has c.index_mut.result.now c.in-Tx.fold there
+          c.in-Tx.is;
     }
 
 pub unreachable-requires : goal.unreachable-requires
 unreachable-requires c =
-    let w = world_of c.args.world.now in
-    let at = tx_at c.args.objects.now c.args.object c.requires.uses.0 in
     let there = subst (λ (l : List Fold). c.index_mut.result.now ≡ get_or l c.args.object c.index_mut.result.now)
     c.folds.view_is c.index_mut.ensures.value in
-    only_tx w at.0 at.1 c.index_mut.result.now
-    (fold_there w c.args.objects.now c.args.folds.now c.args.object (kinds.Tx at.0 at.1) c.requires.folded at.2
-    c.index_mut.result.now there)
-    c.in_default.not-Tx
+    none_else (world_of c.args.world.now) c.args.objects.now c.args.folds.now c.args.object c.requires.folded
+    c.requires.uses.0 c.index_mut.result.now there c.in_default.not-Tx
 
 pub returns-clause-ok : goal.returns-clause-ok
 returns-clause-ok c =
@@ -96,12 +91,11 @@ pub returns-clause-folded : goal.returns-clause-folded
 returns-clause-folded c =
     let v = world_of c.append_and_tell.new.world in
     let objects = c.args.objects.now in
-    let at = tx_at objects c.args.object c.requires.uses.0 in
     let new : Fold = folds.Tx c.append_and_tell.new.fold in
     subst (λ (l : List Fold). AreFolded v objects (set l c.args.object new)) (sym c.folds.view_is)
-    (fold_put v objects c.args.folds.now c.args.object (kinds.Tx at.0 at.1)
+    (tx_put v objects c.args.folds.now c.args.object
     (folds_after verdict_tells objects c.args.command.now c.args.object
     (its_set objects c.args.object c.args.reads c.args.pairs.now) (form_text (forms.Transaction c.args.reads c.args.pairs.now))
     (world_of c.args.world.now) v c.args.folds.now c.append_and_tell.result c.is_whole.ensures.reached
-    (returns-clause-ok c) c.append_and_tell.ensures.err c.requires.folded) at.2 new
-    (at.0, at.1, refl, c.append_and_tell.ensures.folded))
+    (returns-clause-ok c) c.append_and_tell.ensures.err c.requires.folded) c.requires.uses.0 c.append_and_tell.new.fold
+    c.append_and_tell.ensures.folded)

@@ -12,7 +12,7 @@ use Rattle.script_in_order.specs.Folds.{AreFolded}
 use Rattle.script_in_order.specs.Telling.{rising_colours}
 use Rattle.script_in_order.proofs.GetSteps.{its_read, read_folds}
 use Rattle.script_in_order.proofs.ObjectSteps.{kind_is, small}
-use Rattle.script_in_order.proofs.TransactionSteps.{tx_at, tx_is, whole_members, whole_low, left_unraised, left_refused, left_without, left_found}
+use Rattle.script_in_order.proofs.TransactionSteps.{tx_is, whole_members, whole_low, left_unraised, left_refused, left_without, left_found}
 use Rattle.script_in_order.proofs.transactions.read.Goals as goal
 
 pub all_colours-colours-requires-clause-telling : goal.all_colours-colours-requires-clause-telling
@@ -42,7 +42,7 @@ found-requires-clause-within c =
 pub found-requires-clause-may : goal.found-requires-clause-may
 found-requires-clause-may c = (
   c.args.objects.now,
-  tx_at c.args.objects.now c.args.object c.requires.uses.0,
+  c.requires.uses.0,
   read_folds (world_of c.args.world.now) (world_of c.stamped_read.new.world) c.args.command.now.client
       (members c.all_colours-colours.result) c.args.objects.now c.args.folds.now _ _ c.in-Whole.is
       c.is_whole.ensures.reached c.in_ok-stamped_read.ensures.ok c.requires.folded,
@@ -50,14 +50,14 @@ found-requires-clause-may c = (
 
 pub returns-in-Ok-clause-folded : goal.returns-in-Ok-clause-folded
 returns-in-Ok-clause-folded c =
-    c.found.ensures.folded c.args.objects.now (tx_at c.args.objects.now c.args.object c.requires.uses.0)
+    c.found.ensures.folded c.args.objects.now c.requires.uses.0
     (read_folds (world_of c.args.world.now) (world_of c.stamped_read.new.world) c.args.command.now.client
     (members c.all_colours-colours.result) c.args.objects.now c.args.folds.now _ _ c.in-Whole.is
     c.is_whole.ensures.reached c.in_ok-stamped_read.ensures.ok c.requires.folded)
 
 pub returns-in-Err-clause-folded : goal.returns-in-Err-clause-folded
 returns-in-Err-clause-folded c =
-    c.found.ensures.folded c.args.objects.now (tx_at c.args.objects.now c.args.object c.requires.uses.0)
+    c.found.ensures.folded c.args.objects.now c.requires.uses.0
     (read_folds (world_of c.args.world.now) (world_of c.stamped_read.new.world) c.args.command.now.client
     (members c.all_colours-colours.result) c.args.objects.now c.args.folds.now _ _ c.in-Whole.is
     c.is_whole.ensures.reached c.in_ok-stamped_read.ensures.ok c.requires.folded)

@@ -33,9 +33,7 @@ returns-in-Map-clause-gives g c =
     subst (λ (x : Opened). GivesFor c.args.store.now c.args.client.now c.get-get.new.client (kind_opened x)
     (λ object. whats.Get object c.args.key) c.got.result) (sym c.in-Map.is)
     (gives_map_get c.args.store.now c.args.client.now c.get-get.new.client e.client c.got.result
-    (λ (object : ℕ). whats.Get object c.args.key) c.args.key (λ object. refl) (λ object. refl)
-    (λ log caller kept after object value sync r.
-    (refl, object, c.args.key, refl, r.0, r.1, r.2, r.3, r.4, r.5, r.6)) c.in-Map.single.home
+    (λ (object : ℕ). whats.Get object c.args.key) c.args.key (λ object. record { uses = refl; gets = refl }) c.in-Map.single.home
     c.in-Map.single.colours c.get-get.result c.got.ensures is.0.colours e.idle e.away e.ok e.err)
 
 pub get-get-requires-in-Causal-clause-map : goal.get-get-requires-in-Causal-clause-map
@@ -55,7 +53,5 @@ returns-in-Causal-clause-gives g c =
     subst (λ (x : Opened). GivesFor c.args.store.now c.args.client.now c.get-get-in-Causal.new.client (kind_opened x)
     (λ object. whats.Get object c.args.key) c.got_many.result) (sym c.in-Causal.is)
     (gives_causal_get c.args.store.now c.args.client.now c.get-get-in-Causal.new.client e.client c.got_many.result
-    (λ (object : ℕ). whats.Get object c.args.key) c.args.key (λ object. refl) (λ object. refl)
-    (λ log caller kept after object values sync r.
-    (refl, object, c.args.key, refl, r.0, r.1, r.2, r.3)) c.in-Causal.map.colour
+    (λ (object : ℕ). whats.Get object c.args.key) c.args.key (λ object. record { uses = refl; gets = refl }) c.in-Causal.map.colour
     c.get-get-in-Causal.result c.got_many.ensures (omega (arith, few)) e.idle e.ok e.err)

@@ -1,10 +1,9 @@
-use Rattle.std.proofs.Common.{◌≡◌, List, get_or, set, refl, sym, subst}
+use Rattle.std.proofs.Common.{◌≡◌, List, get_or, set, sym, subst}
 use Rattle.world_code.specs.WorldView.{world_of}
-use Rattle.script_text.specs.declared.script.Kind.TheVariants as kinds
 use Rattle.script_in_order.specs.declared.folds.Fold.{Fold}
 use Rattle.script_in_order.specs.declared.folds.Fold.TheVariants as folds
 use Rattle.script_in_order.specs.Folds.{AreFolded}
-use Rattle.script_in_order.proofs.FoldsKept.{fold_there, fold_put, tx_of, only_tx}
+use Rattle.script_in_order.proofs.FoldsKept.{tx_of, none_else, tx_put}
 use Rattle.script_in_order.proofs.folds.Folds.found.Goals as goal
 
 pub found-requires-clause-folded : goal.found-requires-clause-folded
@@ -12,17 +11,15 @@ found-requires-clause-folded c =
     let m = c.requires.may in
     let there = subst (λ (l : List Fold). c.index_mut.result.now ≡ get_or l c.args.object c.index_mut.result.now)
     c.self.view_is c.index_mut.ensures.value in
-    tx_of (world_of c.args.world.now) m.0 c.args.self.now c.args.object c.index_mut.result.now c.in-Tx.fold m.2 m.1 there
+    tx_of (world_of c.args.world.now) m.0 c.args.self.now c.args.object m.2 m.1 c.index_mut.result.now c.in-Tx.fold there
     c.in-Tx.is
 
 pub unreachable-requires : goal.unreachable-requires
 unreachable-requires c =
-    let w = world_of c.args.world.now in
     let m = c.requires.may in
     let there = subst (λ (l : List Fold). c.index_mut.result.now ≡ get_or l c.args.object c.index_mut.result.now)
     c.self.view_is c.index_mut.ensures.value in
-    only_tx w m.1.0 m.1.1 c.index_mut.result.now
-    (fold_there w m.0 c.args.self.now c.args.object (kinds.Tx m.1.0 m.1.1) m.2 m.1.2 c.index_mut.result.now there)
+    none_else (world_of c.args.world.now) m.0 c.args.self.now c.args.object m.2 m.1 c.index_mut.result.now there
     c.in_default.not-Tx
 
 pub returns-clause-folded : goal.returns-clause-folded
@@ -30,5 +27,4 @@ returns-clause-folded c = λ objects is folded.
     let w = world_of c.args.world.now in
     let new : Fold = folds.Tx c.found.new.self in
     subst (λ (l : List Fold). AreFolded w objects (set l c.args.object new)) (sym c.self.view_is)
-    (fold_put w objects c.args.self.now c.args.object (kinds.Tx is.0 is.1) folded is.2 new
-    (is.0, is.1, refl, c.found.ensures.folded))
+    (tx_put w objects c.args.self.now c.args.object folded is c.found.new.self c.found.ensures.folded)

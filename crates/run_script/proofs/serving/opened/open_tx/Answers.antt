@@ -1,0 +1,15 @@
+use Rattle.std.proofs.Common.{subst}
+use Rattle.log_client.specs.Objects.{HasColoursOf}
+use Rattle.run_script.proofs.ObjectFrames.{tx_within}
+use Rattle.run_script.proofs.serving.opened.open_tx.Goals as goal
+
+pub returns-clause-unfolded : goal.returns-clause-unfolded
+returns-clause-unfolded c = (
+  refl,
+  λ client regions few within.
+      let e = c.open-map.ensures in (
+        e.map client (subst (HasColoursOf client) e.of.1
+            (tx_within c.args.alone client regions c.open-map.result.home c.open-map.result.colours few within)),
+        tt,
+      ),
+)
