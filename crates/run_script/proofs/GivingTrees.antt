@@ -2,15 +2,15 @@
 use Rattle.std.proofs.Common.{◌≡◌, ◌≢◌, ℕ, List, [], map, Option, Some, None, Ok, Err, refl, ap, sym, subst, ◌∙◌, inl, inr}
 use Rattle.std.specs.Prelude.{IfErr, IfOk, Result}
 use Rattle.log_node.specs.declared.ids.Colours.{Colours}
-use Rattle.log_node.specs.declared.forms.Version.{Version}
 use Rattle.log_node.specs.Sets.{members}
 use Rattle.object_fold.specs.Folds.{told_of}
 use Rattle.tree_fold.specs.declared.change.Change.{Change}
 use Rattle.tree_fold.specs.declared.told.Told.{Told}
 use Rattle.tree_fold.specs.declared.told.Told.TheVariants.{Done, Failed}
-use Rattle.tree_fold.specs.Changes.{IsChange, change_keys, change_text}
+use Rattle.tree_fold.specs.Changes.{change_keys, change_text}
 use Rattle.tree_fold.specs.Paths.{Path}
-use Rattle.tree_fold.specs.Readings.{path_of}
+use Rattle.tree_fold.specs.declared.change.Change.TheVariants.{Make, Remove, Move}
+use Rattle.tree_fold.specs.Readings.{below_root_of, make_of, move_of, path_of, remove_of}
 use Rattle.tree_fold.specs.Trees.{NamesAfter, telling}
 use Rattle.tree_fold.proofs.CallerLemmas.{make_fits, remove_fits, move_fits}
 use Rattle.col_core.specs.Keeping.{Kept}
@@ -28,11 +28,12 @@ use Rattle.report_text.specs.declared.report.Answer.{Answer}
 use Rattle.report_text.specs.declared.report.Answer.TheVariants as answers
 use Rattle.lawful_run.specs.Asks.{Committing, home_asked, kind_asked, kind_used, object_colours, object_home, rising, shards}
 use Rattle.lawful_run.specs.Callers.{Caller}
-use Rattle.lawful_run.specs.Deeds.{AsksToAppend, Deed, Saying, SaysNode, Whole, colours_reached, colours_synced, deed_of, manner_of, saying_of, says_change}
+use Rattle.lawful_run.specs.Deeds.{AsksToAppend, Deed, Saying, SaysNode, colours_reached, colours_synced, manner_of, says_change}
 use Rattle.lawful_run.specs.Explains.{Explains}
 use Rattle.lawful_run.specs.Reads.{ReadsAt}
 use Rattle.lawful_run.specs.Refusals.{IsAway, IsHomeRefusal, before_by, behind_by, kept_before, kept_behind}
 use Rattle.lawful_run.specs.Shapes.{TellsBehind}
+use Rattle.lawful_run.proofs.CallerLemmas.{make_said, remove_said, move_said}
 use Rattle.script_meaning.specs.States.{kind_in}
 use Rattle.script_meaning.specs.Trees.{change_answer}
 use Rattle.log_client.specs.declared.store.Store.{Store}
@@ -51,8 +52,8 @@ use Rattle.log_tree.specs.declared.tree.LogTree.{LogTree}
 use Rattle.log_tree.specs.Trees.{ChangeRefused, Changes, Looks, TreeRefused}
 use Rattle.run_script.specs.declared.serving.opened.Opened.{Opened}
 use Rattle.run_script.specs.declared.serving.opened.Opened.TheVariants as opened
-use Rattle.run_script.specs.Changing.{change_asked}
-use Rattle.run_script.specs.Opened.{KeepsReadsBut, kind_opened, object_asked, object_in, versions_in}
+use Rattle.run_script.specs.Changing.{AsksChange}
+use Rattle.run_script.specs.Opened.{HasCommand, KeepsReadsBut, kind_opened, object_asked, object_in, versions_in}
 use Rattle.run_script.specs.Replying.{fault_answer, names_answer, told_answer}
 use Rattle.run_script.specs.Serving.{ServesObject, GivesFor, GivesOf}
 use Rattle.run_script.proofs.GivingObjects.{ExplainsIf, away_from, away_if, gives_by, gives_none, none_if, who}
@@ -62,60 +63,73 @@ use Rattle.run_script.proofs.ReadsFound.{given_at, keeps_but}
 
 -- WHICH COMMANDS CHANGE TREES
 
--- the command makes this change of the object with this number
-record ChangesIt (what : What) (object : ℕ) (change : Change) : Type 0 where
-  deed : deed_of what ≡ record { manner = Committing; syncs = Whole }
-  uses : use_of what ≡ OfObject object Leaves
-  said : (kind : Option Kind) (found : Option (List Version)) → saying_of kind found what ≡ says_change (Some change)
-
 -- the number of the object that is used is that which is asked
 used : (what : What) (n object : ℕ) → use_of what ≡ OfObject n Leaves → object_asked what ≡ Some object
     → use_of what ≡ OfObject object Leaves
 used what n object uses asked =
     let same : n ≡ object = cc (sym (ap object_in uses) ∙ asked) in uses ∙ ap (λ (k : ℕ). OfObject k Leaves) same
 
-changes_it : (what : What) (object : ℕ) (change : Change) → change_asked what ≡ Some change → object_asked what ≡ Some object
-    → ChangesIt what object change
-changes_it (whats.Mk n path value) object change is asked = record {
-  deed = refl;
-  uses = used (whats.Mk n path value) n object refl asked;
-  said = λ kind found. ap says_change is;
-}
-changes_it (whats.Rm n path) object change is asked = record {
-  deed = refl;
-  uses = used (whats.Rm n path) n object refl asked;
-  said = λ kind found. ap says_change is;
-}
-changes_it (whats.Mv n source target) object change is asked = record {
-  deed = refl;
-  uses = used (whats.Mv n source target) n object refl asked;
-  said = λ kind found. ap says_change is;
-}
-changes_it _ object change is asked = absurd (let f : ⊥ = cc (is) in f)
-
--- a change that is asked for may be
-pub change_may_be : (what : What) (change : Change) → change_asked what ≡ Some change → IsChange change
-change_may_be (whats.Mk n path value) change asks = make_fits path value change asks
-change_may_be (whats.Rm n path) change asks = remove_fits path change asks
-change_may_be (whats.Mv n source target) change asks = move_fits source target change asks
-change_may_be _ change asks = absurd (let f : ⊥ = cc (asks) in f)
-
--- what was made out is what is asked for
+-- what is asked for is what was made out
 pub same_change : {E : Type 0} (said : Result (Option Change) E) (found : Option Change) (change asked : Change)
-    → said ≡ Ok found → found ≡ Some change → IfOk said (λ o. o ≡ Some asked) → Some change ≡ Some asked
+    → said ≡ Ok found → found ≡ Some change → IfOk said (λ o. o ≡ Some asked) → asked ≡ change
 same_change {E} said found change asked at is made =
-    sym is ∙ subst (λ (call : Result (Option Change) E). IfOk call (λ o. o ≡ Some asked)) at made
+    let e = sym (subst (λ (call : Result (Option Change) E). IfOk call (λ o. o ≡ Some asked)) at made) ∙ is in cc (e)
 
--- what was made out of the fields of a command is what these say
-pub made_out : {E : Type 0} (said : Result (Option Change) E) (found : Option Change) (change : Change)
-    → IfOk said (λ o. o ≡ found) → found ≡ Some change → IfOk said (λ o. o ≡ Some change)
-made_out (Ok o) found change made same = made ∙ same
-made_out (Err e) found change made same = tt
+-- the change that a command asks for is what was made out of its fields
+asked_so : {E : Type 0} (what asks : What) (change : Change) (said : Result (Option Change) E) (found : Option Change)
+    → what ≡ asks → AsksChange asks change → IfOk said (λ o. o ≡ found) → found ≡ Some change
+    → (asked : Change) × AsksChange what asked × IfOk said (λ o. o ≡ Some asked)
+asked_so what asks change said found is its made same =
+    (change, subst (λ (w : What). AsksChange w change) (sym is) its, out said made) where
+      out : {E : Type 0} (said : Result (Option Change) E) → IfOk said (λ o. o ≡ found) → IfOk said (λ o. o ≡ Some change)
+      out (Ok o) made = made ∙ same
+      out (Err e) made = tt
+
+pub asks_make : {E : Type 0} (kind : Kind) (what : What) (object : ℕ) (path value p v : List ℕ) (said : Result (Option Change) E)
+    → HasCommand kind what → what ≡ whats.Mk object path value → p ≡ path → v ≡ value
+    → IfOk said (λ o. o ≡ make_of (below_root_of p) v) → (asked : Change) × AsksChange what asked × IfOk said (λ o. o ≡ Some asked)
+asks_make kind what object path value p v said has is of to made =
+    let fields = make_said object path value (subst (HasCommand kind) is has).1 in
+    asked_so what (whats.Mk object path value) (Make fields.0 value) said _ is (record {
+      object = object;
+      uses = refl;
+      deed = refl;
+      says = λ kind found. ap says_change fields.2;
+      may_be = make_fits path value _ fields.2;
+    }) made (ap (λ (b : List ℕ). make_of (below_root_of b) v) of ∙ (ap (make_of (below_root_of path)) to ∙ fields.2))
+
+pub asks_remove : {E : Type 0} (kind : Kind) (what : What) (object : ℕ) (path p : List ℕ) (said : Result (Option Change) E)
+    → HasCommand kind what → what ≡ whats.Rm object path → p ≡ path
+    → IfOk said (λ o. o ≡ remove_of (below_root_of p)) → (asked : Change) × AsksChange what asked × IfOk said (λ o. o ≡ Some asked)
+asks_remove kind what object path p said has is of made =
+    let fields = remove_said object path (subst (HasCommand kind) is has).1 in
+    asked_so what (whats.Rm object path) (Remove fields.0) said _ is (record {
+      object = object;
+      uses = refl;
+      deed = refl;
+      says = λ kind found. ap says_change fields.2;
+      may_be = remove_fits path _ fields.2;
+    }) made (ap (λ (b : List ℕ). remove_of (below_root_of b)) of ∙ fields.2)
+
+pub asks_move : {E : Type 0} (kind : Kind) (what : What) (object : ℕ) (source target p q : List ℕ)
+    (said : Result (Option Change) E) → HasCommand kind what → what ≡ whats.Mv object source target → p ≡ source → q ≡ target
+    → IfOk said (λ o. o ≡ move_of (below_root_of p) (below_root_of q))
+    → (asked : Change) × AsksChange what asked × IfOk said (λ o. o ≡ Some asked)
+asks_move kind what object source target p q said has is of to made =
+    let fields = move_said object source target (subst (HasCommand kind) is has).1 in
+    asked_so what (whats.Mv object source target) (Move fields.0 fields.1) said _ is (record {
+      object = object;
+      uses = refl;
+      deed = refl;
+      says = λ kind found. ap says_change fields.4;
+      may_be = move_fits source target _ fields.4;
+    }) made (ap (λ (b : List ℕ). move_of (below_root_of b) (below_root_of q)) of
+    ∙ (ap (λ (b : List ℕ). move_of (below_root_of source) (below_root_of b)) to ∙ fields.4))
 
 -- WHAT A CHANGE IS GIVEN
 
 module _ (s : Store) (c d : Client) (on : RestsOn s c d) (objects : List Object) (object : ℕ) (t u : LogTree) (what : What)
-    (change : Change) (its : ChangesIt what object change)
+    (change : Change) (its : AsksChange what change) (uses : use_of what ≡ OfObject object Leaves)
     (at : kind_in objects object ≡ Some (kinds.Tree t.home t.colours)) where
   abbrev it : Caller
   it = who s c d on objects
@@ -133,7 +147,7 @@ module _ (s : Store) (c d : Client) (on : RestsOn s c d) (objects : List Object)
   committing = ap (λ (deed : Deed). deed.manner) its.deed
 
   kind_is : kind_asked it what ≡ Some (kinds.Tree t.home t.colours)
-  kind_is = ap (kind_used it) its.uses ∙ at
+  kind_is = ap (kind_used it) uses ∙ at
 
   home_is : home_asked it what ≡ Some t.home
   home_is = ap object_home kind_is
@@ -147,17 +161,17 @@ module _ (s : Store) (c d : Client) (on : RestsOn s c d) (objects : List Object)
       → AsksToAppend it kept what set (change_text change)
   asks kept set found is =
       subst (λ (said : Option Saying). SaysNode (object_colours (kind_asked it what)) said set (change_text change))
-      (sym (its.said _ _))
+      (sym (its.says _ _))
       (is ∙ ap (λ (k : Option Kind). shards (object_colours k) (change_keys change)) (sym kind_is), refl)
 
   lets_none_go : (kept : Kept) → (kept_before what kept).reads ≡ kept.reads
-  lets_none_go kept = ap (λ (u : Use). (before_by u kept).reads) its.uses
+  lets_none_go kept = ap (λ (u : Use). (before_by u kept).reads) uses
 
   leaves : (kept answered : Kept) → Found kept → answered.reads ≡ kept.reads
       → KeepsReadsBut object None kept (kept_behind what answered)
   leaves kept answered found same =
       keeps_but object None kept (kept_behind what answered) found
-      (ap (λ (u : Use). (behind_by u answered).reads) its.uses ∙ same)
+      (ap (λ (u : Use). (behind_by u answered).reads) uses ∙ same)
 
   gives_if : (answer : Answer) → (IsAway it (home_asked it what) → IsHomeRefusal answer)
       → ExplainsIf s c d on objects Found what answer → ServesObject s objects c d object x y what answer
@@ -206,22 +220,22 @@ module _ (s : Store) (c d : Client) (on : RestsOn s c d) (objects : List Object)
       refused fault (away_from s c d on objects what t.home (Err fault) (fault_answer fault) home_is tells refl) err
 
 pub gives_change : (s : Store) (c d : Client) → RestsOn s c d → (t u : LogTree) (what : What) (change : Change)
-    → change_asked what ≡ Some change → (call : Result (Told × Appended × StampedRead) ObjectFault) (answer : Answer)
+    → AsksChange what change → (call : Result (Told × Appended × StampedRead) ObjectFault) (answer : Answer)
     → answer ≡ told_answer change_answer call → (c.region ≢ t.home → call ≡ Err (faults.NotHome t.home))
     → IfOk call (λ r. Changes s c d t change r.0 r.1 r.2) → IfErr call (ChangeRefused s c d t change)
     → (objects : List Object) (object : ℕ) → object_asked what ≡ Some object
     → kind_in objects object ≡ Some (kind_opened (opened.Tree t))
     → ServesObject s objects c d object (opened.Tree t) (opened.Tree u) what answer
-gives_change s c d on t u what change is call answer shown tells ok err objects object asked at =
+gives_change s c d on t u what change its call answer shown tells ok err objects object asked at =
     subst (ServesObject s objects c d object (opened.Tree t) (opened.Tree u) what) (sym shown)
-    (gives_by_call s c d on objects object t u what change (changes_it what object change is asked) at call tells ok err)
+    (gives_by_call s c d on objects object t u what change its (used what its.object object its.uses asked) at call tells ok err)
 
 -- where memory was refused before anything was done
 pub gives_unchanged : (s : Store) (c : Client) → IsClient s c → (x : Opened) (what : What) (change : Change)
-    → change_asked what ≡ Some change → (objects : List Object) (object : ℕ) → object_asked what ≡ Some object
+    → AsksChange what change → (objects : List Object) (object : ℕ) → object_asked what ≡ Some object
     → kind_in objects object ≡ Some (kind_opened x) → ServesObject s objects c c object x x what answers.NoMemory
-gives_unchanged s c is x what change asks objects object asked at =
-    given_at s objects c c object x x what answers.NoMemory (changes_it what object change asks asked).uses refl
+gives_unchanged s c is x what change its objects object asked at =
+    given_at s objects c c object x x what answers.NoMemory (used what its.object object its.uses asked) refl
     (gives_none s c c (rests_same s c is) objects what (inr (λ helps. helps)) refl)
 
 -- WHAT A LIST IS GIVEN

@@ -6,7 +6,7 @@ ghost use Rattle.script_text.specs.Fitting.{is_tree};
 ghost use Rattle.script_meaning.specs.States.{kind_in};
 ghost use Rattle.log_client.specs.Clients.{IsClient};
 ghost use Rattle.log_client.specs.Reading.{RestsOn};
-ghost use Rattle.run_script.specs.Changing.{change_asked};
+ghost use Rattle.run_script.specs.Changing.{AsksChange};
 ghost use Rattle.run_script.specs.Opened.{kind_opened, object_asked, IsOpenedOf, StaysOpen};
 ghost use Rattle.run_script.specs.Replying.{HasRoomFor, ShowsNone, names_answer};
 ghost use Rattle.run_script.specs.Serving.{GivesFor, ServesObject};
@@ -41,11 +41,11 @@ pub fn change<R: Wait, G: Gate>(
     requires client { IsClient store.now client.old }
     requires kept { IsOpenedOf client.old opened.old }
     requires kind { IsTrue (is_tree (kind_opened opened.old)) }
-    requires asks { (what : What) × (asked : Change) × (change_asked what ≡ Some asked)
+    requires asks { (what : What) × (asked : Change) × AsksChange what asked
         × IfOk said (λ found. found ≡ Some asked) }
     ensures rests { RestsOn store.now client.old client.new }
     ensures stays { StaysOpen client.new opened.old opened.new }
-    ensures gives { (what : What) (asked : Change) → change_asked what ≡ Some asked
+    ensures gives { (what : What) (asked : Change) → AsksChange what asked
         → IfOk said (λ found. found ≡ Some asked)
         → (objects : List Object) (object : ℕ) → object_asked what ≡ Some object
         → kind_in objects object ≡ Some (kind_opened opened.old)

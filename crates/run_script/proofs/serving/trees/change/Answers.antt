@@ -1,12 +1,14 @@
-use Rattle.std.proofs.Common.{◌≡◌, Some, sym, subst, ◌∙◌}
+use Rattle.std.proofs.Common.{◌≡◌, Some, sym, subst}
 use Rattle.report_text.specs.declared.report.Answer.TheVariants as answers
+use Rattle.tree_fold.specs.Changes.{IsChange}
+use Rattle.run_script.specs.Changing.{AsksChange}
 use Rattle.run_script.specs.declared.serving.opened.Opened.{Opened}
 use Rattle.run_script.specs.declared.serving.opened.Opened.TheVariants as opened
 use Rattle.run_script.specs.Opened.{kind_opened}
 use Rattle.run_script.specs.Serving.{ServesObject}
 use Rattle.script_meaning.specs.States.{kind_in}
 use Rattle.run_script.proofs.FewShown.{points_few_changed, shows_few_each}
-use Rattle.run_script.proofs.GivingTrees.{change_may_be, gives_change, gives_unchanged, same_change}
+use Rattle.run_script.proofs.GivingTrees.{gives_change, gives_unchanged, same_change}
 use Rattle.run_script.proofs.serving.trees.change.Goals as goal
 
 pub returns-in_default-clause-gives : goal.returns-in_default-clause-gives
@@ -26,8 +28,7 @@ returns-in_default-room_for-clause-gives g c what asked asks made objects object
 pub change-changed-requires-clause-change : goal.change-changed-requires-clause-change
 change-changed-requires-clause-change g c κs within =
     let asks = c.requires.asks in
-    change_may_be asks.0 c.in-Some.change (asks.2 ∙ sym (same_change c.args.said c.in-Ok.asked c.in-Some.change asks.1 c.in-Ok.is
-    c.in-Some.is asks.3))
+    subst IsChange (same_change c.args.said c.in-Ok.asked c.in-Some.change asks.1 c.in-Ok.is c.in-Some.is asks.3) asks.2.may_be
 
 pub told_shown-requires-clause-points : goal.told_shown-requires-clause-points
 told_shown-requires-clause-points g c =
@@ -47,5 +48,5 @@ returns-clause-gives g c what asked asks made objects object of =
     → ServesObject c.args.store.now objects c.args.client.now c.change-changed.new.client object x
     (opened.Tree c.change-changed.new.self) what c.told_shown.result) (sym c.in-Tree.is)
     (gives_change c.args.store.now c.args.client.now c.change-changed.new.client e.client c.in-Tree.tree
-    c.change-changed.new.self what c.in-Some.change (asks ∙ sym same) c.change-changed.result c.told_shown.result
+    c.change-changed.new.self what c.in-Some.change (subst (AsksChange what) same asks) c.change-changed.result c.told_shown.result
     c.told_shown.ensures e.away e.ok e.err objects object of)
