@@ -108,7 +108,7 @@ pub fn colour_set(names: &NameSet, cols: &[u8]) -> Result<(Colours, usize), Faul
     }
 }
 
-/// A node's text, which is none of those that such objects reserve.
+/// A node's text, which none of the objects reserves.
 #[tactic(auto, unfolding(crate::specs::Readings::text_at))]
 pub fn text_at(alloc: Global, objects: &Objects, field: &[u8]) -> Result<Text, Fault>
     ensures { Gives result (text_at objects.now field.now) }
