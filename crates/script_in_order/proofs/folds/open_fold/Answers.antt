@@ -1,6 +1,8 @@
-use Rattle.std.proofs.Common.{◌<◌, ap, subst, arith}
+use Rattle.std.proofs.Common.{◌≡◌, ◌<◌, ◌⊎◌, inl, inr, ℕ, List, true, ap, subst, arith}
 use Rattle.log_node.specs.declared.node.Shape.{Shape}
-use Rattle.script_text.specs.Fitting.{IsKindWithin}
+use Rattle.script_text.specs.declared.script.Kind.{Kind}
+use Rattle.script_text.specs.declared.script.Kind.TheVariants as kinds
+use Rattle.script_text.specs.Fitting.{IsKindWithin, is_tx}
 use Rattle.script_in_order.proofs.folds.open_fold.Goals as goal
 
 pub returns-in_ok-open_shards-in-Map : goal.returns-in_ok-open_shards-in-Map
@@ -21,8 +23,16 @@ returns-in_ok-open_causal-in-Causal c = λ w same. (
       let few = c.requires.few in omega (arith, within, few)),
 )
 
+-- such a kind is a transactional map's
+is_one : (kind : Kind)
+    → ((home : ℕ) × (colours : List ℕ) × (kind ≡ kinds.Tx home colours))
+    ⊎ ((home : ℕ) × (colours : List ℕ) × (kind ≡ kinds.Parts home colours))
+    → is_tx kind ≡ true
+is_one kind (inl at) = ap is_tx at.2
+is_one kind (inr at) = ap is_tx at.2
+
 pub returns-in-Tx : goal.returns-in-Tx
-returns-in-Tx c = λ w same. (c.in-Tx._home, c.in-Tx._colours, c.in-Tx.is, c.open.ensures.folded w)
+returns-in-Tx c = λ w same. (is_one c.args.kind.now c.in-Tx.is, c.open-in-Tx.ensures.folded w)
 
 pub returns-in-Tree : goal.returns-in-Tree
-returns-in-Tree c = λ w same. (c.in-Tree._home, c.in-Tree._colours, c.in-Tree.is, c.open-in-Tree.ensures.folded w)
+returns-in-Tree c = λ w same. (c.in-Tree._home, c.in-Tree._colours, c.in-Tree.is, c.open.ensures.folded w)
