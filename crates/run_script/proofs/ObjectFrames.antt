@@ -6,7 +6,7 @@ use Rattle.std.proofs.lemmas.Simd.{map-map}
 use Rattle.std.proofs.lemmas.Option.{slice_get-map, get_or_from_slice_get, slice_get_within}
 use Rattle.log_node.specs.declared.limits.TheConstants.{MAX_COLOURS}
 use Rattle.log_node.specs.Seen.{PlacedNode}
-use Rattle.script_text.specs.Fitting.{HasObject, IsKindWithin, UsesOne, UsesObject, kinds_asked}
+use Rattle.script_text.specs.Fitting.{HasObject, IsKindWithin, UsesOne, UsesObject, kinds_asked, is_tx}
 use Rattle.script_text.specs.declared.script.Kind.{Kind}
 use Rattle.script_text.specs.declared.script.Kind.TheVariants as kinds
 use Rattle.script_text.specs.declared.script.Object.{Object}
@@ -185,13 +185,13 @@ gives_asked s c d x y what asks n answer is numbered gives objects object asked 
 
 -- the same of a command that neither lets a read go nor uses it up, of an object of which none is kept
 pub gives_unread : (s : Store) (c d : Client) (x y : Opened) (what : What) (asks : ℕ → What) (n : ℕ) (answer : Answer)
-    → what ≡ asks n → ((k : ℕ) → use_of (asks k) ≡ OfObject k Leaves) → StaysOpen d x y
+    → what ≡ asks n → ((k : ℕ) → use_of (asks k) ≡ OfObject k Leaves) → kind_opened y ≡ kind_opened x
     → GivesFor s c d (kind_opened x) asks answer
     → (objects : List Object) (object : ℕ) → object_asked what ≡ Some object
     → kind_in objects object ≡ Some (kind_opened x) → ServesObject s objects c d object x y what answer
-gives_unread s c d x y what asks n answer is uses stays gives =
+gives_unread s c d x y what asks n answer is uses same gives =
     gives_asked s c d x y what asks n answer is (λ k. ap object_in (uses k)) (record {
       of = λ objects object at.
-          given_at s objects c d object x y (asks object) answer (uses object) (finds_same x y gives.no_reads stays.0)
+          given_at s objects c d object x y (asks object) answer (uses object) (finds_same x y gives.no_reads same)
           (gives.of objects object at);
     })

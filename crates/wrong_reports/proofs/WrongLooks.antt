@@ -30,7 +30,7 @@ use Rattle.script_text.specs.declared.commands.What.TheVariants as whats
 use Rattle.lawful_run.specs.Callers.{Caller, caller_of, node_of}
 use Rattle.col_core.specs.Ids.{IsStepOf}
 use Rattle.lawful_run.specs.Asks.{kind_of_object}
-use Rattle.lawful_run.specs.Deeds.{AsksForKey}
+use Rattle.lawful_run.specs.Deeds.{AsksForKey, Deed, ShardsOf}
 use Rattle.lawful_run.specs.Reads.{HidesRead, ShowsKey, Syncs, RaisesClock, kept_after_place, Raises, ClearSyncs}
 use Rattle.lawful_run.specs.Refusals.{FindsNoMemory, nothing, gone, gave, hidden}
 use Rattle.wrong_reports.specs.Cases.{IsUnlawful, a, b, e, x, id, by, counts, enters}
@@ -330,7 +330,8 @@ dequeue_elsewhere run =
     omega (arith, c)
 
 asked_key : (object other : ℕ) (key more : List ℕ) → AsksForKey (whats.Get object key) other more → key ≡ more
-asked_key object other key more asks = let e = asks.gets in cc (e)
+asked_key object other key more asks =
+    let e : ShardsOf (key ∷ []) ≡ ShardsOf (more ∷ []) = ap (λ (d : Deed). d.syncs) asks.gets in cc (e)
 
 colours_are : (home other : ℕ) (colours more : List ℕ)
     → Some (kinds.Map home colours) ≡ Some (kinds.Map other more) → colours ≡ more
