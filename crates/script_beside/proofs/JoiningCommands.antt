@@ -21,11 +21,10 @@ use Rattle.script_text.specs.declared.table.Last.TheVariants as lasts
 use Rattle.script_text.specs.declared.given.Given.{Given}
 use Rattle.script_text.specs.Commands.{use_of, word_of}
 use Rattle.script_text.specs.Table.{row_fields, last_of, own_fields, later_fields, nothing, has_word}
-use Rattle.script_text.specs.Apart.{is_taken, is_reserved}
 use Rattle.script_text.specs.Words.{word_text}
-use Rattle.script_text.specs.Pieces.{fields_of, name_of, is_text}
+use Rattle.script_text.specs.Pieces.{fields_of, name_of}
 use Rattle.script_text.specs.Items.{version_in, version_of, has_begun, regions_in, colours_in, clients_in, objects_in, last_said, region_names, colour_names, client_names, objects, commands, is_stop, has_stopped, held_by, holds_read, has_read}
-use Rattle.script_text.specs.Grammar.{may_follow, are_new_numbers, are_colours, is_free, is_one_of, Spells, SpellAll, ends_well, SpellsWhat, Says, Say}
+use Rattle.script_text.specs.Grammar.{may_follow, are_new_numbers, is_one_of, Spells, SpellAll, ends_well, SpellsWhat, Says, Say}
 use Rattle.script_beside.specs.Joining.{later, NoneStops}
 use Rattle.script_beside.proofs.JoiningLines.{moved}
 use Rattle.script_beside.proofs.JoiningItems.{asks, asked_of, commands_asked, begun_after}
@@ -121,25 +120,6 @@ same_colours : (one other : List Item) → colour_names one ≡ colour_names oth
 same_colours one other e order ok =
     subst (λ (names : List (List ℕ)). IsTrue (nat_le 1 (length order) && are_new_numbers [] order && list_all (λ c. nat_lt c (length names)) order)) e ok
 
-both : (a b : Bool) → a ≡ true → b ≡ true → (a && b) ≡ true
-both true b e f = f
-both false b e f = e
-
--- a colour that is free after the one is free after the other
-same_free : (one other : List Item) → colour_names one ≡ colour_names other → objects one ≡ objects other → (colour : ℕ)
-    → IsTrue (nat_lt colour (length (colour_names one)) && not (is_taken (objects one) false colour))
-    → IsTrue (nat_lt colour (length (colour_names other)) && not (is_taken (objects other) false colour))
-same_free one other c o colour ok =
-    subst (λ (made : List Object). IsTrue (nat_lt colour (length (colour_names other)) && not (is_taken made false colour))) o
-    (subst (λ (names : List (List ℕ)). IsTrue (nat_lt colour (length names) && not (is_taken (objects one) false colour))) c ok)
-
-same_all_free : (one other : List Item) → colour_names one ≡ colour_names other → objects one ≡ objects other → (alone : Bool) (order : List ℕ)
-    → IsTrue (are_colours one order && list_all (is_free one alone) order) → IsTrue (are_colours other order && list_all (is_free other alone) order)
-same_all_free one other c o alone order ok =
-    let parts = and_parts (are_colours one order) (list_all (is_free one alone) order) ok in
-    both (are_colours other order) (list_all (is_free other alone) order) (same_colours one other c order parts.0)
-    (subst (λ (made : List Object). IsTrue (list_all (λ colour. not (is_taken made alone colour)) order)) o parts.1)
-
 spells_as : (one other : List Item) → region_names one ≡ region_names other → colour_names one ≡ colour_names other → objects one ≡ objects other
     → (field : Field) (own : List (List ℕ)) (given next : Given) → Spells one field own given next → Spells other field own given next
 spells_as one other r c o fields.Steps own given next s = s
@@ -157,8 +137,7 @@ spells_as one other r c o fields.Colour own given next s =
     (s.0, s.1 ∙ ap (λ (names : List (List ℕ)). name_of names s.0 ∷ []) c, subst (λ (names : List (List ℕ)). IsTrue (nat_lt s.0 (length names))) c s.2, s.3)
 spells_as one other r c o fields.Region own given next s =
     (s.0, s.1 ∙ ap (λ (names : List (List ℕ)). name_of names s.0 ∷ []) r, subst (λ (names : List (List ℕ)). IsTrue (nat_lt s.0 (length names))) r s.2, s.3)
-spells_as one other r c o fields.Text own given next s =
-    (s.0, s.1, subst (λ (made : List Object). IsTrue (is_text s.0 && not (is_reserved made s.0))) o s.2, s.3)
+spells_as one other r c o fields.Text own given next s = s
 spells_as one other r c o (fields.Object of) own given next s =
     (s.0, s.1 ∙ ap (λ (made : List Object). name_of (map (λ m. m.name) made) s.0 ∷ []) o, subst (λ (made : List Object). IsTrue (is_one_of of (slice_get made s.0))) o s.2, s.3)
 spells_as one other r c o fields.Key own given next s = s
@@ -167,10 +146,8 @@ spells_as one other r c o (fields.Path root) own given next s = s
 spells_as one other r c o fields.Target own given next s = s
 spells_as one other r c o (fields.Keys most) own given next s = s
 spells_as one other r c o (fields.Pairs most) own given next s = s
-spells_as one other r c o fields.ObjectColour own given next s =
-    (s.0, s.1 ∙ ap (λ (names : List (List ℕ)). name_of names s.0 ∷ []) c, same_free one other c o s.0 s.2, s.3)
-spells_as one other r c o (fields.ObjectColours most alone) own given next s =
-    (s.0, s.1 ∙ ap (λ (names : List (List ℕ)). map (name_of names) s.0) c, same_all_free one other c o alone s.0 s.2, s.3, s.4)
+spells_as one other r c o (fields.Colours most) own given next s =
+    (s.0, s.1 ∙ ap (λ (names : List (List ℕ)). map (name_of names) s.0) c, same_colours one other c s.0 s.2, s.3, s.4)
 
 all_as : (one other : List Item) → region_names one ≡ region_names other → colour_names one ≡ colour_names other → objects one ≡ objects other
     → (row : List Field) (args : List (List ℕ)) (given last : Given) → SpellAll one row args given last → SpellAll other row args given last
@@ -185,6 +162,10 @@ ends_as one other client h lasts.StopFits given e = e
 ends_as one other client h lasts.ReadHeld given e = h given.object e
 
 -- ---- one command
+
+both : (a b : Bool) → a ≡ true → b ≡ true → (a && b) ≡ true
+both true b e f = f
+both false b e f = e
 
 module _ (k : ℕ) (more : List Command) (none : NoneStops more) (one other : List Item) (like : Carries k more one other) where
   what_as : (client : ℕ) (args : List (List ℕ)) (what : What) → SpellsWhat one client args what → SpellsWhat other client args what
