@@ -165,7 +165,7 @@ spells_as one other r c o fields.ObjectColour own given next s =
       s.0,
       s.1 ∙ ap (λ (names : List (List ℕ)). name_of names s.0 ∷ []) c,
       both (is_colour other s.0) (is_free other false s.0) (subst (λ (names : List (List ℕ)). nat_lt s.0 (length names) ≡ true) c ok.0)
-      (subst (λ (made : List Object). not (is_taken made false s.0) ≡ true) o ok.1),
+          (subst (λ (made : List Object). not (is_taken made false s.0) ≡ true) o ok.1),
       s.3,
     )
 spells_as one other r c o (fields.ObjectColours most alone) own given next s =

@@ -12,12 +12,7 @@ use std::alloc::Global;
 
 /// The number of a colour of a new object: none that the earlier fields name, and none that is taken.
 #[tactic(auto, unfolding(crate::specs::Readings::object_colour_at))]
-fn free_colour(
-    known: &Known,
-    alone: bool,
-    earlier: &[&[u8]],
-    field: &[u8],
-) -> Result<u8, Fault>
+fn free_colour(known: &Known, alone: bool, earlier: &[&[u8]], field: &[u8]) -> Result<u8, Fault>
     requires { IsSmall known.now }
     ensures { Gives result (object_colour_at known.now.script.objects known.now.script.colours alone (fields_in earlier.now) field.now) }
 {

@@ -103,9 +103,8 @@ impl Objects {
     pub(crate) fn have_taken(&self, alone: bool, colour: u8) -> bool
         ensures { result ≡ is_taken self.now alone colour }
     {
-        self.objects
-            .iter()
-            .any(|object| (alone || is_parts(&object.kind)) && has_colour(&object.kind, colour))
+        self.objects.iter().any(|object| (alone || is_parts(&object.kind))
+            && has_colour(&object.kind, colour))
     }
 
     /// One object more, behind the others. Without memory they stay as they were.

@@ -36,8 +36,16 @@ const OBJECTS: [Row; 29] = [
     ("queue q r x\nparts q r x", 6, "name repeated"),
     ("queue q r x\nparts p t x", 6, "unknown region"),
     // Others share their colours, and nothing is wrong up to the last line.
-    ("map m r x y\ntree t s y x\ncausal c x\nfly", 8, "bad header"),
-    ("queue q r y\nparts p r x\nparts o s z\nfly", 8, "bad header"),
+    (
+        "map m r x y\ntree t s y x\ncausal c x\nfly",
+        8,
+        "bad header",
+    ),
+    (
+        "queue q r y\nparts p r x\nparts o s z\nfly",
+        8,
+        "bad header",
+    ),
 ];
 
 /// The same in version 1, which has no such object.
@@ -70,7 +78,11 @@ const COMMANDS: [Row; 23] = [
     ),
     // No other text is reserved.
     ("a append x t\na append x z\na fly", 10, "unknown command"),
-    ("a append x tz:\na append x :t\na fly", 10, "unknown command"),
+    (
+        "a append x tz:\na append x :t\na fly",
+        10,
+        "unknown command",
+    ),
     ("a append x T:\na append x Z:\na fly", 10, "unknown command"),
     ("a append x y:\na append x p:\na fly", 10, "unknown command"),
     // It has the commands of a transactional map, and no others.
@@ -85,7 +97,11 @@ const COMMANDS: [Row; 23] = [
 
 /// Commands from line 7 on, where no object does.
 const NOT_RESERVED: [Row; 3] = [
-    ("a append x t:hi\na append x,y z:hi\na append y t:\na fly", 10, "unknown command"),
+    (
+        "a append x t:hi\na append x,y z:hi\na append y t:\na fly",
+        10,
+        "unknown command",
+    ),
     ("a stop 1 x,y t:hi\na fly", 8, "client stopped"),
     ("a stop 1 x,y z:hi\na fly", 8, "client stopped"),
 ];

@@ -1,4 +1,4 @@
-use Rattle.std.proofs.Common.{◌≡◌, ◌∙◌, List, get_or, set, refl, ap, sym, subst}
+use Rattle.std.proofs.Common.{◌≡◌, ◌∙◌, List, get_or, set, ap, sym, subst}
 use Rattle.log_node.specs.declared.forms.Form.TheVariants as forms
 use Rattle.object_form.specs.Forms.{IsForm, form_text}
 use Rattle.script_text.specs.Fitting.{is_tx}
