@@ -1,0 +1,35 @@
+// What holds of a column after a number of its events.
+ghost use Rattle.std.specs.Prelude.{◌≡◌};
+ghost use Rattle.column_track.specs.Tracks.{mark_after};
+
+use column::Column;
+use log_node::Counts;
+
+/// What holds of a column after a number of its events: its clock, how many nodes of each chain may be played, below
+/// which counts nodes are trimmed, how many nodes of each chain are held, and the least stamp of an open entry, where one is
+/// open.
+#[derive(Clone, Copy, Debug, PartialEq, Eq)]
+pub struct Mark {
+    pub clock: u64,
+    pub cut: Counts,
+    pub base: Counts,
+    pub held: Counts,
+    pub least_open: Option<u64>,
+}
+
+/// What holds of a column now.
+pub(crate) fn mark_of(column: &Column) -> Mark
+    ensures { result ≡ mark_after column.now.region column.now.regions column.now.journal }
+{
+    column.agrees();
+    Mark {
+        clock: column.clock(),
+        cut: column.cut(),
+        base: column.base(),
+        held: column.held(),
+        least_open: match column.waiting(0) {
+            Some((key, _)) => Some(key.stamp),
+            None => None,
+        },
+    }
+}

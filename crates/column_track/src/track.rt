@@ -1,0 +1,70 @@
+// A column's journal that was done again, and what can be looked up in it.
+ghost use Rattle.std.specs.Prelude.{◌≡◌, ◌≤◌, length, take};
+ghost use Rattle.col_core.specs.Computed.{dated};
+ghost use Rattle.col_core.specs.Legal.{IsColumnHistory};
+ghost use Rattle.column_track.specs.Tracks.{Tells, mark_after, WasClock, EntersAt};
+
+use crate::marks::Mark;
+use crate::places::Places;
+use column::Column;
+use log_node::Id;
+use std::marker::Model;
+
+/// A column's journal that was done again, with what held after each number of its events. Contracts see the region, how
+/// many regions there are, and the journal.
+#[derive(Drop)]
+pub struct Track {
+    pub(crate) column: Column,
+    pub(crate) marks: Vec<Mark>,
+    pub(crate) places: Places,
+}
+
+impl Model for Track {
+    ghost use Rattle.column_track.specs.Tracks.{Tracked};
+
+    ghost Value = { Tracked };
+
+    ghost use Rattle.column_track.specs.Doing.{IsTrack, tracked};
+
+    ghost view = { λ a. tracked a.column };
+
+    ghost invariant = { λ a. IsTrack a.column a.marks.items a.places };
+}
+
+impl Track {
+    /// What held after so many events.
+    pub fn mark(&self, events: u64) -> Mark
+        requires { events ≤ length self.now.journal }
+        ensures { result ≡ mark_after self.now.region self.now.regions (take events self.now.journal) }
+    {
+        self.marks[events as usize]
+    }
+
+    /// Whether the clock was the stamp after some number of events, from one number to another.
+    pub fn was_clock(&self, from: u64, to: u64, stamp: u64) -> bool
+        requires { to ≤ length self.now.journal }
+        ensures { Tells result (WasClock self.now.journal from to stamp) }
+    {
+        if from > to {
+            return false;
+        }
+        let from = from as usize;
+        let to = to as usize;
+        let place = from + self.marks[from..to].partition_point(|mark| mark.clock < stamp);
+        self.marks[place].clock == stamp
+    }
+
+    /// The place of the event by which an id enters, if one does.
+    pub fn place(&self, id: Id) -> Option<u64>
+        ensures { EntersAt self.now.journal id result }
+    {
+        self.places.of(id)
+    }
+
+    /// Says that the journal is a lawful history.
+    pub fn agrees(&self)
+        ensures { IsColumnHistory self.now.region self.now.regions (dated self.now.region self.now.journal) }
+    {
+        self.column.agrees();
+    }
+}
