@@ -1,9 +1,12 @@
 -- How a journal is done again, event by event.
-use Rattle.std.specs.Prelude.{◌≡◌, IsTrue, IsFalse, Bool, true, false, ℕ, ◌+◌, List, [], ◌∷◌, ◌++◌, length, map, take, Option, Some, None, slice_get}
+use Rattle.std.specs.Prelude.{◌≡◌, ◌&&◌, nat_le, IsTrue, IsFalse, Bool, true, false, ℕ, ◌+◌, List, [], ◌∷◌, ◌++◌, length, map, take, Option, Some, None, slice_get}
 use Rattle.std.specs.List.{find, range_with_len}
 use Rattle.std.specs.Option.{option_map}
 use Rattle.log_node.specs.declared.ids.Id.{Id}
 use Rattle.log_node.specs.declared.ids.Counts.{Counts}
+use Rattle.log_node.specs.declared.limits.TheConstants.{MAX_STAMP}
+use Rattle.log_node.specs.declared.marks.Outcome.{Outcome}
+use Rattle.log_node.specs.declared.marks.Outcome.TheVariants.{Open, Gone, Final}
 use Rattle.log_node.specs.declared.node.Node.{Node}
 use Rattle.log_node.specs.Order.{same_id}
 use Rattle.log_node.specs.Sets.{has}
@@ -28,6 +31,13 @@ gives_stamp (Raise to) = false
 gives_stamp (Give region from) = false
 gives_stamp (Carry region start heads) = false
 gives_stamp (Trim counts) = false
+
+-- an id that was proposed under a stamp, if it was, may be settled with this outcome
+abbrev pub may_settle : Outcome → Option ℕ → Bool
+may_settle Open proposed = false
+may_settle (Gone why) proposed = true
+may_settle (Final stamp) None = false
+may_settle (Final stamp) (Some least) = nat_le least stamp && nat_le stamp MAX_STAMP
 
 -- a node that stands for one that an event enters in the colour 0
 pub record IsNodeOf (region : ℕ) (id : Id) (floor : ℕ) (wants : Counts) (node : Node) : Type 0 where

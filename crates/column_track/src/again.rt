@@ -3,7 +3,7 @@ ghost use Rattle.std.specs.Prelude.{◌≡◌, IfOk, false, Some};
 ghost use Rattle.log_node.specs.Standings.{Standing, open_entry};
 ghost use Rattle.col_core.specs.declared.Event.TheVariants as events;
 ghost use Rattle.col_core.specs.History.{entries, has_entered};
-ghost use Rattle.column_track.specs.Doing.{Goes};
+ghost use Rattle.column_track.specs.Doing.{Goes, may_settle};
 
 use crate::nodes::{items_with, node_of};
 use column::{Column, ColumnFault, Given};
@@ -60,6 +60,20 @@ pub(crate) fn propose_again(
     }
 }
 
+// Whether an id that was proposed under a stamp, if it was, may be settled with this outcome.
+fn may_settle(outcome: Outcome, proposed: Option<u64>) -> bool
+    ensures { result ≡ may_settle outcome proposed }
+{
+    match outcome {
+        Outcome::Open => false,
+        Outcome::Gone(_) => true,
+        Outcome::Final(stamp) => match proposed {
+            Some(least) => least <= stamp && stamp <= MAX_STAMP,
+            None => false,
+        },
+    }
+}
+
 /// An id that was proposed under a stamp, if it was, is settled, as an event of a journal says.
 pub(crate) fn settle_again(
     column: &mut Column,
@@ -71,13 +85,8 @@ pub(crate) fn settle_again(
     requires { (e : Standing) → open_entry id (entries column.old.journal) ≡ Some e → proposed ≡ Some e.key.stamp }
     ensures { Goes column.old column.new by (events.Settle id outcome) 0 result }
 {
-    if let Outcome::Final(stamp) = outcome {
-        let Some(least) = proposed else {
-            return false;
-        };
-        if stamp < least || stamp > MAX_STAMP {
-            return false;
-        }
+    if !may_settle(outcome, proposed) {
+        return false;
     }
     match column.settle(by, id, outcome) {
         At::Event(_) => true,

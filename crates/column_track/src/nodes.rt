@@ -44,10 +44,10 @@ pub(crate) fn items_with(alloc: Global, heads: &[Head]) -> Result<Items, AllocEr
     let node = node_of(alloc, 0, none, 0, Counts::zeros())?;
     let mut items = Vec::with_capacity(alloc, heads.len())?;
     for head in heads {
-        items.push_reserved(Item {
+        items.push(Item {
             head: *head,
             node: node.clone()?,
-        });
+        })?;
     }
     Ok(ListOf::from(items))
 }

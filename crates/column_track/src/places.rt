@@ -50,7 +50,7 @@ impl Places {
     fn add(&mut self, id: Id, place: u64) -> Result<bool, AllocError>
         ensures fresh { IfOk result (λ fresh. fresh ≡ is_none (place_in self.old id)) }
         ensures added { (other : NodeId) → IfOk result (λ fresh. place_in self.new other
-            ≡ (if same_id id other then Some place else place_in self.old other)) }
+            ≡ (if same_id other id then Some place else place_in self.old other)) }
     {
         Ok(self.by_id.insert(id, place)?.is_none())
     }
