@@ -1,2 +1,4 @@
 mod PlaceLemmas
 mod EventLemmas
+mod WaitLemmas
+mod NextLemmas

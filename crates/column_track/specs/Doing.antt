@@ -1,5 +1,5 @@
 -- How a journal is done again, event by event.
-use Rattle.std.specs.Prelude.{◌≡◌, ◌&&◌, nat_le, IsTrue, IsFalse, Bool, true, false, ℕ, ◌+◌, List, [], ◌∷◌, ◌++◌, length, map, take, Option, Some, None, slice_get}
+use Rattle.std.specs.Prelude.{◌≡◌, ◌&&◌, ◌||◌, ◌==◌, nat_le, IsTrue, IsFalse, Bool, true, false, ℕ, ◌+◌, List, [], ◌∷◌, ◌++◌, length, map, take, Option, Some, None, slice_get}
 use Rattle.std.specs.List.{find, range_with_len}
 use Rattle.std.specs.Option.{option_map}
 use Rattle.log_node.specs.declared.ids.Id.{Id}
@@ -22,7 +22,7 @@ use Rattle.column_track.specs.declared.marks.Mark.{Mark}
 use Rattle.column_track.specs.declared.places.Places.{Places}
 use Rattle.column_track.specs.Tracks.{Tracked, EntersAt, mark_after}
 
--- the event gives the stamp of an entry
+-- the event gives a stamp
 abbrev pub gives_stamp : Event → Bool
 gives_stamp (Single id floor wants) = true
 gives_stamp (Propose id floor wants) = true
@@ -31,6 +31,14 @@ gives_stamp (Raise to) = false
 gives_stamp (Give region from) = false
 gives_stamp (Carry region start heads) = false
 gives_stamp (Trim counts) = false
+
+-- an event that gives a stamp, or an entry without one
+abbrev pub is_stamped : Entry → Bool
+is_stamped e = gives_stamp e.event || (e.stamp == 0)
+
+-- the entry comes in the journal behind those before
+abbrev pub IsNextOf : List Entry → List Entry → Entry → Type 0
+IsNextOf journal before e = (n : ℕ) × (before ≡ take n journal) × (slice_get journal n ≡ Some e)
 
 -- an id that was proposed under a stamp, if it was, may be settled with this outcome
 abbrev pub may_settle : Outcome → Option ℕ → Bool

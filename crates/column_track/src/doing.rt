@@ -1,8 +1,7 @@
 // A whole journal done again.
-ghost use Rattle.std.specs.Prelude.{◌≡◌, ◌<◌, ◌≤◌, IfOk, Some, length, take, slice_get, [], vec_capacity};
-ghost use Rattle.col_core.specs.declared.Entry.{Entry as HistoryEntry};
+ghost use Rattle.std.specs.Prelude.{◌≡◌, ◌<◌, ◌≤◌, IfOk, []};
 ghost use Rattle.column_track.specs.Tracks.{IsDoneAgain};
-ghost use Rattle.column_track.specs.Doing.{ArePlaces, Goes, GoesThrough, gives_stamp};
+ghost use Rattle.column_track.specs.Doing.{ArePlaces, Goes, GoesThrough, IsNextOf, is_stamped};
 
 use crate::again::{
     carry_again, give_again, propose_again, raise_again, settle_again, single_again, trim_again,
@@ -15,42 +14,40 @@ use column::Column;
 use log_node::{MAX_REGIONS, Shape};
 use std::alloc::{AllocError, Global};
 
-// Whether the event gives a stamp.
-fn gives_stamp(event: &Event) -> bool
-    ensures { result ≡ gives_stamp event.now }
+// Whether the entry's event gives a stamp, or else the entry has none.
+fn is_stamped(entry: &Entry) -> bool
+    ensures { result ≡ is_stamped entry.now }
 {
-    match event {
+    match &entry.event {
         Event::Single { .. } | Event::Propose { .. } => true,
         Event::Settle { .. }
         | Event::Raise { .. }
         | Event::Give { .. }
         | Event::Carry { .. }
-        | Event::Trim { .. } => false,
+        | Event::Trim { .. } => entry.stamp == 0,
     }
 }
 
-// The event at a place of the journal, where those before it were done again.
-fn event_again(
+// The journal's next entry, where those before it were done again.
+fn entry_again(
     alloc: Global,
     column: &mut Column,
     regions: u8,
     journal: &[Entry],
     places: &Places,
-    at: usize,
+    entry: &Entry,
 ) -> Result<bool, AllocError>
     requires colour { column.old.colour ≡ 0 }
     requires regions { column.old.regions ≡ regions }
     requires places { ArePlaces journal.now places.now }
-    requires there { at < length journal.now }
-    requires before { column.old.journal ≡ take at journal.now }
-    ensures { (e : HistoryEntry) → slice_get journal.now at ≡ Some e
-        → IfOk result (Goes column.old column.new e.by e.event e.stamp) }
+    requires next { IsNextOf journal.now column.old.journal entry.now }
+    ensures { IfOk result (Goes column.old column.new entry.now.by entry.now.event entry.now.stamp) }
 {
-    let entry = &journal[at];
-    let by = entry.by;
-    if entry.stamp != 0 && !gives_stamp(&entry.event) {
+    column.agrees();
+    if !is_stamped(entry) {
         return Ok(false);
     }
+    let by = entry.by;
     match &entry.event {
         Event::Single { id, floor, wants } => {
             single_again(alloc, column, by, *id, *floor, *wants, entry.stamp)
@@ -73,8 +70,8 @@ fn event_again(
     }
 }
 
-// All events of the journal, with a mark before the first and behind each.
-fn events_again(
+// All entries of the journal, with a mark before the first and behind each.
+fn entries_again(
     alloc: Global,
     column: &mut Column,
     marks: &mut Vec<Mark>,
@@ -90,8 +87,8 @@ fn events_again(
     ensures { IfOk result (GoesThrough column.old column.new journal.now marks.new.items) }
 {
     marks.push(mark_of(column))?;
-    for at in 0..journal.len() {
-        if !event_again(alloc, column, regions, journal, places, at)? {
+    for entry in journal {
+        if !entry_again(alloc, column, regions, journal, places, entry)? {
             return Ok(false);
         }
         marks.push(mark_of(column))?;
@@ -116,7 +113,7 @@ pub fn do_again(
     };
     let mut column = Column::open(alloc, region, 0, shape)?;
     let mut marks = Vec::new(alloc);
-    if !events_again(alloc, &mut column, &mut marks, shape.regions, journal, &places)? {
+    if !entries_again(alloc, &mut column, &mut marks, shape.regions, journal, &places)? {
         return Ok(None);
     }
     column.agrees();
