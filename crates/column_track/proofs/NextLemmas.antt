@@ -1,9 +1,10 @@
 -- The next entry of a journal: what places say of it, and what its column makes of the history.
-use Rattle.std.proofs.Common.{◌≡◌, ◌⊎◌, ℕ, ◌+◌, ◌<◌, ◌≤◌, Bool, true, false, List, [], ◌∷◌, ◌++◌, length, map, take, drop, Option, Some, None, refl, ap, sym, subst, ◌∙◌, arith, inl, inr}
+use Rattle.std.proofs.Common.{◌≡◌, ◌⊎◌, ℕ, ◌+◌, ◌<◌, ◌≤◌, Bool, true, false, List, [], ◌∷◌, ◌++◌, length, map, take, drop, Option, Some, None, refl, ap, sym, subst, ◌∙◌, arith, inl, inr, zero, suc, get_or}
 use Rattle.std.specs.Prelude.{slice_get, IsTrue, ◌==◌, ◌||◌}
 use Rattle.std.proofs.lemmas.Bool.{true≢false, eqb-true, cases_order}
-use Rattle.std.proofs.lemmas.List.{take_at, take-drop}
-use Rattle.std.proofs.lemmas.Option.{slice_get_within}
+use Rattle.std.proofs.lemmas.List.{take_at, take_all, take-append-drop}
+use Rattle.std.proofs.lemmas.List.FromFn.{map-range_with_len_more}
+use Rattle.std.proofs.lemmas.Option.{slice_get_read}
 use Rattle.log_node.specs.declared.ids.Id.{Id}
 use Rattle.log_node.specs.Standings.{Standing, open_entry}
 use Rattle.log_node.proofs.CallerLemmas.{get_last, get_longer, same_some}
@@ -17,18 +18,11 @@ use Rattle.col_core.specs.Ids.{Proposes}
 use Rattle.col_core.specs.Legal.{IsColumnHistory, IsLawfulEvent}
 use Rattle.col_core.proofs.CallerLemmas.{dated-append, lawful_beginning, open_is_proposed, same_id-refl}
 use Rattle.column_track.specs.declared.places.Places.{Places}
-use Rattle.column_track.specs.Doing.{ArePlaces, EntersOnce, IsNextOf, IsStampOf, gives_stamp, is_stamped}
-use Rattle.column_track.proofs.PlaceLemmas.{was_entered}
-
--- what is said of an event and its stamp is said of the entry that has them
-pub same_entry : (P : Event → ℕ → Type 0) (e : Entry) (event : Event) (stamp : ℕ) → e.event ≡ event → e.stamp ≡ stamp → P event stamp
-    → P e.event e.stamp
-same_entry P e event stamp is given p = subst (λ (v : Event). P v e.stamp) (sym is) (subst (P event) (sym given) p)
-
--- an event that gives no stamp has 0
-pub quiet : (e : Entry) (event : Event) → e.event ≡ event → is_stamped e ≡ true → gives_stamp event ≡ false → e.stamp ≡ 0
-quiet e event is stamped none =
-    eqb-true e.stamp 0 (sym (ap (λ b. b || (e.stamp == 0)) (ap gives_stamp is ∙ none)) ∙ stamped)
+use Rattle.column_track.specs.Doing.{ArePlaces, EntersOnce, GoesThrough, HasGone, IsNextOf, IsStampOf, marks_of}
+use Rattle.column_track.specs.Tracks.{mark_after}
+use Rattle.column_track.specs.declared.marks.Mark.{Mark}
+use Rattle.column.specs.Columns.{ColumnState, history_of}
+use Rattle.column_track.proofs.PlaceLemmas.{next_is, was_entered}
 
 module _ (journal before : List Entry) (e : Entry) (places : Places) (are : ArePlaces journal places) (next : IsNextOf journal before e) where
   -- an id that enters next has not entered
@@ -47,7 +41,10 @@ one_place journal once id m n d e at_m at_n enters_m enters_n = by (cases_order 
   earlier i j x y lt at_i at_j enters_i enters_j =
       true≢false (sym (was_entered (take j journal) id i x (get_taken journal i j x lt at_i) enters_i) ∙ once j y id at_j enters_j) where
         get_taken : (xs : List Entry) (i j : ℕ) (x : Entry) → i < j → slice_get xs i ≡ Some x → slice_get (take j xs) i ≡ Some x
-        get_taken xs i j x lt there = ?
+        get_taken [] i j x lt there = absurd (let f : ⊥ = cc (there) in f)
+        get_taken (y ∷ xs) i zero x lt there = absurd (let f : ⊥ = omega (arith, lt) in f)
+        get_taken (y ∷ xs) zero (suc j) x lt there = there
+        get_taken (y ∷ xs) (suc i) (suc j) x lt there = get_taken xs i j x (omega (arith, lt)) there
 
   by : (m ≡ n) ⊎ ((m < n) ⊎ (n < m)) → d ≡ e
   by (inl same) = same_some (sym at_m ∙ (ap (slice_get journal) same ∙ at_n))
@@ -64,7 +61,7 @@ proposed_under own regions journal before e places are next lawful id o stamp s 
 
   there : slice_get journal p.0 ≡ Some p.1
   there =
-      ap (λ (l : List Entry). slice_get l p.0) (sym (take-drop next.0 journal))
+      ap (λ (l : List Entry). slice_get l p.0) (sym (take-append-drop next.0 journal))
       ∙ get_longer (take next.0 journal) (drop next.0 journal) p.0 p.1
       (ap (λ (l : List Entry). slice_get l p.0) (sym next.1) ∙ p.4)
 
@@ -86,10 +83,66 @@ last_lawful own regions before e lawful =
     subst (λ (l : List Dated). IsLawfulEvent own regions l e.event e.stamp) (take_at ds (d ∷ []) (length ds) refl)
     (subst (IsColumnHistory own regions) (dated-append own before e) lawful (length ds) d (get_last ds d))
 
--- so is each event of it
-pub next_lawful : (own regions : ℕ) (journal before rest : List Entry) (e : Entry) → journal ≡ before ++ e ∷ rest
-    → IsColumnHistory own regions (dated own journal) → IsLawfulEvent own regions (dated own before) e.event e.stamp
-next_lawful own regions journal before rest e is lawful =
-    last_lawful own regions before e
-    (lawful_beginning own regions (before ++ e ∷ []) rest
-    (subst (λ (l : List Entry). IsColumnHistory own regions (dated own l)) (is ∙ sym (append_assoc before (e ∷ []) rest)) lawful))
+-- SO FAR
+
+-- the column has the first events of a journal, and the marks are those after each number of them
+pub record IsSoFar (old column : ColumnState) (journal : List Entry) (n : ℕ) (marks : List Mark) : Type 0 where
+  pub region : column.region ≡ old.region
+  pub colour : column.colour ≡ 0
+  pub regions : column.regions ≡ old.regions
+  pub before : column.journal ≡ take n journal
+  pub marks_are : marks ≡ marks_of old.region old.regions journal (n + 1)
+
+module _ (old column : ColumnState) (journal : List Entry) (n : ℕ) (marks : List Mark) (so : IsSoFar old column journal n marks)
+    (e : Entry) (lt : n < length journal) (is : e ≡ get_or journal n e) where
+  pub so_far_next : (new : ColumnState) (more : List Mark) → HasGone column new e.by e.event e.stamp
+      → more ≡ marks ++ mark_after new.region new.regions new.journal ∷ [] → IsSoFar old new journal (n + 1) more
+  so_far_next new more gone pushed = record {
+    region = region;
+    colour = gone.colour ∙ so.colour;
+    regions = regions;
+    before = before;
+    marks_are =
+        pushed
+        ∙ (ap (λ (m : Mark). marks ++ m ∷ [])
+        (ap (λ (r : ℕ). mark_after r new.regions new.journal) region
+        ∙ (ap (λ (r : ℕ). mark_after old.region r new.journal) regions ∙ ap (mark_after old.region old.regions) before))
+        ∙ (ap (λ (l : List Mark). l ++ mark_after old.region old.regions (take (n + 1) journal) ∷ []) so.marks_are
+        ∙ sym (map-range_with_len_more (λ i. mark_after old.region old.regions (take i journal)) 0 (n + 1) (n + 1) (omega arith))));
+  } where
+    region : new.region ≡ old.region
+    region = gone.region ∙ so.region
+
+    regions : new.regions ≡ old.regions
+    regions = gone.regions ∙ so.regions
+
+    before : new.journal ≡ take (n + 1) journal
+    before = gone.journal ∙ (ap (λ (l : List Entry). l ++ e ∷ []) so.before ∙ sym (next_is journal n e lt is))
+
+  pub so_far_stops : (IsLawfulEvent column.region column.regions (history_of column) e.event e.stamp → ⊥)
+      → IsColumnHistory old.region old.regions (dated old.region journal) → ⊥
+  so_far_stops refuses lawful =
+      refuses (subst (λ (r : ℕ). IsLawfulEvent r column.regions (dated r column.journal) e.event e.stamp) (sym so.region)
+      (subst (λ (r : ℕ). IsLawfulEvent old.region r (dated old.region column.journal) e.event e.stamp) (sym so.regions)
+      (subst (λ (h : List Entry). IsLawfulEvent old.region old.regions (dated old.region h) e.event e.stamp) (sym so.before)
+      (last_lawful old.region old.regions (take n journal) e
+      (subst (λ (h : List Entry). IsColumnHistory old.region old.regions (dated old.region h)) (next_is journal n e lt is)
+      (lawful_beginning old.region old.regions (take (n + 1) journal) (drop (n + 1) journal)
+      (subst (λ (h : List Entry). IsColumnHistory old.region old.regions (dated old.region h))
+      (sym (take-append-drop (n + 1) journal)) lawful)))))))
+
+-- what places ask of the next entry
+pub so_far_at : (old column : ColumnState) (journal : List Entry) (n : ℕ) (marks : List Mark) → IsSoFar old column journal n marks
+    → (e : Entry) → n < length journal → e ≡ get_or journal n e → IsNextOf journal column.journal e
+so_far_at old column journal n marks so e lt is = (n, so.before, slice_get_read journal (length journal) n e refl lt is)
+
+pub so_far_ends : (old column : ColumnState) (journal : List Entry) (n : ℕ) (marks : List Mark) → IsSoFar old column journal n marks
+    → length journal ≤ n → n ≤ length journal → GoesThrough old column journal marks true
+so_far_ends old column journal n marks so all within =
+    let same : n ≡ length journal = omega (arith, all, within) in
+    (
+      so.region,
+      so.regions,
+      so.before ∙ take_all n journal all,
+      so.marks_are ∙ ap (λ (k : ℕ). marks_of old.region old.regions journal (k + 1)) same,
+    )
