@@ -2,3 +2,4 @@ mod PlaceLemmas
 mod EventLemmas
 mod WaitLemmas
 mod NextLemmas
+mod TrackLemmas

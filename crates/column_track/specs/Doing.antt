@@ -1,6 +1,7 @@
 -- How a journal is done again, event by event.
-use Rattle.std.specs.Prelude.{◌≡◌, ◌&&◌, ◌||◌, ◌==◌, nat_le, IsTrue, IsFalse, Bool, true, false, ℕ, ◌+◌, List, [], ◌∷◌, ◌++◌, length, map, take, Option, Some, None, slice_get}
+use Rattle.std.specs.Prelude.{◌≡◌, ◌≤◌, ◌&&◌, ◌||◌, ◌==◌, nat_le, IsTrue, IsFalse, Bool, true, false, ℕ, ◌+◌, List, [], ◌∷◌, ◌++◌, length, map, take, Option, Some, None, slice_get}
 use Rattle.std.specs.List.{find, range_with_len}
+use Rattle.std.specs.List.Sorted.{IsNonDecreasingBy}
 use Rattle.std.specs.Option.{option_map}
 use Rattle.log_node.specs.declared.ids.Id.{Id}
 use Rattle.log_node.specs.declared.ids.Counts.{Counts}
@@ -124,3 +125,12 @@ tracked column = record { region = column.region; regions = column.regions; jour
 pub record IsTrack (column : ColumnState) (marks : List Mark) (places : Places) : Type 0 where
   pub marks_are : marks ≡ marks_of column.region column.regions column.journal (length column.journal + 1)
   pub places_are : ArePlaces column.journal places
+
+-- no mark has a lesser clock than one before it
+abbrev pub ClocksDoNotFall : List Mark → Type 0
+ClocksDoNotFall marks = IsNonDecreasingBy (λ (m : Mark). m.clock) marks
+
+-- a mark from one place to another has the clock
+abbrev pub HasClock : List Mark → ℕ → ℕ → ℕ → Type 0
+HasClock marks from to stamp =
+    (n : ℕ) × (from ≤ n) × (n ≤ to) × (m : Mark) × (slice_get marks n ≡ Some m) × (m.clock ≡ stamp)

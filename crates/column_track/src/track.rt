@@ -1,8 +1,9 @@
 // A column's journal that was done again, and what can be looked up in it.
-ghost use Rattle.std.specs.Prelude.{◌≡◌, ◌≤◌, length, take};
+ghost use Rattle.std.specs.Prelude.{◌≡◌, ◌≤◌, ◌<◌, length, take};
 ghost use Rattle.col_core.specs.Computed.{dated};
 ghost use Rattle.col_core.specs.Legal.{IsColumnHistory};
 ghost use Rattle.column_track.specs.Tracks.{Tells, mark_after, WasClock, EntersAt};
+ghost use Rattle.column_track.specs.Doing.{ClocksDoNotFall, HasClock};
 
 use crate::marks::Mark;
 use crate::places::Places;
@@ -31,6 +32,16 @@ impl Model for Track {
     ghost invariant = { λ a. IsTrack a.column a.marks.items a.places };
 }
 
+// Whether a mark from one place to another has this clock, where clocks do not fall.
+fn clock_among(marks: &[Mark], from: usize, to: usize, stamp: u64) -> bool
+    requires rises { ClocksDoNotFall marks.now }
+    requires within { to < length marks.now }
+    ensures { Tells result (HasClock marks.now from to stamp) }
+{
+    let place = from.max(marks.partition_point(|mark| mark.clock < stamp));
+    place <= to && marks[place].clock == stamp
+}
+
 impl Track {
     /// What held after so many events.
     pub fn mark(&self, events: u64) -> Mark
@@ -45,13 +56,7 @@ impl Track {
         requires { to ≤ length self.now.journal }
         ensures { Tells result (WasClock self.now.journal from to stamp) }
     {
-        if from > to {
-            return false;
-        }
-        let from = from as usize;
-        let to = to as usize;
-        let place = from + self.marks[from..to].partition_point(|mark| mark.clock < stamp);
-        self.marks[place].clock == stamp
+        clock_among(&self.marks, from as usize, to as usize, stamp)
     }
 
     /// The place of the event by which an id enters, if one does.
