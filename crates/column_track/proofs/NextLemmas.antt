@@ -139,8 +139,7 @@ so_far_at old column journal n marks so e lt is = (n, so.before, slice_get_read 
 pub so_far_ends : (old column : ColumnState) (journal : List Entry) (n : ℕ) (marks : List Mark) → IsSoFar old column journal n marks
     → length journal ≤ n → n ≤ length journal → GoesThrough old column journal marks true
 so_far_ends old column journal n marks so all within =
-    let same : n ≡ length journal = omega (arith, all, within) in
-    (
+    let same : n ≡ length journal = omega (arith, all, within) in (
       so.region,
       so.regions,
       so.before ∙ take_all n journal all,

@@ -16,8 +16,10 @@ use Rattle.col_core.specs.Computed.{dated}
 use Rattle.col_core.specs.Legal.{IsColumnHistory, IsLawfulEvent}
 use Rattle.col_core.proofs.CallerLemmas.{entries_dated, lawful_beginning}
 use Rattle.column_track.specs.declared.marks.Mark.{Mark}
-use Rattle.column_track.specs.Tracks.{Tells, WasClock, mark_after}
-use Rattle.column_track.specs.Doing.{ClocksDoNotFall, EntersOnce, HasClock, marks_of}
+use Rattle.column_track.specs.Tracks.{Tells, Tracked, WasClock, mark_after}
+use Rattle.column_track.specs.declared.places.Places.{Places}
+use Rattle.column.specs.Columns.{ColumnState}
+use Rattle.column_track.specs.Doing.{ClocksDoNotFall, EntersOnce, HasClock, IsTrack, marks_of, tracked}
 use Rattle.column_track.proofs.NextLemmas.{last_lawful}
 use Rattle.column_track.proofs.PlaceLemmas.{next_is}
 
@@ -55,7 +57,7 @@ module _ (own regions : ℕ) (journal : List Entry) (count : ℕ) where
       let long = length-range_with_len 0 count in
       let there = get_within (range_with_len 0 count) n (omega (arith, lt, long)) in
       get_map (λ i. mark_after own regions (take i journal)) (range_with_len 0 count) n n
-      (there.1 ∙ ap (λ (k : ℕ). Some k) (get_range 0 count n there.0 there.1))
+      (there.1 ∙ ap (λ (k : ℕ). Some k) (let is = get_range 0 count n there.0 there.1 in omega (arith, is)))
 
   pub marks_rise : ClocksDoNotFall (marks_of own regions journal count)
   marks_rise i j d le lt =
@@ -114,7 +116,6 @@ told_as true P Q to back p = to p
 told_as false P Q to back p = λ q. p (back q)
 
 module _ (own regions : ℕ) (journal : List Entry) (from to stamp : ℕ) (within : to ≤ length journal) where
-
   pub was : HasClock (marks_of own regions journal (length journal + 1)) from to stamp → WasClock journal from to stamp
   was found =
       let n = found.0 in
@@ -125,6 +126,17 @@ module _ (own regions : ℕ) (journal : List Entry) (from to stamp : ℕ) (withi
   pub has : WasClock journal from to stamp → HasClock (marks_of own regions journal (length journal + 1)) from to stamp
   has found =
       let n = found.0 in
-      let top : n ≤ to = found.2 in
-      (n, found.1, found.2, mark_after own regions (take n journal),
-        mark_at own regions journal (length journal + 1) n (omega (arith, top, within)), found.3)
+      let top : n ≤ to = found.2 in (
+        n,
+        found.1,
+        found.2,
+        mark_after own regions (take n journal),
+        mark_at own regions journal (length journal + 1) n (omega (arith, top, within)),
+        found.3,
+      )
+
+-- the marks of a track, as contracts see it
+pub marks_seen : (column : ColumnState) (marks : List Mark) (places : Places) (t : Tracked) → tracked column ≡ t
+    → IsTrack column marks places → marks ≡ marks_of t.region t.regions t.journal (length t.journal + 1)
+marks_seen column marks places t seen is =
+    subst (λ (u : Tracked). marks ≡ marks_of u.region u.regions u.journal (length u.journal + 1)) seen is.marks_are

@@ -65,7 +65,15 @@ fn entry_again(
             region,
             start,
             heads,
-        } => carry_again(alloc, column, by, regions, *region, *start, heads.as_slice()),
+        } => carry_again(
+            alloc,
+            column,
+            by,
+            regions,
+            *region,
+            *start,
+            heads.as_slice(),
+        ),
         Event::Trim { counts } => trim_again(column, by, *counts),
     }
 }
@@ -113,7 +121,14 @@ pub fn do_again(
     };
     let mut column = Column::open(alloc, region, 0, shape)?;
     let mut marks = Vec::new(alloc);
-    if !entries_again(alloc, &mut column, &mut marks, shape.regions, journal, &places)? {
+    if !entries_again(
+        alloc,
+        &mut column,
+        &mut marks,
+        shape.regions,
+        journal,
+        &places,
+    )? {
         return Ok(None);
     }
     column.agrees();

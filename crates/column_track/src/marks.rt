@@ -9,7 +9,7 @@ use log_node::Counts;
 /// What holds of a column after a number of its events: its clock, how many nodes of each chain may be played, below
 /// which counts nodes are trimmed, how many nodes of each chain are held, and the least stamp of an open entry, where one is
 /// open.
-#[derive(Clone, Copy, Debug, PartialEq, Eq)]
+#[derive(Clone, Copy)]
 pub struct Mark {
     pub clock: u64,
     pub cut: Counts,

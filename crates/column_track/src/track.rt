@@ -1,5 +1,5 @@
 // A column's journal that was done again, and what can be looked up in it.
-ghost use Rattle.std.specs.Prelude.{◌≡◌, ◌≤◌, ◌<◌, length, take};
+ghost use Rattle.std.specs.Prelude.{◌≡◌, ◌≤◌, ◌<◌, Some, length, take, slice_get};
 ghost use Rattle.col_core.specs.Computed.{dated};
 ghost use Rattle.col_core.specs.Legal.{IsColumnHistory};
 ghost use Rattle.column_track.specs.Tracks.{Tells, mark_after, WasClock, EntersAt};
@@ -32,6 +32,14 @@ impl Model for Track {
     ghost invariant = { λ a. IsTrack a.column a.marks.items a.places };
 }
 
+// The mark at a place.
+fn mark_in(marks: &[Mark], at: usize) -> Mark
+    requires { at < length marks.now }
+    ensures { slice_get marks.now at ≡ Some result }
+{
+    marks[at]
+}
+
 // Whether a mark from one place to another has this clock, where clocks do not fall.
 fn clock_among(marks: &[Mark], from: usize, to: usize, stamp: u64) -> bool
     requires rises { ClocksDoNotFall marks.now }
@@ -48,7 +56,7 @@ impl Track {
         requires { events ≤ length self.now.journal }
         ensures { result ≡ mark_after self.now.region self.now.regions (take events self.now.journal) }
     {
-        self.marks[events as usize]
+        mark_in(&self.marks, events as usize)
     }
 
     /// Whether the clock was the stamp after some number of events, from one number to another.

@@ -12,7 +12,7 @@ returns c =
     let under = c.if-region-regions.false in
     let many = c.requires in
     carry_goes c.args.column.now c.carry.new.self c.args.by c.args.region c.args.start c.args.heads.now c.in_ok-items.items
-    c.agrees.ensures (omega (arith, under, many)) 
+    c.agrees.ensures (omega (arith, under, many))
     (c.if-start-of_region.false ∙ (c.of_region.ensures ∙ ap (λ (v : Counts). at v c.args.region) c.held.ensures))
     (λ none. let full = c.if-is_empty.ensures in
     let f : ⊥ = true≢false (sym (full ∙ ap (λ (l : List Head). length l == 0) none)) in f) c.in_ok-items.ensures c.in_ok-carry.ensures.column

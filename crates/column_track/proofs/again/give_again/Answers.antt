@@ -11,10 +11,10 @@ returns-then-region c = λ lawful.
     let many = c.requires in
     elim c.then-region.branch [
       | then-region-via-then-region w ↦
-        let own = w.if-region in let is = c.region.ensures in lawful.1 (omega (arith, own, is))
+          let own = w.if-region in let is = c.region.ensures in lawful.1 (omega (arith, own, is))
       | then-region-via-else-region+then-region-regions w ↦
-        let under = lawful.2 in let over = w.if-region-regions in let f : ⊥ = omega (arith, under, over, many) in f
+          let under = lawful.2 in let over = w.if-region-regions in let f : ⊥ = omega (arith, under, over, many) in f
       | then-region-via-else-region+else-region-regions+then-from-line w ↦
-        let under = lawful.3 in let over = w.if-from-line in let is = ap length w.line.ensures in
-        let f : ⊥ = omega (arith, under, over, is, same) in f
+          let under = lawful.3 in let over = w.if-from-line in let is = ap length w.line.ensures in
+          let f : ⊥ = omega (arith, under, over, is, same) in f
     ]

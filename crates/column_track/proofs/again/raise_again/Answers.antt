@@ -12,5 +12,5 @@ returns-then-to-gt-MAX_STAMP c = λ lawful.
     elim c.then-to-gt-MAX_STAMP.branch [
       | then-to-gt-MAX_STAMP-via-then-to-gt-MAX_STAMP w ↦ let over = w.if-to-gt-MAX_STAMP in let f : ⊥ = omega (arith, most, over) in f
       | then-to-gt-MAX_STAMP-via-else-to-gt-MAX_STAMP+then-to-clock w ↦
-        let under = w.if-to-clock in let is = w.clock.ensures in let f : ⊥ = omega (arith, above, under, is, same) in f
+          let under = w.if-to-clock in let is = w.clock.ensures in let f : ⊥ = omega (arith, above, under, is, same) in f
     ]

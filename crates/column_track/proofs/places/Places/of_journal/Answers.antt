@@ -27,13 +27,13 @@ loop-at-preserved c =
     let long = length-take at journal in
     elim c.match-entering.branch [
       | in-Some+in_ok-add+else-not-branch w ↦
-        subst (λ p. ArePlaces (take (at + 1) journal) p) (sym w.places-is)
-        (subst (λ l. ArePlaces l w.add.new.self) (sym next)
-        (id_more (take at journal) e c.loop-at.places w.add.new.self w.in-Some.id at (omega (arith, long, lt))
-        (ap (λ (d : Entry). entering d.event) c.index-journal-at.is ∙ (sym c.entering.ensures ∙ w.in-Some.is)) (sym w.in_ok-add.ensures.fresh ∙ w.if-not-branch.false) w.in_ok-add.ensures.added
-        c.loop-at.invariant))
+          subst (λ p. ArePlaces (take (at + 1) journal) p) (sym w.places-is)
+          (subst (λ l. ArePlaces l w.add.new.self) (sym next)
+          (id_more (take at journal) e c.loop-at.places w.add.new.self w.in-Some.id at (omega (arith, long, lt))
+          (ap (λ (d : Entry). entering d.event) c.index-journal-at.is ∙ (sym c.entering.ensures ∙ w.in-Some.is)) (sym w.in_ok-add.ensures.fresh ∙ w.if-not-branch.false) w.in_ok-add.ensures.added
+          c.loop-at.invariant))
       | in_default w ↦
-        subst (λ p. ArePlaces (take (at + 1) journal) p) (sym w.places-is)
-        (subst (λ l. ArePlaces l c.loop-at.places) (sym next)
-        (none_more (take at journal) e c.loop-at.places (ap (λ (d : Entry). entering d.event) c.index-journal-at.is ∙ (sym c.entering.ensures ∙ w.in_default.is)) c.loop-at.invariant))
+          subst (λ p. ArePlaces (take (at + 1) journal) p) (sym w.places-is)
+          (subst (λ l. ArePlaces l c.loop-at.places) (sym next)
+          (none_more (take at journal) e c.loop-at.places (ap (λ (d : Entry). entering d.event) c.index-journal-at.is ∙ (sym c.entering.ensures ∙ w.in_default.is)) c.loop-at.invariant))
     ]
