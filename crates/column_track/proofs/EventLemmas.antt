@@ -1,6 +1,6 @@
 -- One event more: what a call makes of the column where the event may come, and why it may not come elsewhere.
-use Rattle.std.proofs.Common.{◌≡◌, ◌≢◌, ℕ, ◌+◌, ◌-◌, ◌<◌, ◌≤◌, max, min, Bool, true, false, cond, List, [], ◌∷◌, ◌++◌, length, map, drop, Option, Some, None, refl, ap, sym, subst, ◌∙◌, arith, inl, inr, ◌⊎◌}
-use Rattle.std.specs.Prelude.{IsSomeAnd, nat_eq, nat_le, nat_lt, ◌&&◌, is_none}
+use Rattle.std.proofs.Common.{◌≡◌, ◌≢◌, ℕ, ◌-◌, ◌<◌, Bool, true, false, cond, List, [], ◌∷◌, ◌++◌, length, map, drop, Option, Some, None, refl, ap, sym, subst, ◌∙◌, arith, inl, inr, ◌⊎◌}
+use Rattle.std.specs.Prelude.{IsSomeAnd, nat_eq, nat_le, nat_lt, ◌&&◌}
 use Rattle.std.proofs.lemmas.Bool.{true≢false, eqb-true, eqb-false, and_parts, and_from, cases_Bool, leb-true, le-leb, le-ltb, or_left, or_right}
 use Rattle.log_node.specs.declared.ids.Id.{Id}
 use Rattle.log_node.specs.declared.ids.Counts.{Counts}
@@ -14,11 +14,11 @@ use Rattle.log_node.specs.Standings.{Standing, is_open_id, open_entry}
 use Rattle.log_node.specs.Vectors.{at}
 use Rattle.skeen_core.specs.Queues.{has_open, is_decided, MaySettle}
 use Rattle.col_core.specs.declared.Event.{Event}
-use Rattle.col_core.specs.declared.Event.TheVariants.{Single, Propose, Settle, Raise, Give, Carry, Trim}
+use Rattle.col_core.specs.declared.Event.TheVariants.{Single, Propose, Carry}
 use Rattle.col_core.specs.declared.Entry.{Entry}
-use Rattle.col_core.specs.History.{clock, entries, line, last_stamp, next_stamp, IsAtEnd}
+use Rattle.col_core.specs.History.{entries, next_stamp, IsAtEnd}
 use Rattle.col_core.specs.Cuts.{entries_of, chain, held}
-use Rattle.col_core.specs.Legal.{IsLawfulEvent, IsSettling, MayEnter}
+use Rattle.col_core.specs.Legal.{IsSettling, MayEnter}
 use Rattle.col_core.specs.Rows.{node_wants}
 use Rattle.col_core.proofs.CallerLemmas.{entries_dated, if_false}
 use Rattle.log_node.proofs.CallerLemmas.{at-vector}

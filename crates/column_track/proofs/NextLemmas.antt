@@ -1,7 +1,7 @@
 -- The next entry of a journal: what places say of it, and what its column makes of the history.
-use Rattle.std.proofs.Common.{◌≡◌, ◌⊎◌, ℕ, ◌+◌, ◌<◌, ◌≤◌, Bool, true, false, List, [], ◌∷◌, ◌++◌, length, map, take, drop, Option, Some, None, refl, ap, sym, subst, ◌∙◌, arith, inl, inr, zero, suc, get_or}
-use Rattle.std.specs.Prelude.{slice_get, IsTrue, ◌==◌, ◌||◌}
-use Rattle.std.proofs.lemmas.Bool.{true≢false, eqb-true, cases_order}
+use Rattle.std.proofs.Common.{◌≡◌, ◌⊎◌, ℕ, ◌+◌, ◌<◌, ◌≤◌, true, false, List, [], ◌∷◌, ◌++◌, length, take, drop, Option, Some, None, refl, ap, sym, subst, ◌∙◌, arith, inl, inr, zero, suc, get_or}
+use Rattle.std.specs.Prelude.{slice_get}
+use Rattle.std.proofs.lemmas.Bool.{true≢false, cases_order}
 use Rattle.std.proofs.lemmas.List.{take_at, take_all, take-append-drop}
 use Rattle.std.proofs.lemmas.List.FromFn.{map-range_with_len_more}
 use Rattle.std.proofs.lemmas.Option.{slice_get_read}
@@ -9,7 +9,6 @@ use Rattle.log_node.specs.declared.ids.Id.{Id}
 use Rattle.log_node.specs.Standings.{Standing, open_entry}
 use Rattle.log_node.proofs.CallerLemmas.{get_last, get_longer, same_some}
 use Rattle.col_core.specs.declared.Event.{Event}
-use Rattle.col_core.specs.declared.Event.TheVariants.{Propose}
 use Rattle.col_core.specs.declared.Entry.{Entry}
 use Rattle.col_core.specs.History.{entries, enters, has_entered}
 use Rattle.col_core.specs.Cuts.{Dated}

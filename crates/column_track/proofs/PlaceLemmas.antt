@@ -1,6 +1,6 @@
 -- Where ids enter: what a map has of them, and one event more.
 use Rattle.std.proofs.Common.{◌≡◌, ◌⊎◌, ℕ, ◌+◌, ◌<◌, Bool, true, false, ◌&&◌, eqb, cond, List, [], ◌∷◌, ◌++◌, length, take, Option, Some, None, Ordering, Less, Equal, Greater, inl, inr, refl, ap, sym, subst, ◌∙◌, arith, zero, suc, get_or}
-use Rattle.std.specs.Prelude.{slice_get, IsTrue, ◌||◌, is_none, is_some, not}
+use Rattle.std.specs.Prelude.{slice_get, IsTrue, is_none, is_some, not}
 use Rattle.std.specs.Ordering.{is_eq, nat_cmp, ordering_then}
 use Rattle.std.specs.List.{find}
 use Rattle.std.specs.Option.{option_map}

@@ -1,4 +1,4 @@
-use Rattle.std.proofs.Common.{refl, sym, ap, ◌∙◌}
+use Rattle.std.proofs.Common.{refl}
 use Rattle.column_track.proofs.EventLemmas.{none_left, propose_goes}
 use Rattle.column_track.proofs.again.propose_again.Goals as goal
 

@@ -1,4 +1,4 @@
-use Rattle.std.proofs.Common.{ap, sym, ◌∙◌, true, false}
+use Rattle.std.proofs.Common.{sym, ◌∙◌}
 use Rattle.col_core.proofs.CallerLemmas.{if_true}
 use Rattle.column_track.proofs.EventLemmas.{may_not, may_then, settles, settles_now}
 use Rattle.column_track.proofs.again.settle_again.Goals as goal

@@ -1,4 +1,4 @@
-use Rattle.std.proofs.Common.{refl, sym, ap, ◌∙◌}
+use Rattle.std.proofs.Common.{refl}
 use Rattle.column_track.proofs.EventLemmas.{none_left, single_goes}
 use Rattle.column_track.proofs.again.single_again.Goals as goal
 

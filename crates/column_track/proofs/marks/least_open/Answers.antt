@@ -1,4 +1,4 @@
-use Rattle.std.proofs.Common.{◌≡◌, ◌∙◌, sym, ap, Bool}
+use Rattle.std.proofs.Common.{◌∙◌, sym, ap, Bool}
 use Rattle.std.specs.Option.{option_map}
 use Rattle.log_node.specs.declared.ids.Key.{Key}
 use Rattle.column_track.proofs.WaitLemmas.{least_waits}

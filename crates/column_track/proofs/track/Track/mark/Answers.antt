@@ -1,4 +1,4 @@
-use Rattle.std.proofs.Common.{◌≡◌, ◌∙◌, ◌+◌, ap, sym, arith, length, List}
+use Rattle.std.proofs.Common.{◌∙◌, ◌+◌, ap, sym, arith, length, List}
 use Rattle.std.specs.Prelude.{slice_get}
 use Rattle.log_node.proofs.CallerLemmas.{same_some}
 use Rattle.column_track.specs.declared.marks.Mark.{Mark}

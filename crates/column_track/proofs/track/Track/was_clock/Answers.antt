@@ -1,4 +1,4 @@
-use Rattle.std.proofs.Common.{◌≡◌, ◌∙◌, ◌+◌, ap, sym, subst, arith, length, List}
+use Rattle.std.proofs.Common.{◌∙◌, ◌+◌, ap, sym, subst, arith, length, List}
 use Rattle.column_track.specs.declared.marks.Mark.{Mark}
 use Rattle.column_track.specs.Tracks.{Tells, WasClock}
 use Rattle.column_track.specs.Doing.{ClocksDoNotFall, HasClock, marks_of}
