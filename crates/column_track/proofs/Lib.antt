@@ -3,3 +3,4 @@ mod EventLemmas
 mod WaitLemmas
 mod NextLemmas
 mod TrackLemmas
+mod ClearLemmas

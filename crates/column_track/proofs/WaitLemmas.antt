@@ -1,5 +1,5 @@
 -- The first entry that is not in the line is the first open one.
-use Rattle.std.proofs.Common.{◌≡◌, ◌⊎◌, ℕ, Bool, true, false, List, [], ◌∷◌, Option, Some, None, refl, ap, sym, subst, ◌∙◌, inl, inr}
+use Rattle.std.proofs.Common.{◌≡◌, ◌⊎◌, ℕ, take, drop, Bool, true, false, List, [], ◌∷◌, Option, Some, None, refl, ap, sym, subst, ◌∙◌, inl, inr}
 use Rattle.std.specs.Prelude.{not, slice_get, reverse, ◌||◌, ◌&&◌}
 use Rattle.std.specs.List.{find, filter, list_all}
 use Rattle.std.specs.Option.{option_map}
@@ -11,8 +11,11 @@ use Rattle.col_core.specs.declared.Entry.{Entry}
 use Rattle.col_core.specs.History.{entries}
 use Rattle.col_core.specs.Computed.{dated}
 use Rattle.col_core.specs.Legal.{IsColumnHistory}
-use Rattle.col_core.proofs.CallerLemmas.{In, Rises, rises, entries-of, if_true, if_false, past_is_lawful}
-use Rattle.column_track.specs.Tracks.{least_open}
+use Rattle.col_core.proofs.CallerLemmas.{In, Rises, rises, entries-of, if_true, if_false, past_is_lawful, lawful_beginning}
+use Rattle.column_track.specs.Tracks.{Tracked, least_open}
+use Rattle.column.specs.Columns.{ColumnState}
+use Rattle.column_track.specs.Doing.{tracked}
+use Rattle.std.proofs.lemmas.List.{take-append-drop}
 
 -- each of some entries passes a test
 each_passes : (test : Standing → Bool) (es : List Standing) → ((f : Standing) → In f es → test f ≡ true) → list_all test es ≡ true
@@ -76,3 +79,12 @@ module _ (own regions : ℕ) (journal : List Entry) (lawful : IsColumnHistory ow
             ≡ option_map (λ (e : Standing). e.key.stamp) s
         twice None = refl
         twice (Some e) = refl
+
+-- the entries after the first events of a track rise
+pub rises_then : (column : ColumnState) (t : Tracked) → tracked column ≡ t
+    → IsColumnHistory column.region column.regions (dated column.region column.journal) → (n : ℕ) → Rises (entries (take n t.journal))
+rises_then column t seen lawful n =
+    rising t.region t.regions (take n t.journal)
+    (lawful_beginning t.region t.regions (take n t.journal) (drop n t.journal)
+    (subst (λ (h : List Entry). IsColumnHistory t.region t.regions (dated t.region h)) (sym (take-append-drop n t.journal))
+    (subst (λ (u : Tracked). IsColumnHistory u.region u.regions (dated u.region u.journal)) seen lawful)))

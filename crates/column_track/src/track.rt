@@ -1,5 +1,9 @@
 // A column's journal that was done again, and what can be looked up in it.
 ghost use Rattle.std.specs.Prelude.{◌≡◌, ◌≤◌, ◌<◌, Some, length, take, slice_get};
+ghost use Rattle.std.specs.Option.{option_map};
+ghost use Rattle.log_node.specs.Standings.{queue_of};
+ghost use Rattle.col_core.specs.History.{entries, line};
+ghost use Rattle.col_core.specs.RegionOrder.{IsClearUpTo};
 ghost use Rattle.col_core.specs.Computed.{dated};
 ghost use Rattle.col_core.specs.Legal.{IsColumnHistory};
 ghost use Rattle.column_track.specs.Tracks.{Tells, mark_after, WasClock, EntersAt};
@@ -8,7 +12,7 @@ ghost use Rattle.column_track.specs.Doing.{ClocksDoNotFall, HasClock};
 use crate::marks::Mark;
 use crate::places::Places;
 use column::Column;
-use log_node::Id;
+use log_node::{Id, Key};
 use std::marker::Model;
 
 /// A column's journal that was done again, with what held after each number of its events. Contracts see the region, how
@@ -72,6 +76,33 @@ impl Track {
         ensures { EntersAt self.now.journal id result }
     {
         self.places.of(id)
+    }
+
+    /// Whether after so many events no open entry has a stamp up to this one.
+    pub fn is_clear(&self, events: u64, stamp: u64) -> bool
+        requires { events ≤ length self.now.journal }
+        ensures { Tells result (IsClearUpTo stamp (take events self.now.journal)) }
+    {
+        self.column.agrees();
+        match self.mark(events).least_open {
+            Some(least) => stamp < least,
+            None => true,
+        }
+    }
+
+    /// The keys of the line after all events.
+    pub fn line(&self) -> &[Key]
+        ensures { result.now ≡ line self.now.journal }
+    {
+        self.column.line()
+    }
+
+    /// After all events the key at that place among the entries that are not in the line, in rising key, counted from 0,
+    /// and whether it is settled. `None` exactly where there are no more than `at`.
+    pub fn waiting(&self, at: u64) -> Option<(Key, bool)>
+        ensures { result ≡ option_map (λ e. (e.key, e.settled)) (slice_get (queue_of (entries self.now.journal)) at) }
+    {
+        self.column.waiting(at)
     }
 
     /// Says that the journal is a lawful history.
