@@ -1,7 +1,7 @@
 -- No open entry has a stamp up to another one, where the least of them has none.
-use Rattle.std.proofs.Common.{◌≡◌, ◌⊎◌, ℕ, ◌<◌, ◌≤◌, Bool, true, false, List, [], ◌∷◌, length, Option, Some, None, get_or, refl, ap, sym, subst, ◌∙◌, arith, inl, inr}
+use Rattle.std.proofs.Common.{◌≡◌, ◌⊎◌, ℕ, ◌<◌, ◌≤◌, Bool, true, false, List, [], ◌∷◌, Option, Some, None, get_or, refl, ap, sym, subst, ◌∙◌, arith, inl, inr}
 use Rattle.std.specs.Prelude.{not, nat_lt}
-use Rattle.std.specs.List.{All, find}
+use Rattle.std.specs.List.{find}
 use Rattle.std.specs.Option.{option_map}
 use Rattle.std.proofs.lemmas.Bool.{true≢false, cases_Bool, ltb-true, ltb-false}
 use Rattle.std.proofs.lemmas.Option.{slice_get-get_or}
@@ -10,7 +10,7 @@ use Rattle.log_node.specs.Standings.{Standing}
 use Rattle.col_core.specs.declared.Entry.{Entry}
 use Rattle.col_core.specs.History.{entries}
 use Rattle.col_core.specs.RegionOrder.{IsClearUpTo}
-use Rattle.col_core.proofs.CallerLemmas.{In, Rises, if_true, if_false, in_contains, contains_in, key-stamps, not_true, slice_in}
+use Rattle.col_core.proofs.CallerLemmas.{In, Rises, if_true, if_false, contains_in, key-stamps, not_true, slice_in}
 use Rattle.column_track.specs.Tracks.{Tells, least_open}
 
 -- what is found is there and passes

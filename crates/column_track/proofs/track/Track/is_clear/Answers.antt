@@ -1,4 +1,4 @@
-use Rattle.std.proofs.Common.{◌≡◌, ◌∙◌, ap, sym, refl, take}
+use Rattle.std.proofs.Common.{◌∙◌, ap, sym, refl, take}
 use Rattle.column_track.specs.declared.marks.Mark.{Mark}
 use Rattle.column_track.proofs.ClearLemmas.{clear_none, clear_some}
 use Rattle.column_track.proofs.WaitLemmas.{rises_then}
