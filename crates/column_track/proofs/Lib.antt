@@ -4,3 +4,4 @@ mod WaitLemmas
 mod NextLemmas
 mod TrackLemmas
 mod ClearLemmas
+mod ClosingLemmas

@@ -3,10 +3,13 @@ use Rattle.std.specs.Prelude.{◌≡◌, IsTrue, IsFalse, Bool, true, false, not
 use Rattle.std.specs.List.{find}
 use Rattle.std.specs.Option.{option_map}
 use Rattle.log_node.specs.declared.ids.Id.{Id}
+use Rattle.log_node.specs.declared.ids.Key.{Key}
+use Rattle.log_node.specs.declared.ids.Counts.{Counts}
+use Rattle.log_node.specs.Reach.{IsGreatestReachable}
 use Rattle.log_node.specs.Standings.{Standing}
 use Rattle.col_core.specs.declared.Entry.{Entry}
-use Rattle.col_core.specs.History.{clock, entries, enters, has_entered}
-use Rattle.col_core.specs.Cuts.{base, held}
+use Rattle.col_core.specs.History.{clock, entries, enters, has_entered, line}
+use Rattle.col_core.specs.Cuts.{base, chain, held}
 use Rattle.col_core.specs.Computed.{cut, dated}
 use Rattle.col_core.specs.Legal.{IsColumnHistory}
 use Rattle.column_track.specs.declared.marks.Mark.{Mark}
@@ -51,3 +54,10 @@ WasClock history from to stamp = (n : ℕ) × (from ≤ n) × (n ≤ to) × (clo
 abbrev pub EntersAt : List Entry → Id → Option ℕ → Type 0
 EntersAt history id None = IsFalse (has_entered id history)
 EntersAt history id (Some place) = (e : Entry) × (slice_get history place ≡ Some e) × IsTrue (enters id e.event)
+
+-- after all events the clock, the line, the cut and the base are these
+pub record EndsAs (track : Tracked) (clock_shown : ℕ) (line_shown : List Key) (cut_shown base_shown : Counts) : Type 0 where
+  pub clock_is : clock_shown ≡ clock track.journal
+  pub line_is : line_shown ≡ line track.journal
+  pub cut_is : IsGreatestReachable (chain track.region (dated track.region track.journal)) cut_shown
+  pub base_is : base_shown ≡ base track.region track.regions (dated track.region track.journal)

@@ -2,6 +2,7 @@
 #![tactic(auto)]
 
 mod again;
+mod closing;
 mod doing;
 mod marks;
 mod nodes;
