@@ -1,7 +1,7 @@
 -- What is compared of a column in the end.
 use Rattle.std.proofs.Common.{◌≡◌, ℕ, Bool, true, false, List, [], ◌∷◌, refl, ap, sym, subst, ◌∙◌, eq-eqb}
-use Rattle.std.specs.Prelude.{◌&&◌, nat_eq}
-use Rattle.std.proofs.lemmas.Bool.{and_parts, and_from, true≢false, eqb-true, eqb-false}
+use Rattle.std.specs.Prelude.{nat_eq}
+use Rattle.std.proofs.lemmas.Bool.{and_parts, and_from, true≢false}
 use lib.Pointwise.{pointwise}
 use Rattle.log_node.specs.declared.ids.Key.{Key}
 use Rattle.log_node.specs.declared.ids.Counts.{Counts}
@@ -10,8 +10,7 @@ use Rattle.log_node.specs.contracts.ids.KeyPartialEq.TheImpl.{eq-value}
 use Rattle.log_node.specs.Reach.{IsGreatestReachable}
 use Rattle.log_node.proofs.CallerLemmas.{same_key-is, same_id-refl}
 use Rattle.col_core.specs.History.{clock, line}
-use Rattle.col_core.specs.Cuts.{base, chain}
-use Rattle.col_core.specs.Computed.{cut, dated}
+use Rattle.col_core.specs.Cuts.{chain}
 use Rattle.col_core.proofs.CallerLemmas.{cut-is_greatest, cut_unique}
 use Rattle.column_track.specs.Tracks.{EndsAs, Tells}
 use Rattle.column_track.specs.Doing.{tracked}

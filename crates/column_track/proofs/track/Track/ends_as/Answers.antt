@@ -1,5 +1,4 @@
-use Rattle.std.proofs.Common.{◌≡◌, ◌∙◌, ap, sym, subst, true, false, List}
-use Rattle.log_node.specs.declared.ids.Counts.{Counts}
+use Rattle.std.proofs.Common.{◌≡◌, ◌∙◌, sym, subst, List}
 use Rattle.log_node.specs.declared.ids.Key.{Key}
 use Rattle.column_track.specs.Tracks.{EndsAs, Tells, Tracked}
 use Rattle.column_track.proofs.ClosingLemmas.{line_tells, other_base, other_clock, other_cut}
