@@ -1,5 +1,5 @@
 // At which place of a journal each id enters.
-ghost use Rattle.std.specs.Prelude.{◌≡◌, None, true, IfOk, is_none, if◌then◌else◌, Some};
+ghost use Rattle.std.specs.Prelude.{◌≡◌, None, IfOk, is_none, if◌then◌else◌, Some};
 ghost use Rattle.log_node.specs.Order.{same_id};
 ghost use Rattle.log_node.specs.declared.ids.Id.{Id as NodeId};
 ghost use Rattle.column_track.specs.Doing.{place_in, entering, ArePlaces, IsStampOf, MaybePlaces};
