@@ -2,6 +2,7 @@
 mod boards;
 mod columns;
 mod forms;
+mod journals;
 mod made;
 mod nodes;
 mod objects;
