@@ -6,7 +6,7 @@ use Rattle.std.proofs.lemmas.Simd.{map-map}
 use Rattle.std.proofs.lemmas.Option.{slice_get-map, get_or_from_slice_get, slice_get_within}
 use Rattle.log_node.specs.declared.limits.TheConstants.{MAX_COLOURS}
 use Rattle.log_node.specs.Seen.{PlacedNode}
-use Rattle.script_text.specs.Fitting.{HasObject, IsKindWithin, UsesOne, UsesObject, kinds_asked, is_tx}
+use Rattle.script_text.specs.Fitting.{HasObject, IsKindWithin, UsesOne, UsesObject, kinds_asked}
 use Rattle.script_text.specs.declared.script.Kind.{Kind}
 use Rattle.script_text.specs.declared.script.Kind.TheVariants as kinds
 use Rattle.script_text.specs.declared.script.Object.{Object}
@@ -31,7 +31,7 @@ use Rattle.atomic_map.proofs.CallerLemmas.{map_later as atomic_later}
 use Rattle.region_fold.proofs.CallerLemmas.{map_later as tx_later}
 use Rattle.run_script.specs.declared.serving.opened.Opened.{Opened}
 use Rattle.run_script.specs.declared.serving.opened.Opened.TheVariants as opened
-use Rattle.run_script.specs.Opened.{AreKept, AreOf, HasBy, HasCommand, IsOpenedOf, IsOfOne, IsUnfolded, StaysOpen, kind_opened, tx_kind, object_in, object_asked}
+use Rattle.run_script.specs.Opened.{AreKept, AreOf, HasBy, HasCommand, IsOpenedOf, IsOfOne, IsUnfolded, kind_opened, tx_kind, object_in, object_asked}
 use Rattle.run_script.specs.Serving.{ServesLog, ServesObject, GivesTo}
 use Rattle.run_script.proofs.ByPlace.{mapped, unmapped}
 
