@@ -138,8 +138,19 @@ module _ (s : Store) (c d : Client) (on : RestsOn s c d) (answer : Answer) (aske
               gives_by s c d on objects (asked object) (get_answer (Ok got)) (GetsAs colours key got.1 got.0) (inr idle)
               (away_by s c d on objects (asked object) (Some home) (Ok got) get_answer (λ h. refl) home_is
               (told_home c home (Ok got) tells)) ok.explained
-              (λ log kept after r. (refl, object, key, asks object, home, colours, at,
-              synced ∙ ap (λ (k : ℕ). k ∷ []) (sym ok.synced), r.0, r.1, r.2))
+              (λ log kept after r. (
+                refl,
+                object,
+                key,
+                asks object,
+                home,
+                colours,
+                at,
+                synced ∙ ap (λ (k : ℕ). k ∷ []) (sym ok.synced),
+                r.0,
+                r.1,
+                r.2,
+              ))
           by (Err fault) tells ok err =
               get_refused s c d on objects (asked object) (getting objects object (kinds.Map home colours) at) idle (Some home)
               home_is (shard_of colours key) synced fault err
@@ -166,8 +177,16 @@ module _ (s : Store) (c d : Client) (on : RestsOn s c d) (answer : Answer) (aske
           by (Ok got) ok err =
               gives_by s c d on objects (asked object) (many_answer (Ok got)) (GetsManyAs key got.1 got.0) (inr idle)
               (no_home (many_answer (Ok got))) ok.explained
-              (λ log kept after r. (refl, object, key, asks object,
-              at ∙ ap (λ (k : ℕ). Some (kinds.Causal k)) (sym ok.synced), r.0, r.1, r.2))
+              (λ log kept after r. (
+                refl,
+                object,
+                key,
+                asks object,
+                at ∙ ap (λ (k : ℕ). Some (kinds.Causal k)) (sym ok.synced),
+                r.0,
+                r.1,
+                r.2,
+              ))
           by (Err fault) ok err =
               get_refused s c d on objects (asked object) (getting objects object (kinds.Causal colour) at) idle None
               (homes objects object (kinds.Causal colour) at) colour

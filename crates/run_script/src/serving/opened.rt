@@ -17,8 +17,15 @@ use std::alloc::{AllocError, Global};
 /// its last read found, until a commit uses it up.
 #[derive(Drop)]
 pub enum Opened {
-    Map { single: LogMap, several: AtomicMap },
-    Tx { alone: bool, map: TxMap, found: Option<Tx> },
+    Map {
+        single: LogMap,
+        several: AtomicMap,
+    },
+    Tx {
+        alone: bool,
+        map: TxMap,
+        found: Option<Tx>,
+    },
     Causal(CausalMap),
     Queue(LogQueue),
     Tree(LogTree),
