@@ -6,9 +6,11 @@ use Rattle.log_node.specs.Sets.{members}
 use Rattle.col_core.specs.Keeping.{Kept}
 use Rattle.col_core.specs.Log.{Log}
 use Rattle.script_text.specs.Fitting.{is_tx}
-use Rattle.script_text.specs.declared.script.Kind.{Kind}
 use Rattle.script_text.specs.declared.script.Object.{Object}
 use Rattle.script_text.specs.declared.commands.What.{What}
+use Rattle.script_text.specs.declared.uses.ReadUse.TheVariants.{Leaves}
+use Rattle.script_text.specs.declared.uses.Use.TheVariants.{OfObject}
+use Rattle.script_text.specs.Commands.{use_of}
 use Rattle.report_text.specs.declared.report.Answer.{Answer}
 use Rattle.report_text.specs.declared.report.Answer.TheVariants as answers
 use Rattle.lawful_run.specs.Appends.{HasNoStamp, HasNoRowLeft}
@@ -34,8 +36,11 @@ use Rattle.log_client.specs.Objects.{IsAwayFrom, PutRefused, StandsIn, StandsNot
 use Rattle.log_client.specs.Reading.{RestsOn}
 use Rattle.log_client.proofs.CallerLemmas.{rests_same}
 use Rattle.run_script.specs.Replying.{append_answer, fault_answer}
-use Rattle.run_script.specs.Serving.{GivesFor, GivesOf}
+use Rattle.run_script.specs.declared.serving.opened.Opened.{Opened}
+use Rattle.run_script.specs.Opened.{kind_opened}
+use Rattle.run_script.specs.Serving.{GivesOf, GivesTo}
 use Rattle.run_script.proofs.Giving.{Any, IsLeft, Nothing, did_nothing, served}
+use Rattle.run_script.proofs.ReadsFound.{gives_unread}
 
 -- where the client is of another region than the home, the call says so
 abbrev pub TellsAway : {A : Type 0} → Client → Option ℕ → Result A ObjectFault → Type 0
@@ -206,9 +211,9 @@ module _ (s : Store) (c d : Client) (on : RestsOn s c d) (objects : List Object)
         refused fault err (away_by what home (Err fault) append_answer (λ h. refl) homes tells)
 
 -- memory was refused before anything was asked of the client
-pub gives_unasked_of : (s : Store) (c : Client) (kind : Kind) (asked : ℕ → What) → IsClient s c → is_tx kind ≡ false
-    → GivesFor s c c kind asked answers.NoMemory
-gives_unasked_of s c kind asked is no_reads = record {
+pub gives_unasked_of : (s : Store) (c : Client) (x : Opened) (asks : ℕ → What) → IsClient s c → is_tx (kind_opened x) ≡ false
+    → ((object : ℕ) → use_of (asks object) ≡ OfObject object Leaves) → GivesTo s c c x x asks answers.NoMemory
+gives_unasked_of s c x asks is no_reads uses = gives_unread s c c x x (kind_opened x) asks answers.NoMemory refl refl uses (record {
   no_reads = no_reads;
-  of = λ objects object at. gives_none s c c (rests_same s c is) objects (asked object) (inr (λ helps. helps)) refl;
-}
+  of = λ objects object at. gives_none s c c (rests_same s c is) objects (asks object) (inr (λ helps. helps)) refl;
+})

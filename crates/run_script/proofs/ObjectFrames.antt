@@ -6,12 +6,11 @@ use Rattle.std.proofs.lemmas.Simd.{map-map}
 use Rattle.std.proofs.lemmas.Option.{slice_get-map, get_or_from_slice_get, slice_get_within}
 use Rattle.log_node.specs.declared.limits.TheConstants.{MAX_COLOURS}
 use Rattle.log_node.specs.Seen.{PlacedNode}
-use Rattle.script_text.specs.Fitting.{HasObject, IsKindWithin, UsesOne, UsesObject, kinds_asked, is_tx}
+use Rattle.script_text.specs.Fitting.{HasObject, IsKindWithin, UsesOne, UsesObject, kinds_asked}
 use Rattle.script_text.specs.declared.script.Kind.{Kind}
 use Rattle.script_text.specs.declared.script.Kind.TheVariants as kinds
 use Rattle.script_text.specs.declared.script.Object.{Object}
 use Rattle.script_text.specs.declared.commands.What.{What}
-use Rattle.script_text.specs.declared.uses.ReadUse.TheVariants.{Leaves}
 use Rattle.script_text.specs.declared.uses.Use.{Use}
 use Rattle.script_text.specs.declared.uses.Use.TheVariants.{OfLog, OfObject}
 use Rattle.script_text.specs.Table.{is_of}
@@ -32,10 +31,9 @@ use Rattle.atomic_map.proofs.CallerLemmas.{map_later as atomic_later}
 use Rattle.region_fold.proofs.CallerLemmas.{map_later as tx_later}
 use Rattle.run_script.specs.declared.serving.opened.Opened.{Opened}
 use Rattle.run_script.specs.declared.serving.opened.Opened.TheVariants as opened
-use Rattle.run_script.specs.Opened.{AreKept, AreOf, HasBy, HasCommand, IsOpenedOf, IsOfOne, IsUnfolded, StaysOpen, kind_opened, tx_kind, object_in, object_asked}
-use Rattle.run_script.specs.Serving.{ServesLog, ServesObject, GivesFor, GivesTo}
+use Rattle.run_script.specs.Opened.{AreKept, AreOf, HasBy, HasCommand, IsOpenedOf, IsOfOne, IsUnfolded, kind_opened, tx_kind, object_in, object_asked}
+use Rattle.run_script.specs.Serving.{ServesLog, ServesObject, GivesTo}
 use Rattle.run_script.proofs.ByPlace.{mapped, unmapped}
-use Rattle.run_script.proofs.ReadsFound.{finds_same, given_at}
 
 -- THEY STAY OPEN
 
@@ -43,7 +41,7 @@ pub kept_later : ReadsGoOn → (s : Store) (c d : Client) (x : Opened) → IsCli
     → IsOpenedOf d x
 kept_later law s c d (opened.Map single several) is on kept =
     (map_later s c d single is on kept.0, atomic_later law s c d on several is kept.1, kept.2, kept.3)
-kept_later law s c d (opened.Tx map found) is on kept = (tx_later law s c d on map is kept.0, kept.1)
+kept_later law s c d (opened.Tx alone map found) is on kept = (tx_later law s c d on map is kept.0, kept.1)
 kept_later law s c d (opened.Causal of) is on kept = causal_later s c d of is on kept
 kept_later law s c d (opened.Queue of) is on kept = queue_later s c d of is on kept
 kept_later law s c d (opened.Tree of) is on kept = tree_later law s c d on of is kept
@@ -182,16 +180,3 @@ pub gives_asked : (s : Store) (c d : Client) (x y : Opened) (what : What) (asks 
 gives_asked s c d x y what asks n answer is numbered gives objects object asked at =
     let same = named n object (sym (numbered n) ∙ (sym (ap object_asked is) ∙ asked)) in
     subst (λ (w : What). ServesObject s objects c d object x y w answer) (sym (is ∙ ap asks same)) (gives.of objects object at)
-
--- the same of a command that neither lets a read go nor uses it up, of an object of which none is kept
-pub gives_unread : (s : Store) (c d : Client) (x y : Opened) (what : What) (asks : ℕ → What) (n : ℕ) (answer : Answer)
-    → what ≡ asks n → ((k : ℕ) → use_of (asks k) ≡ OfObject k Leaves) → kind_opened y ≡ kind_opened x
-    → GivesFor s c d (kind_opened x) asks answer
-    → (objects : List Object) (object : ℕ) → object_asked what ≡ Some object
-    → kind_in objects object ≡ Some (kind_opened x) → ServesObject s objects c d object x y what answer
-gives_unread s c d x y what asks n answer is uses same gives =
-    gives_asked s c d x y what asks n answer is (λ k. ap object_in (uses k)) (record {
-      of = λ objects object at.
-          given_at s objects c d object x y (asks object) answer (uses object) (finds_same x y gives.no_reads same)
-          (gives.of objects object at);
-    })

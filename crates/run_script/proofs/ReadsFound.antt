@@ -32,7 +32,7 @@ use Rattle.log_client.specs.Clients.{caller_of, seen_of}
 use Rattle.run_script.specs.declared.serving.opened.Opened.{Opened}
 use Rattle.run_script.specs.declared.serving.opened.Opened.TheVariants as opened
 use Rattle.run_script.specs.Opened.{HaveReads, IsUnfolded, KeepsReadsBut, found_in, kind_opened, tx_kind, versions_in}
-use Rattle.run_script.specs.Serving.{ServesLog, GivesAll, ServesObject, GivesOf, KnowsRead, KnowsReads}
+use Rattle.run_script.specs.Serving.{ServesLog, GivesAll, GivesFor, GivesTo, ServesObject, GivesOf, KnowsRead, KnowsReads}
 use Rattle.run_script.proofs.CommandAnswers.{IsOfLog, of_log}
 use Rattle.run_script.proofs.Giving.{knowing}
 
@@ -172,3 +172,13 @@ module _ (s : Store) (objects : List Object) (c d : Client) where
       (λ kept knows rest fits. knows rest fits n ∙ ap found_in at)
       (λ kept answered rest knows fits explains left.
       reads_with xs n x y kept (kept_behind what answered) at (knows rest fits) left)
+
+-- to commands of an object of a kind, by its number, which neither let a read go nor use it up
+pub gives_unread : (s : Store) (c d : Client) (x y : Opened) (kind : Kind) (asks : ℕ → What) (answer : Answer)
+    → kind_opened x ≡ kind → kind_opened y ≡ kind_opened x → ((object : ℕ) → use_of (asks object) ≡ OfObject object Leaves)
+    → GivesFor s c d kind asks answer → GivesTo s c d x y asks answer
+gives_unread s c d x y kind asks answer is same uses gives = record {
+  of = λ objects object at.
+      given_at s objects c d object x y (asks object) answer (uses object)
+      (finds_same x y (ap is_tx is ∙ gives.no_reads) same) (gives.of objects object (at ∙ ap Some is));
+}

@@ -4,7 +4,7 @@ ghost use Rattle.script_text.specs.Fitting.{is_any_map, is_queue};
 ghost use Rattle.log_client.specs.Clients.{IsClient};
 ghost use Rattle.log_client.specs.Reading.{RestsOn};
 ghost use Rattle.run_script.specs.Opened.{kind_opened, IsOpenedOf, StaysOpen};
-ghost use Rattle.run_script.specs.Serving.{GivesFor};
+ghost use Rattle.run_script.specs.Serving.{GivesTo};
 
 use crate::serving::opened::Opened;
 use crate::serving::replies::{got, got_many, took};
@@ -31,7 +31,7 @@ pub fn get<R: Wait, G: Gate>(
     requires kind { IsTrue (is_any_map (kind_opened opened.old)) }
     ensures rests { RestsOn store.now client.old client.new }
     ensures stays { StaysOpen client.new opened.old opened.new }
-    ensures gives { GivesFor store.now client.old client.new (kind_opened opened.old)
+    ensures gives { GivesTo store.now client.old client.new opened.old opened.new
         (λ object. What.Get object key) result }
 {
     reads_go_on();
@@ -62,7 +62,7 @@ pub fn deq<R: Wait, G: Gate>(
     requires kind { IsTrue (is_queue (kind_opened opened.old)) }
     ensures rests { RestsOn store.now client.old client.new }
     ensures stays { StaysOpen client.new opened.old opened.new }
-    ensures gives { GivesFor store.now client.old client.new (kind_opened opened.old) (λ object. What.Deq object) result }
+    ensures gives { GivesTo store.now client.old client.new opened.old opened.new (λ object. What.Deq object) result }
 {
     match opened {
         Opened::Queue(queue) => {

@@ -5,7 +5,7 @@ ghost use Rattle.script_text.specs.Fitting.{is_any_map, is_map, is_queue};
 ghost use Rattle.log_client.specs.Clients.{IsClient};
 ghost use Rattle.log_client.specs.Reading.{RestsOn};
 ghost use Rattle.run_script.specs.Opened.{kind_opened, IsOpenedOf, StaysOpen};
-ghost use Rattle.run_script.specs.Serving.{GivesFor};
+ghost use Rattle.run_script.specs.Serving.{GivesTo};
 
 use crate::serving::opened::Opened;
 use crate::serving::replies::appended;
@@ -36,7 +36,7 @@ pub fn put<R: Wait, G: Gate>(
     requires value { IsTrue (is_word value) }
     ensures rests { RestsOn store.now client.old client.new }
     ensures stays { StaysOpen client.new opened.old opened.new }
-    ensures gives { GivesFor store.now client.old client.new (kind_opened opened.old)
+    ensures gives { GivesTo store.now client.old client.new opened.old opened.new
         (λ object. What.Put object key value) result }
 {
     reads_go_on();
@@ -72,7 +72,7 @@ pub fn put_all<R: Wait, G: Gate>(
     requires pairs { ArePairs 4 pairs }
     ensures rests { RestsOn store.now client.old client.new }
     ensures stays { StaysOpen client.new opened.old opened.new }
-    ensures gives { GivesFor store.now client.old client.new (kind_opened opened.old)
+    ensures gives { GivesTo store.now client.old client.new opened.old opened.new
         (λ object. What.PutAll object pairs) result }
 {
     let Ok(pieces) = Vec::with_capacity(alloc, pairs.len()) else {
@@ -103,7 +103,7 @@ pub fn del<R: Wait, G: Gate>(
     requires key { IsTrue (is_word key) }
     ensures rests { RestsOn store.now client.old client.new }
     ensures stays { StaysOpen client.new opened.old opened.new }
-    ensures gives { GivesFor store.now client.old client.new (kind_opened opened.old)
+    ensures gives { GivesTo store.now client.old client.new opened.old opened.new
         (λ object. What.Del object key) result }
 {
     reads_go_on();
@@ -135,7 +135,7 @@ pub fn enq<R: Wait, G: Gate>(
     requires value { IsTrue (is_word value) }
     ensures rests { RestsOn store.now client.old client.new }
     ensures stays { StaysOpen client.new opened.old opened.new }
-    ensures gives { GivesFor store.now client.old client.new (kind_opened opened.old)
+    ensures gives { GivesTo store.now client.old client.new opened.old opened.new
         (λ object. What.Enq object value) result }
 {
     let Ok(pieces) = Vec::with_capacity(alloc, 1) else {

@@ -8,7 +8,7 @@ ghost use Rattle.log_client.specs.Clients.{IsClient};
 ghost use Rattle.log_client.specs.Reading.{RestsOn};
 ghost use Rattle.run_script.specs.Opened.{kind_opened, IsOpenedOf, StaysOpen};
 ghost use Rattle.run_script.specs.Replying.{HasPlaces, HasRoomFor, ShowsKeys, ShowsNone, keys_found, tx_found, told_answer};
-ghost use Rattle.run_script.specs.Serving.{GivesFor, GivesTo};
+ghost use Rattle.run_script.specs.Serving.{GivesTo};
 
 use crate::serving::appends::pieces_of;
 use crate::serving::opened::Opened;
@@ -102,7 +102,7 @@ pub fn get_all<R: Wait, G: Gate>(
     requires keys { IsTrue (are_keys 4 keys) }
     ensures rests { RestsOn store.now client.old client.new }
     ensures stays { StaysOpen client.new opened.old opened.new }
-    ensures gives { GivesFor store.now client.old client.new (kind_opened opened.old)
+    ensures gives { GivesTo store.now client.old client.new opened.old opened.new
         (λ object. What.GetAll object keys) result }
 {
     let Ok(answers) = Vec::with_capacity(alloc, keys.len()) else {

@@ -9,7 +9,7 @@ ghost use Rattle.log_client.specs.Reading.{RestsOn};
 ghost use Rattle.run_script.specs.Changing.{AsksChange};
 ghost use Rattle.run_script.specs.Opened.{kind_opened, object_asked, IsOpenedOf, StaysOpen};
 ghost use Rattle.run_script.specs.Replying.{HasRoomFor, ShowsNone, names_answer};
-ghost use Rattle.run_script.specs.Serving.{GivesFor, ServesObject};
+ghost use Rattle.run_script.specs.Serving.{GivesTo, ServesObject};
 
 use crate::serving::opened::Opened;
 use crate::serving::reads::{ReadRoom, room_for, told_shown};
@@ -105,7 +105,7 @@ pub fn list<R: Wait, G: Gate>(
     requires names { (place : List (List ℕ)) × (path_of path ≡ Some place) }
     ensures rests { RestsOn store.now client.old client.new }
     ensures stays { StaysOpen client.new opened.old opened.new }
-    ensures gives { GivesFor store.now client.old client.new (kind_opened opened.old)
+    ensures gives { GivesTo store.now client.old client.new opened.old opened.new
         (λ object. What.Ls object path) result }
 {
     let Ok(read) = Path::of(alloc, path.as_bytes()) else {

@@ -2,10 +2,10 @@ use Rattle.std.proofs.Common.{ℕ, List, refl, ap, sym, subst, ◌∙◌, arith}
 use Rattle.script_text.specs.declared.script.Kind.TheVariants as kinds
 use Rattle.script_text.specs.declared.commands.What.TheVariants as whats
 use Rattle.atomic_map.proofs.CallerLemmas.{map_later as atomic_later}
-use Rattle.run_script.specs.declared.serving.opened.Opened.{Opened}
+use Rattle.run_script.specs.declared.serving.opened.Opened.TheVariants as opened
 use Rattle.run_script.specs.Opened.{IsOpenedOf, kind_opened}
-use Rattle.run_script.specs.Serving.{GivesFor}
 use Rattle.run_script.proofs.GivingGets.{gives_causal_get, gives_map_get}
+use Rattle.run_script.proofs.ReadsFound.{gives_unread}
 use Rattle.run_script.proofs.serving.gets.get.Goals as goal
 
 pub get-get-requires-clause-map : goal.get-get-requires-clause-map
@@ -30,8 +30,9 @@ pub returns-in-Map-clause-gives : goal.returns-in-Map-clause-gives
 returns-in-Map-clause-gives g c =
     let e = c.get-get.ensures in
     let is = subst (IsOpenedOf c.args.client.now) c.in-Map.is c.requires.kept in
-    subst (λ (x : Opened). GivesFor c.args.store.now c.args.client.now c.get-get.new.client (kind_opened x)
-    (λ object. whats.Get object c.args.key) c.got.result) (sym c.in-Map.is)
+    gives_unread c.args.store.now c.args.client.now c.get-get.new.client c.args.opened.now
+    (opened.Map c.get-get.new.self c.in-Map.several) _ (λ object. whats.Get object c.args.key) c.got.result
+    (ap kind_opened c.in-Map.is) (returns-in-Map-clause-stays g c).0 (λ object. refl)
     (gives_map_get c.args.store.now c.args.client.now c.get-get.new.client e.client c.got.result
     (λ (object : ℕ). whats.Get object c.args.key) c.args.key (λ object. record { uses = refl; gets = refl }) c.in-Map.single.home
     c.in-Map.single.colours c.get-get.result c.got.ensures is.0.colours e.idle e.away e.ok e.err)
@@ -50,8 +51,9 @@ returns-in-Causal-clause-gives g c =
     let e = c.get-get-in-Causal.ensures in
     let is = subst (IsOpenedOf c.args.client.now) c.in-Causal.is c.requires.kept in
     let few = is.few in
-    subst (λ (x : Opened). GivesFor c.args.store.now c.args.client.now c.get-get-in-Causal.new.client (kind_opened x)
-    (λ object. whats.Get object c.args.key) c.got_many.result) (sym c.in-Causal.is)
+    gives_unread c.args.store.now c.args.client.now c.get-get-in-Causal.new.client c.args.opened.now
+    (opened.Causal c.get-get-in-Causal.new.self) _ (λ object. whats.Get object c.args.key) c.got_many.result
+    (ap kind_opened c.in-Causal.is) (returns-in-Causal-clause-stays g c).0 (λ object. refl)
     (gives_causal_get c.args.store.now c.args.client.now c.get-get-in-Causal.new.client e.client c.got_many.result
     (λ (object : ℕ). whats.Get object c.args.key) c.args.key (λ object. record { uses = refl; gets = refl }) c.in-Causal.map.colour
     c.get-get-in-Causal.result c.got_many.ensures (omega (arith, few)) e.idle e.ok e.err)

@@ -1,50 +1,13 @@
-use Rattle.std.proofs.Common.{ℕ, refl, subst}
-use Rattle.script_text.specs.declared.commands.What.TheVariants as whats
+use Rattle.std.proofs.Common.{subst}
 use Rattle.lawful_run.proofs.CallerLemmas.{list_said}
 use Rattle.script_meaning.proofs.CallerLemmas.{pairs_are}
 use Rattle.run_script.specs.Opened.{HasCommand, kind_opened}
 use Rattle.run_script.proofs.GivingTrees.{asks_make, asks_move, asks_remove}
-use Rattle.run_script.proofs.ObjectFrames.{gives_unread}
 use Rattle.run_script.proofs.serving.object_answers.object_answer.Goals as goal
-
-pub returns-in-Put-clause-gives : goal.returns-in-Put-clause-gives
-returns-in-Put-clause-gives g c =
-    gives_unread c.args.store.now c.args.client.now c.put.new.client c.args.opened.now c.put.new.opened c.args.what
-    (λ (k : ℕ). whats.Put k c.in-Put.key c.in-Put.value) c.in-Put._object c.put.result c.in-Put.is (λ k. refl) c.put.ensures.stays.0 c.put.ensures.gives
-
-pub returns-in-Get-clause-gives : goal.returns-in-Get-clause-gives
-returns-in-Get-clause-gives g c =
-    gives_unread c.args.store.now c.args.client.now c.get.new.client c.args.opened.now c.get.new.opened c.args.what
-    (λ (k : ℕ). whats.Get k c.in-Get.key) c.in-Get._object c.get.result c.in-Get.is (λ k. refl) c.get.ensures.stays.0 c.get.ensures.gives
-
-pub returns-in-Del-clause-gives : goal.returns-in-Del-clause-gives
-returns-in-Del-clause-gives g c =
-    gives_unread c.args.store.now c.args.client.now c.del.new.client c.args.opened.now c.del.new.opened c.args.what
-    (λ (k : ℕ). whats.Del k c.in-Del.key) c.in-Del._object c.del.result c.in-Del.is (λ k. refl) c.del.ensures.stays.0 c.del.ensures.gives
-
-pub returns-in-Enq-clause-gives : goal.returns-in-Enq-clause-gives
-returns-in-Enq-clause-gives g c =
-    gives_unread c.args.store.now c.args.client.now c.enq.new.client c.args.opened.now c.enq.new.opened c.args.what
-    (λ (k : ℕ). whats.Enq k c.in-Enq.value) c.in-Enq._object c.enq.result c.in-Enq.is (λ k. refl) c.enq.ensures.stays.0 c.enq.ensures.gives
 
 pub put_all-requires-clause-pairs : goal.put_all-requires-clause-pairs
 put_all-requires-clause-pairs g c κs within =
     pairs_are 4 c.in-PutAll.pairs (subst (HasCommand (kind_opened c.args.opened.now)) c.in-PutAll.is c.requires.has).1
-
-pub returns-in-PutAll-clause-gives : goal.returns-in-PutAll-clause-gives
-returns-in-PutAll-clause-gives g c =
-    gives_unread c.args.store.now c.args.client.now c.put_all.new.client c.args.opened.now c.put_all.new.opened c.args.what
-    (λ (k : ℕ). whats.PutAll k c.in-PutAll.pairs) c.in-PutAll._object c.put_all.result c.in-PutAll.is (λ k. refl) c.put_all.ensures.stays.0 c.put_all.ensures.gives
-
-pub returns-in-GetAll-clause-gives : goal.returns-in-GetAll-clause-gives
-returns-in-GetAll-clause-gives g c =
-    gives_unread c.args.store.now c.args.client.now c.get_all.new.client c.args.opened.now c.get_all.new.opened c.args.what
-    (λ (k : ℕ). whats.GetAll k c.in-GetAll.keys) c.in-GetAll._object c.get_all.result c.in-GetAll.is (λ k. refl) c.get_all.ensures.stays.0 c.get_all.ensures.gives
-
-pub returns-in-Deq-clause-gives : goal.returns-in-Deq-clause-gives
-returns-in-Deq-clause-gives g c =
-    gives_unread c.args.store.now c.args.client.now c.deq.new.client c.args.opened.now c.deq.new.opened c.args.what
-    (λ (k : ℕ). whats.Deq k) c.in-Deq._object c.deq.result c.in-Deq.is (λ k. refl) c.deq.ensures.stays.0 c.deq.ensures.gives
 
 pub commit-requires-clause-pairs : goal.commit-requires-clause-pairs
 commit-requires-clause-pairs g c κs within =
@@ -94,8 +57,3 @@ returns-in-Mv-clause-gives g c =
 pub list-requires-clause-names : goal.list-requires-clause-names
 list-requires-clause-names g c κs within =
     list_said c.in-Ls._object c.in-Ls.path (subst (HasCommand (kind_opened c.args.opened.now)) c.in-Ls.is c.requires.has).1
-
-pub returns-in-Ls-clause-gives : goal.returns-in-Ls-clause-gives
-returns-in-Ls-clause-gives g c =
-    gives_unread c.args.store.now c.args.client.now c.list.new.client c.args.opened.now c.list.new.opened c.args.what
-    (λ (k : ℕ). whats.Ls k c.in-Ls.path) c.in-Ls._object c.list.result c.in-Ls.is (λ k. refl) c.list.ensures.stays.0 c.list.ensures.gives

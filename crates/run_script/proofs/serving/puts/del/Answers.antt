@@ -7,12 +7,11 @@ use Rattle.script_text.specs.declared.commands.What.TheVariants as whats
 use Rattle.log_client.proofs.CallerLemmas.{rests_same}
 use Rattle.atomic_map.proofs.CallerLemmas.{map_later as atomic_later}
 use Rattle.log_map.specs.declared.map.LogMap.{LogMap}
-use Rattle.run_script.specs.declared.serving.opened.Opened.{Opened}
+use Rattle.run_script.specs.declared.serving.opened.Opened.TheVariants as opened
 use Rattle.run_script.specs.Opened.{IsOpenedOf, kind_opened}
-use Rattle.run_script.specs.Serving.{GivesFor}
 use Rattle.run_script.proofs.GivingObjects.{gives_unasked_of}
 use Rattle.run_script.proofs.GivingPuts.{gives_in_shard, points_fit}
-use Rattle.run_script.proofs.ReadsFound.{map_not_tx}
+use Rattle.run_script.proofs.ReadsFound.{gives_unread, map_not_tx}
 use Rattle.run_script.proofs.serving.puts.del.Goals as goal
 
 pub returns-in_default-clause-rests : goal.returns-in_default-clause-rests
@@ -20,8 +19,8 @@ returns-in_default-clause-rests g c = rests_same c.args.store.now c.args.client.
 
 pub returns-in_default-clause-gives : goal.returns-in_default-clause-gives
 returns-in_default-clause-gives g c =
-    gives_unasked_of c.args.store.now c.args.client.now (kind_opened c.args.opened.now)
-    (λ (object : ℕ). whats.Del object c.args.key) c.requires.client (map_not_tx (kind_opened c.args.opened.now) c.requires.kind)
+    gives_unasked_of c.args.store.now c.args.client.now c.args.opened.now (λ (object : ℕ). whats.Del object c.args.key) c.requires.client
+    (map_not_tx (kind_opened c.args.opened.now) c.requires.kind) (λ object. refl)
 
 pub del-del-requires-clause-map : goal.del-del-requires-clause-map
 del-del-requires-clause-map g c κs within = (subst (IsOpenedOf c.args.client.now) c.in-Map.is c.requires.kept).0
@@ -50,8 +49,9 @@ pub returns-clause-gives : goal.returns-clause-gives
 returns-clause-gives g c =
     let e = c.del-del.ensures in
     let is = subst (IsOpenedOf c.args.client.now) c.in-Map.is c.requires.kept in
-    subst (λ (x : Opened). GivesFor c.args.store.now c.args.client.now c.del-del.new.client (kind_opened x)
-    (λ object. whats.Del object c.args.key) c.appended.result) (sym c.in-Map.is)
+    gives_unread c.args.store.now c.args.client.now c.del-del.new.client c.args.opened.now
+    (opened.Map c.del-del.new.self c.in-Map.several) _ (λ object. whats.Del object c.args.key) c.appended.result
+    (ap kind_opened c.in-Map.is) (returns-clause-stays g c).0 (λ object. refl)
     (gives_in_shard c.args.store.now c.args.client.now c.del-del.new.client e.client c.del-del.result c.appended.result
     c.appended.ensures (λ object. whats.Del object c.args.key) c.in-Map.single.home c.in-Map.single.colours is.0.colours e.away
     c.args.key (form_text (forms.Delete c.args.key)) (record { uses = λ object. refl; appends = λ object. refl; said = λ object. refl })

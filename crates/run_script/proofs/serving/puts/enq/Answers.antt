@@ -6,12 +6,11 @@ use Rattle.script_text.specs.declared.commands.What.TheVariants as whats
 use Rattle.lawful_run.specs.Deeds.{Listed}
 use Rattle.log_client.proofs.CallerLemmas.{rests_same}
 use Rattle.log_queue.specs.declared.queue.LogQueue.{LogQueue}
-use Rattle.run_script.specs.declared.serving.opened.Opened.{Opened}
+use Rattle.run_script.specs.declared.serving.opened.Opened.TheVariants as opened
 use Rattle.run_script.specs.Opened.{IsOpenedOf, kind_opened}
-use Rattle.run_script.specs.Serving.{GivesFor}
 use Rattle.run_script.proofs.GivingObjects.{gives_unasked_of, told_home}
 use Rattle.run_script.proofs.GivingPuts.{gives_said, points_fit}
-use Rattle.run_script.proofs.ReadsFound.{queue_not_tx}
+use Rattle.run_script.proofs.ReadsFound.{gives_unread, queue_not_tx}
 use Rattle.run_script.proofs.serving.puts.enq.Goals as goal
 
 pub returns-in_default-clause-rests : goal.returns-in_default-clause-rests
@@ -19,8 +18,8 @@ returns-in_default-clause-rests g c = rests_same c.args.store.now c.args.client.
 
 pub returns-in_default-clause-gives : goal.returns-in_default-clause-gives
 returns-in_default-clause-gives g c =
-    gives_unasked_of c.args.store.now c.args.client.now (kind_opened c.args.opened.now)
-    (λ (object : ℕ). whats.Enq object c.args.value) c.requires.client (queue_not_tx (kind_opened c.args.opened.now) c.requires.kind)
+    gives_unasked_of c.args.store.now c.args.client.now c.args.opened.now (λ (object : ℕ). whats.Enq object c.args.value) c.requires.client
+    (queue_not_tx (kind_opened c.args.opened.now) c.requires.kind) (λ object. refl)
 
 pub enq-enq-requires-clause-queue : goal.enq-enq-requires-clause-queue
 enq-enq-requires-clause-queue g c κs within = subst (IsOpenedOf c.args.client.now) c.in-Queue.is c.requires.kept
@@ -40,8 +39,9 @@ returns-clause-stays g c = (
 pub returns-clause-gives : goal.returns-clause-gives
 returns-clause-gives g c =
     let e = c.enq-enq.ensures in
-    subst (λ (x : Opened). GivesFor c.args.store.now c.args.client.now c.enq-enq.new.client (kind_opened x)
-    (λ object. whats.Enq object c.args.value) c.appended.result) (sym c.in-Queue.is)
+    gives_unread c.args.store.now c.args.client.now c.enq-enq.new.client c.args.opened.now
+    (opened.Queue c.enq-enq.new.self) _ (λ object. whats.Enq object c.args.value) c.appended.result
+    (ap kind_opened c.in-Queue.is) (returns-clause-stays g c).0 (λ object. refl)
     (gives_said c.args.store.now c.args.client.now c.enq-enq.new.client e.client c.enq-enq.result c.appended.result
     c.appended.ensures (kinds.Queue c.in-Queue.queue.home c.in-Queue.queue.colour) (λ object. whats.Enq object c.args.value)
     Listed (form_text (forms.Enqueue c.args.value)) (c.in-Queue.queue.colour ∷ []) (Some c.in-Queue.queue.home)

@@ -9,12 +9,11 @@ use Rattle.log_client.proofs.CallerLemmas.{rests_same}
 use Rattle.atomic_map.proofs.CallerLemmas.{map_later as atomic_later}
 use Rattle.log_map.specs.declared.map.LogMap.{LogMap}
 use Rattle.causal_map.specs.declared.causal.CausalMap.{CausalMap}
-use Rattle.run_script.specs.declared.serving.opened.Opened.{Opened}
+use Rattle.run_script.specs.declared.serving.opened.Opened.TheVariants as opened
 use Rattle.run_script.specs.Opened.{IsOpenedOf, kind_opened}
-use Rattle.run_script.specs.Serving.{GivesFor}
 use Rattle.run_script.proofs.GivingObjects.{gives_unasked_of}
 use Rattle.run_script.proofs.GivingPuts.{gives_in_shard, gives_said, only_shard, points_fit}
-use Rattle.run_script.proofs.ReadsFound.{any_map_not_tx}
+use Rattle.run_script.proofs.ReadsFound.{any_map_not_tx, gives_unread}
 use Rattle.run_script.proofs.serving.puts.put.Goals as goal
 
 pub returns-in_default-clause-rests : goal.returns-in_default-clause-rests
@@ -22,8 +21,8 @@ returns-in_default-clause-rests g c = rests_same c.args.store.now c.args.client.
 
 pub returns-in_default-clause-gives : goal.returns-in_default-clause-gives
 returns-in_default-clause-gives g c =
-    gives_unasked_of c.args.store.now c.args.client.now (kind_opened c.args.opened.now)
-    (λ (object : ℕ). whats.Put object c.args.key c.args.value) c.requires.client (any_map_not_tx (kind_opened c.args.opened.now) c.requires.kind)
+    gives_unasked_of c.args.store.now c.args.client.now c.args.opened.now (λ (object : ℕ). whats.Put object c.args.key c.args.value) c.requires.client
+    (any_map_not_tx (kind_opened c.args.opened.now) c.requires.kind) (λ object. refl)
 
 pub put-put-requires-clause-map : goal.put-put-requires-clause-map
 put-put-requires-clause-map g c κs within = (subst (IsOpenedOf c.args.client.now) c.in-Map.is c.requires.kept).0
@@ -52,8 +51,9 @@ pub returns-in-Map-clause-gives : goal.returns-in-Map-clause-gives
 returns-in-Map-clause-gives g c =
     let e = c.put-put.ensures in
     let is = subst (IsOpenedOf c.args.client.now) c.in-Map.is c.requires.kept in
-    subst (λ (x : Opened). GivesFor c.args.store.now c.args.client.now c.put-put.new.client (kind_opened x)
-    (λ object. whats.Put object c.args.key c.args.value) c.appended.result) (sym c.in-Map.is)
+    gives_unread c.args.store.now c.args.client.now c.put-put.new.client c.args.opened.now
+    (opened.Map c.put-put.new.self c.in-Map.several) _ (λ object. whats.Put object c.args.key c.args.value) c.appended.result
+    (ap kind_opened c.in-Map.is) (returns-in-Map-clause-stays g c).0 (λ object. refl)
     (gives_in_shard c.args.store.now c.args.client.now c.put-put.new.client e.client c.put-put.result c.appended.result
     c.appended.ensures (λ object. whats.Put object c.args.key c.args.value) c.in-Map.single.home c.in-Map.single.colours
     is.0.colours e.away c.args.key (form_text (forms.Put c.args.key c.args.value))
@@ -80,8 +80,9 @@ returns-in-Causal-clause-gives g c =
     let e = c.put-put-in-Causal.ensures in
     let is = subst (IsOpenedOf c.args.client.now) c.in-Causal.is c.requires.kept in
     let few = is.few in
-    subst (λ (x : Opened). GivesFor c.args.store.now c.args.client.now c.put-put-in-Causal.new.client (kind_opened x)
-    (λ object. whats.Put object c.args.key c.args.value) c.appended-in-Causal.result) (sym c.in-Causal.is)
+    gives_unread c.args.store.now c.args.client.now c.put-put-in-Causal.new.client c.args.opened.now
+    (opened.Causal c.put-put-in-Causal.new.self) _ (λ object. whats.Put object c.args.key c.args.value) c.appended-in-Causal.result
+    (ap kind_opened c.in-Causal.is) (returns-in-Causal-clause-stays g c).0 (λ object. refl)
     (gives_said c.args.store.now c.args.client.now c.put-put-in-Causal.new.client e.client c.put-put-in-Causal.result
     c.appended-in-Causal.result c.appended-in-Causal.ensures (kinds.Causal c.in-Causal.map.colour)
     (λ object. whats.Put object c.args.key c.args.value) (ShardsOf (c.args.key ∷ []))

@@ -10,12 +10,12 @@ use Rattle.script_text.specs.declared.commands.What.TheVariants as whats
 use Rattle.log_client.proofs.CallerLemmas.{rests_same}
 use Rattle.log_map.proofs.CallerLemmas.{map_later}
 use Rattle.atomic_map.specs.declared.atomic.AtomicMap.{AtomicMap}
+use Rattle.run_script.specs.declared.serving.opened.Opened.TheVariants as opened
 use Rattle.run_script.specs.Opened.{IsOpenedOf, kind_opened}
-use Rattle.run_script.specs.Serving.{GivesFor}
 use Rattle.run_script.proofs.GivingObjects.{gives_unasked_of, told_home}
 use Rattle.run_script.proofs.GivingPuts.{gives_said, points_fit}
 use Rattle.run_script.proofs.ReplyRoom.{shards_few}
-use Rattle.run_script.proofs.ReadsFound.{map_not_tx}
+use Rattle.run_script.proofs.ReadsFound.{gives_unread, map_not_tx}
 use Rattle.run_script.proofs.serving.puts.put_all.Goals as goal
 
 pub returns-in_default-clause-rests : goal.returns-in_default-clause-rests
@@ -23,8 +23,8 @@ returns-in_default-clause-rests g c = rests_same c.args.store.now c.args.client.
 
 pub returns-in_default-clause-gives : goal.returns-in_default-clause-gives
 returns-in_default-clause-gives g c =
-    gives_unasked_of c.args.store.now c.args.client.now (kind_opened c.args.opened.now)
-    (λ (object : ℕ). whats.PutAll object c.args.pairs) c.requires.client (map_not_tx (kind_opened c.args.opened.now) c.requires.kind)
+    gives_unasked_of c.args.store.now c.args.client.now c.args.opened.now (λ (object : ℕ). whats.PutAll object c.args.pairs) c.requires.client
+    (map_not_tx (kind_opened c.args.opened.now) c.requires.kind) (λ object. refl)
 
 pub put_all-put-requires-clause-map : goal.put_all-put-requires-clause-map
 put_all-put-requires-clause-map g c κs within = (subst (IsOpenedOf c.args.client.now) c.in-Map.is c.requires.kept).1
@@ -56,10 +56,10 @@ pub returns-clause-gives : goal.returns-clause-gives
 returns-clause-gives g c =
     let e = c.put_all-put.ensures in
     let is = subst (IsOpenedOf c.args.client.now) c.in-Map.is c.requires.kept in
-    let kind = ap (λ (home : ℕ). kinds.Map home c.in-Map.several.colours) is.2
-    ∙ (ap (λ (colours : List ℕ). kinds.Map c.in-Map.single.home colours) is.3 ∙ ap kind_opened (sym c.in-Map.is)) in
-    subst (λ (k : _). GivesFor c.args.store.now c.args.client.now c.put_all-put.new.client k
-    (λ object. whats.PutAll object c.args.pairs) c.appended.result) kind
+    gives_unread c.args.store.now c.args.client.now c.put_all-put.new.client c.args.opened.now
+    (opened.Map c.in-Map.single c.put_all-put.new.self) _ (λ object. whats.PutAll object c.args.pairs) c.appended.result
+    (ap kind_opened c.in-Map.is ∙ (ap (λ (home : ℕ). kinds.Map home c.in-Map.single.colours) (sym is.2)
+    ∙ ap (λ (colours : List ℕ). kinds.Map c.in-Map.several.home colours) (sym is.3))) (returns-clause-stays g c).0 (λ object. refl)
     (gives_said c.args.store.now c.args.client.now c.put_all-put.new.client e.client c.put_all-put.result
     c.appended.result c.appended.ensures (kinds.Map c.in-Map.several.home c.in-Map.several.colours)
     (λ object. whats.PutAll object c.args.pairs) (ShardsOf (keys_of_pairs c.args.pairs))

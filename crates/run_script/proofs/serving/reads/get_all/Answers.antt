@@ -1,26 +1,24 @@
-use Rattle.std.proofs.Common.{◌≡◌, ℕ, List, ap, sym, subst, ◌∙◌}
-use Rattle.script_text.specs.declared.script.Kind.{Kind}
+use Rattle.std.proofs.Common.{ℕ, List, ap, sym, subst, ◌∙◌, refl}
 use Rattle.script_text.specs.declared.script.Kind.TheVariants as kinds
 use Rattle.script_text.specs.declared.commands.What.TheVariants as whats
 use Rattle.log_map.proofs.CallerLemmas.{map_later}
-use Rattle.run_script.specs.declared.serving.opened.Opened.{Opened}
+use Rattle.run_script.specs.declared.serving.opened.Opened.TheVariants as opened
 use Rattle.run_script.specs.Opened.{IsOpenedOf, kind_opened}
-use Rattle.run_script.specs.Serving.{GivesFor}
 use Rattle.run_script.proofs.FewShown.{shows_few_all}
 use Rattle.run_script.proofs.GivingObjects.{gives_unasked_of}
 use Rattle.run_script.proofs.GivingReads.{gives_map_get_all}
-use Rattle.run_script.proofs.ReadsFound.{map_not_tx}
+use Rattle.run_script.proofs.ReadsFound.{gives_unread, map_not_tx}
 use Rattle.run_script.proofs.serving.reads.get_all.Goals as goal
 
 pub returns-in_default-clause-gives : goal.returns-in_default-clause-gives
 returns-in_default-clause-gives g c =
-    gives_unasked_of c.args.store.now c.args.client.now (kind_opened c.args.opened.now)
-    (λ (object : ℕ). whats.GetAll object c.args.keys) c.requires.client (map_not_tx (kind_opened c.args.opened.now) c.requires.kind)
+    gives_unasked_of c.args.store.now c.args.client.now c.args.opened.now (λ (object : ℕ). whats.GetAll object c.args.keys) c.requires.client
+    (map_not_tx (kind_opened c.args.opened.now) c.requires.kind) (λ object. refl)
 
 pub returns-in_default-room_for-clause-gives : goal.returns-in_default-room_for-clause-gives
 returns-in_default-room_for-clause-gives g c =
-    gives_unasked_of c.args.store.now c.args.client.now (kind_opened c.args.opened.now)
-    (λ (object : ℕ). whats.GetAll object c.args.keys) c.requires.client (map_not_tx (kind_opened c.args.opened.now) c.requires.kind)
+    gives_unasked_of c.args.store.now c.args.client.now c.args.opened.now (λ (object : ℕ). whats.GetAll object c.args.keys) c.requires.client
+    (map_not_tx (kind_opened c.args.opened.now) c.requires.kind) (λ object. refl)
 
 pub got_keys-requires-clause-many : goal.got_keys-requires-clause-many
 got_keys-requires-clause-many g c = c.get_all-get.ensures.many
@@ -48,13 +46,9 @@ pub returns-clause-gives : goal.returns-clause-gives
 returns-clause-gives g c =
     let kept = subst (IsOpenedOf c.args.client.now) c.in-Map.is c.requires.kept in
     let e = c.get_all-get.ensures in
-    let same : kinds.Map c.in-Map.several.home c.in-Map.several.colours
-    ≡ kinds.Map c.in-Map.single.home c.in-Map.single.colours =
-    ap (λ (home : ℕ). kinds.Map home c.in-Map.several.colours) kept.2
-    ∙ ap (λ (colours : List ℕ). kinds.Map c.in-Map.single.home colours) kept.3 in
-    subst (λ (x : Opened). GivesFor c.args.store.now c.args.client.now c.get_all-get.new.client (kind_opened x)
-    (λ object. whats.GetAll object c.args.keys) c.got_keys.result) (sym c.in-Map.is)
-    (subst (λ (k : Kind). GivesFor c.args.store.now c.args.client.now c.get_all-get.new.client k
-    (λ object. whats.GetAll object c.args.keys) c.got_keys.result) same
+    gives_unread c.args.store.now c.args.client.now c.get_all-get.new.client c.args.opened.now
+    (opened.Map c.in-Map.single c.get_all-get.new.self) _ (λ object. whats.GetAll object c.args.keys) c.got_keys.result
+    (ap kind_opened c.in-Map.is ∙ (ap (λ (home : ℕ). kinds.Map home c.in-Map.single.colours) (sym kept.2)
+    ∙ ap (λ (colours : List ℕ). kinds.Map c.in-Map.several.home colours) (sym kept.3))) (returns-clause-stays g c).0 (λ object. refl)
     (gives_map_get_all c.args.store.now c.args.client.now c.get_all-get.new.client e.client c.got_keys.result
-    c.in-Map.several.home c.in-Map.several.colours c.in-Map.several.last c.args.keys c.get_all-get.result c.got_keys.ensures e.away e.ok e.err))
+    c.in-Map.several.home c.in-Map.several.colours c.in-Map.several.last c.args.keys c.get_all-get.result c.got_keys.ensures e.away e.ok e.err)
