@@ -2,12 +2,19 @@ mod AppendsTold
 pub mod CallerLemmas
 mod Explaining
 mod Facts
+mod Growing
 mod LawfulRules
+mod LeftOut
 mod Lists
 mod Numbers
+mod OneAccount
+mod Places
 mod PlayedStamps
+mod Reached
 mod ReadsTold
 mod ReportsTell
 mod Room
 mod RulesLawful
+mod SameKept
 mod StepsTold
+mod ToldAlike

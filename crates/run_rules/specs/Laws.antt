@@ -5,9 +5,10 @@ use Rattle.script_text.specs.declared.script.Script.{Script}
 use Rattle.script_text.specs.Fitting.{IsFitting}
 use Rattle.report_text.specs.declared.report.Report.{Report}
 use Rattle.lawful_run.specs.Lawful.{LawfulRun}
-use Rattle.run_rules.specs.Told.{IsTold}
+use Rattle.run_rules.specs.Told.{Account, IsTold}
 use Rattle.run_rules.specs.Telling.{IsWellFormed, account_of}
-use Rattle.run_rules.specs.Keeping.{Keeps, IsLeastBroken, HidesNothing, rule_count}
+use Rattle.run_rules.specs.Keeping.{Keeps, RulesTo, IsLeastBroken, HidesNothing, rule_count}
+use Rattle.run_rules.specs.Agreeing.{Agree}
 
 -- A report of a script that hides nothing keeps all rules where it is that of a lawful run.
 abbrev pub LawfulRunsKeepRules : Type 0
@@ -33,3 +34,9 @@ LeastIsOne = (script : Script) (report : Report) (a b : ℕ)
 abbrev pub ReportsTell : Type 0
 ReportsTell = (script : Script) (report : Report) (nodes : ℕ → List Node) → IsWellFormed script report
     → IsTold script report (account_of script report nodes)
+
+-- Two accounts that a report of a script tells, and at which rules 1 to 4 hold, agree within the script's shape.
+abbrev pub ToldAccountsAgree : Type 0
+ToldAccountsAgree = (script : Script) (report : Report) (a b : Account) → IsFitting script
+    → IsTold script report a → IsTold script report b
+    → RulesTo script report a 4 → RulesTo script report b 4 → Agree script report a b
