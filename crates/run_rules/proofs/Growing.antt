@@ -165,14 +165,14 @@ raises_grow caller kept (x ∷ xs) =
     then (place_grows kept caller.own x.colour x.at)
     (raises_grow caller (kept_after_place kept caller.own x.colour x.at) xs)
 
-syncs_keep : (log : Log) (caller : Caller) (kept : Kept) (syncs : List SyncPiece)
+pub syncs_keep : (log : Log) (caller : Caller) (kept : Kept) (syncs : List SyncPiece)
     → ((kept_after_syncs log caller kept syncs).ids ≡ kept.ids)
     × ((r c : ℕ) → (kept_after_syncs log caller kept syncs).made r c ≡ kept.made r c)
 syncs_keep log caller kept [] = (refl, λ r c. refl)
 syncs_keep log caller kept (x ∷ xs) =
     let s = syncs_keep log caller (kept_after_piece log caller kept x) xs in (s.0, λ r c. s.1 r c)
 
-points_keep : (own : ℕ) (kept : Kept) (points : List PointPiece)
+pub points_keep : (own : ℕ) (kept : Kept) (points : List PointPiece)
     → ((kept_after_points kept own points).ids ≡ kept.ids)
     × ((r c : ℕ) → (kept_after_points kept own points).made r c ≡ kept.made r c)
 points_keep own kept [] = (refl, λ r c. refl)

@@ -6,6 +6,7 @@ mod Growing
 mod LawfulRules
 mod LeftOut
 mod Lists
+mod NodesAlike
 mod Numbers
 mod OneAccount
 mod Places

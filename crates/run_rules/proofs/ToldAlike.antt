@@ -43,7 +43,7 @@ said_same own kind (whats.Commit object pairs) (Some x) (Some y) e =
     ap (λ (keys : List (List ℕ)). shards own (keys ++ keys_of_pairs pairs)) k
 said_same own kind _ x y e = refl
 
-asked_same : (script : Script) (caller : Caller) (what : What) {a b : Kept} → KeepSame script a b
+pub asked_same : (script : Script) (caller : Caller) (what : What) {a b : Kept} → KeepSame script a b
     → colours_asked caller a what ≡ colours_asked caller b what
 asked_same script caller what {a} {b} s =
     said_same (object_colours (kind_asked caller what)) (kind_asked caller what) what (found_by (use_of what) a)

@@ -74,3 +74,8 @@ pub record Agree (script : Script) (report : Report) (a b : Account) : Type 0 wh
       → AllZip (AreStepsAlike script (caller_of script n)) (a.steps n) (b.steps n)
   pub last : (n : ℕ) (c : ClientReport) → slice_get report.clients n ≡ Some c
       → KeepSame script (a.last n) (b.last n)
+
+-- and so do the nodes that clients appended
+abbrev pub AgreeOnNodes : Report → Account → Account → Type 0
+AgreeOnNodes report a b = (n : ℕ) (c : ClientReport) → slice_get report.clients n ≡ Some c
+    → AllZip AreNodesAlike (a.log.nodes n) (b.log.nodes n)

@@ -8,7 +8,7 @@ use Rattle.lawful_run.specs.Lawful.{LawfulRun}
 use Rattle.run_rules.specs.Told.{Account, IsTold}
 use Rattle.run_rules.specs.Telling.{IsWellFormed, account_of}
 use Rattle.run_rules.specs.Keeping.{Keeps, RulesTo, IsLeastBroken, HidesNothing, rule_count}
-use Rattle.run_rules.specs.Agreeing.{Agree}
+use Rattle.run_rules.specs.Agreeing.{Agree, AgreeOnNodes}
 
 -- A report of a script that hides nothing keeps all rules where it is that of a lawful run.
 abbrev pub LawfulRunsKeepRules : Type 0
@@ -40,3 +40,9 @@ abbrev pub ToldAccountsAgree : Type 0
 ToldAccountsAgree = (script : Script) (report : Report) (a b : Account) → IsFitting script
     → IsTold script report a → IsTold script report b
     → RulesTo script report a 4 → RulesTo script report b 4 → Agree script report a b
+
+-- Where rule 5 holds too, their nodes agree.
+abbrev pub ToldNodesAgree : Type 0
+ToldNodesAgree = (script : Script) (report : Report) (a b : Account) → IsFitting script
+    → IsTold script report a → IsTold script report b
+    → RulesTo script report a 5 → RulesTo script report b 5 → AgreeOnNodes report a b

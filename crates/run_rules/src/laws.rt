@@ -1,5 +1,5 @@
 // Laws of the rules. Each function does nothing, and its contract is the law.
-ghost use Rattle.run_rules.specs.Laws.{BrokenIsUnlawful, LawfulRunsKeepRules, LeastIsOne, ReportsTell, RulesMakeLawful, ToldAccountsAgree};
+ghost use Rattle.run_rules.specs.Laws.{BrokenIsUnlawful, LawfulRunsKeepRules, LeastIsOne, ReportsTell, RulesMakeLawful, ToldAccountsAgree, ToldNodesAgree};
 
 /// A report that hides nothing keeps all rules where it is that of a lawful run.
 pub fn lawful_runs_keep_rules()
@@ -29,4 +29,9 @@ pub fn reports_tell()
 /// Two accounts of one report at which the first four rules hold agree.
 pub fn told_accounts_agree()
     ensures { ToldAccountsAgree }
+{}
+
+/// Their nodes agree where the fifth holds too.
+pub fn told_nodes_agree()
+    ensures { ToldNodesAgree }
 {}
