@@ -117,7 +117,7 @@ pub record Obeys (script : Script) (log : Log) (caller : Caller) (step : Step) :
   pub within : IsWithin script.shape.regions script.shape.colours step.command.what
 
 module _ (log : Log) (untold : Untold) (caller : Caller) (kept : Kept) (what : What) where
-  steps_of_row : (answer : Answer) → begins_row (is_several caller kept what) answer ≡ true
+  pub steps_of_row : (answer : Answer) → begins_row (is_several caller kept what) answer ≡ true
       → Names log untold caller kept what answer → NamesSteps log caller kept untold.places
   steps_of_row (answers.Stood stamp None points) t n = absurd (let f : ⊥ = cc (t) in f)
   steps_of_row (answers.Stood stamp (Some number) points) t n = n.1
@@ -141,9 +141,12 @@ module _ (log : Log) (untold : Untold) (caller : Caller) (kept : Kept) (what : W
         let ec : colour ≡ n.1 = cc (e) in
         let x = in_only region colour untold.too_low r c p i in
         let h = All-contains (Has caller.client (log.histories n.0 n.1) (GivesTo caller.own)) untold.too_low p n.3.0
-        (contains_in untold.too_low p x.2) in
-        (h.0, ap (λ (k : ℕ). slice_get (log.histories k c) p) (x.0 ∙ er)
-        ∙ (ap (λ (k : ℕ). slice_get (log.histories n.0 k) p) (x.1 ∙ ec) ∙ h.1), h.3)
+        (contains_in untold.too_low p x.2) in (
+          h.0,
+          ap (λ (k : ℕ). slice_get (log.histories k c) p) (x.0 ∙ er)
+              ∙ (ap (λ (k : ℕ). slice_get (log.histories n.0 k) p) (x.1 ∙ ec) ∙ h.1),
+          h.3,
+        )
     of_pull _ e i = absurd i
   low_gives _ r c p n i = absurd i
 
@@ -180,9 +183,11 @@ left_there : (script : Script) (log : Log) (caller : Caller) (step : Step) → O
 left_there script log caller step o r c p (inl i) =
     let x = in_row (began_row caller step) caller.own step.untold.places r c p i in
     let s = row_step log caller step o.names x.0 c p x.2 in
-    let ids = ids_at step in
-    (s.1.0, ap (λ (k : ℕ). slice_get (log.histories k c) p) x.1 ∙ s.1.1,
-    inl ((kept_at step).ids, omega (arith, ids), s.1.3))
+    let ids = ids_at step in (
+      s.1.0,
+      ap (λ (k : ℕ). slice_get (log.histories k c) p) x.1 ∙ s.1.1,
+      inl ((kept_at step).ids, omega (arith, ids), s.1.3),
+    )
 left_there script log caller step o r c p (inr i) =
     let g = low_gives log step.untold caller (kept_at step) step.command.what step.reply.answer r c p o.names i in
     (g.0, g.1, inr g.2)

@@ -1,3 +1,4 @@
+mod AppendsAlike
 mod AppendsTold
 pub mod CallerLemmas
 mod Explaining
@@ -9,12 +10,14 @@ mod Lists
 mod NodesAlike
 mod Numbers
 mod OneAccount
+mod OpenAlike
 mod Places
 mod PlayedStamps
 mod Reached
 mod ReadsTold
 mod ReportsTell
 mod Room
+mod RulesAlike
 mod RulesLawful
 mod SameKept
 mod StepsTold

@@ -5,6 +5,7 @@ use Rattle.std.specs.List.{All, AllZip}
 use Rattle.std.proofs.lemmas.Bool.{cases_lt}
 use Rattle.std.proofs.lemmas.List.Elements.{All-head, All-tail}
 use Rattle.log_node.specs.declared.ids.Counts.{Counts}
+use Rattle.log_node.specs.declared.ids.Colours.{Colours}
 use Rattle.log_node.specs.declared.ids.Id.{Id}
 use Rattle.log_node.specs.declared.node.At.{At}
 use Rattle.log_node.specs.declared.node.At.TheVariants.{Event, Look}
@@ -132,7 +133,7 @@ module _ (log : Log) (untold : Untold) (caller : Caller) (kept : Kept) (what : W
   told_uses (answers.Trimmed colour base) n = inl refl
   told_uses (answers.NotHome home) n = inl refl
 
-abbrev Uses : Log → Caller → Step → Type 0
+abbrev pub Uses : Log → Caller → Step → Type 0
 Uses log caller step = UsesNode log caller (kept_at step) step.command.what step.reply.answer
 
 step_uses : (log : Log) (caller : Caller) (step : Step) → Uses log caller step
@@ -162,9 +163,22 @@ all_alike (x ∷ xs) [] e f = absurd (let g : ⊥ = omega (arith, e) in g)
 all_alike (x ∷ xs) (y ∷ ys) e f =
     let a = f 0 (omega arith) in
     let p : a.0 ≡ x = let s = a.2 in cc (s) in
-    let q : a.1 ≡ y = let s = a.3 in cc (s) in
-    (subst (λ (n : Node). AreNodesAlike n y) p (subst (AreNodesAlike a.0) q a.4),
-    all_alike xs ys (omega (arith, e)) (λ i lt. f (suc i) (omega (arith, lt))))
+    let q : a.1 ≡ y = let s = a.3 in cc (s) in (
+      subst (λ (n : Node). AreNodesAlike n y) p (subst (AreNodesAlike a.0) q a.4),
+      all_alike xs ys (omega (arith, e)) (λ i lt. f (suc i) (omega (arith, lt))),
+    )
+
+-- nodes of one command, of clients that keep the same
+pub of_command : (script : Script) (caller : Caller) {a b : Kept} → KeepSame script a b → (x y : Colours) (t u : List ℕ)
+    → members x ≡ members y → AreNodesAlike (node_of caller a x t) (node_of caller b y u)
+of_command script caller {a} {b} s x y t u colours = record {
+  id = ap (λ (k : ℕ). record { client = caller.client; count = k }) s.ids;
+  region = refl;
+  colours = colours;
+  floor = s.floor;
+  wants = wants_same a.starts b.starts s.starts (members x) ∙ ap (map b.starts) colours;
+  row = ap (λ (k : ℕ). row_taken caller.client k (members x)) s.rows ∙ ap (row_taken caller.client b.rows) colours;
+}
 
 module _ (script : Script) (caller : Caller) (one two : Log) where
   node_alike : (what : What) {a b : Kept} → KeepSame script a b → HasNode one caller a what → HasNode two caller b what
@@ -174,16 +188,13 @@ module _ (script : Script) (caller : Caller) (one two : Log) where
       let q = node_of caller b y.0 y.1 in
       let colours : members x.0 ≡ members y.0 =
       asked_colours caller a what x.0 x.1 x.2
-      ∙ (asked_same script caller what s ∙ sym (asked_colours caller b what y.0 y.1 y.2)) in
-      (p, q, x.3, ap (slice_get (two.nodes caller.client)) s.ids ∙ y.3, record {
-        id = ap (λ (k : ℕ). record { client = caller.client; count = k }) s.ids;
-        region = refl;
-        colours = colours;
-        floor = s.floor;
-        wants = wants_same a.starts b.starts s.starts (members x.0) ∙ ap (map b.starts) colours;
-        row = ap (λ (k : ℕ). row_taken caller.client k (members x.0)) s.rows
-            ∙ ap (row_taken caller.client b.rows) colours;
-      })
+      ∙ (asked_same script caller what s ∙ sym (asked_colours caller b what y.0 y.1 y.2)) in (
+        p,
+        q,
+        x.3,
+        ap (slice_get (two.nodes caller.client)) s.ids ∙ y.3,
+        of_command script caller s x.0 y.0 x.1 y.1 colours,
+      )
 
   -- behind a step as many ids are used by both
   past_ids : (xs ys : List Step) (k l last latest : Kept) → AllZip (AreStepsAlike script caller) xs ys

@@ -105,6 +105,13 @@ shows_region rows x p i =
 
 -- STEPS
 
+-- a step of this command with this reply
+pub step_with : (step : Step) (command : Command) (reply : ReplyLine) → command ≡ step.command → reply ≡ step.reply
+    → step ≡ record { command = command; reply = reply; kept = step.kept; untold = step.untold }
+step_with step command reply e f =
+    ap (λ (c : Command). record { command = c; reply = step.reply; kept = step.kept; untold = step.untold }) (sym e)
+    ∙ ap (λ (a : ReplyLine). record { command = command; reply = a; kept = step.kept; untold = step.untold }) (sym f)
+
 -- gives that were too low, before the give of their pull
 low_alike : (own : ℕ) (s t : Bool) (u v : Untold) (answer : Answer) → IsPulled answer → (region colour : ℕ) (more less : List ℕ)
     → (row_part (begins_row s answer) own u.places region colour
@@ -297,9 +304,7 @@ module _ (script : Script) (fits : IsFitting script) (n : ℕ)
         let commands : map (λ (s : Step). s.command) xs ≡ map (λ (s : Step). s.command) ys = cc (e) in
         let replies : map (λ (s : Step). s.reply) xs ≡ map (λ (s : Step). s.reply) ys = cc (f) in
         let z : Step = record { command = x.command; reply = x.reply; kept = y.kept; untold = y.untold } in
-        let is : y ≡ z =
-        ap (λ (c : Command). record { command = c; reply = y.reply; kept = y.kept; untold = y.untold }) (sym command)
-        ∙ ap (λ (a : ReplyLine). record { command = x.command; reply = a; kept = y.kept; untold = y.untold }) (sym reply) in
+        let is : y ≡ z = step_with y x.command x.reply command reply in
         let o = All-head (Obeys script log who) x xs ox in
         let q = subst (Obeys script other who) is (All-head (Obeys script other who) y ys oy) in
         let os = All-tail (Obeys script log who) x xs ox in
@@ -333,7 +338,7 @@ module _ (script : Script) (fits : IsFitting script) (n : ℕ)
 -- ACCOUNTS
 
 module _ (script : Script) (fits : IsFitting script) (report : Report) where
-  obeys : (account : Account) → IsTold script report account → Rule1 script report account → Rule4 script report account
+  pub obeys : (account : Account) → IsTold script report account → Rule1 script report account → Rule4 script report account
       → (n : ℕ) (c : ClientReport) → slice_get report.clients n ≡ Some c
       → All (Obeys script account.log (caller_of script n)) (account.steps n)
   obeys account told first fourth n c there =
@@ -366,7 +371,7 @@ module _ (script : Script) (fits : IsFitting script) (report : Report) where
         (shows_region a.log.rows) (shows_region b.log.rows) 0 script.shape.regions (sym ta.rows ∙ tb.rows) region
         (omega arith) (omega (arith, lt))
 
-    home : (n : ℕ) (c : ClientReport) → slice_get report.clients n ≡ Some c
+    pub home : (n : ℕ) (c : ClientReport) → slice_get report.clients n ≡ Some c
         → (caller_of script n).own < script.shape.regions
     home n c there =
         let lt = get_within report.clients n c there in

@@ -38,8 +38,10 @@ places_once from client [] = tt
 places_once from client (e ∷ es) =
     choice Once ((e.by == client) && is_own client e.event) (from ∷ places_from (from + 1) client es)
     (places_from (from + 1) client es)
-    (λ t. (λ i. let r = places_least (from + 1) client es from i in let f : ⊥ = omega (arith, r) in f,
-    places_once (from + 1) client es))
+    (λ t. (
+      λ i. let r = places_least (from + 1) client es from i in let f : ⊥ = omega (arith, r) in f,
+      places_once (from + 1) client es,
+    ))
     (λ f. places_once (from + 1) client es)
 
 -- what stands behind one beginning

@@ -82,7 +82,7 @@ module _ (script : Script) (fits : IsFitting script) (n : ℕ) (log other : Log)
       mapped_below script.shape.colours (λ (p : SyncPiece). p.colour) syncs (colours_synced who what) h.1
       (synced_within script fits n what within) x i
 
-  points_below : (row : Option ℕ) (points : List PointPiece) → HasPoints (colours_asked who a what) row points
+  pub points_below : (row : Option ℕ) (points : List PointPiece) → HasPoints (colours_asked who a what) row points
       → (x : PointPiece) → In x points → x.colour < script.shape.colours
   points_below row points h x i =
       mapped_below script.shape.colours (λ (p : PointPiece). p.colour) points (colours_asked who a what)

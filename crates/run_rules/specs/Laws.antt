@@ -46,3 +46,9 @@ abbrev pub ToldNodesAgree : Type 0
 ToldNodesAgree = (script : Script) (report : Report) (a b : Account) → IsFitting script
     → IsTold script report a → IsTold script report b
     → RulesTo script report a 5 → RulesTo script report b 5 → AgreeOnNodes report a b
+
+-- Any told account at which rules 1 to 5 hold decides whether a report keeps the rules up to one from there to rule 8.
+abbrev pub OneAccountDecides : Type 0
+OneAccountDecides = (script : Script) (report : Report) (account : Account) → IsFitting script
+    → IsTold script report account → RulesTo script report account 5 → (n : ℕ) → n ≤ 8
+    → Keeps script report n → RulesTo script report account n

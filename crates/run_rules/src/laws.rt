@@ -1,5 +1,5 @@
 // Laws of the rules. Each function does nothing, and its contract is the law.
-ghost use Rattle.run_rules.specs.Laws.{BrokenIsUnlawful, LawfulRunsKeepRules, LeastIsOne, ReportsTell, RulesMakeLawful, ToldAccountsAgree, ToldNodesAgree};
+ghost use Rattle.run_rules.specs.Laws.{BrokenIsUnlawful, LawfulRunsKeepRules, LeastIsOne, OneAccountDecides, ReportsTell, RulesMakeLawful, ToldAccountsAgree, ToldNodesAgree};
 
 /// A report that hides nothing keeps all rules where it is that of a lawful run.
 pub fn lawful_runs_keep_rules()
@@ -34,4 +34,9 @@ pub fn told_accounts_agree()
 /// Their nodes agree where the fifth holds too.
 pub fn told_nodes_agree()
     ensures { ToldNodesAgree }
+{}
+
+/// One such account decides the rules up to the eighth.
+pub fn one_account_decides()
+    ensures { OneAccountDecides }
 {}
