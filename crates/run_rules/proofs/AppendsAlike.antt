@@ -1,8 +1,7 @@
 -- Appends and stops that stand at one account as they are told stand at one that agrees.
-use Rattle.std.proofs.Common.{◌≡◌, ◌∙◌, refl, ap, sym, subst, Bool, true, cond, ℕ, zero, suc, ◌+◌, ◌<◌, ◌≤◌, List, [], ◌∷◌, ◌++◌, map, take, length, Option, Some, None, ◌⊎◌, inl, inr, arith}
-use Rattle.std.specs.Prelude.{◌==◌, IsTrue, slice_get}
+use Rattle.std.proofs.Common.{◌≡◌, ◌∙◌, refl, ap, sym, subst, ℕ, ◌+◌, ◌<◌, ◌≤◌, List, [], ◌∷◌, map, take, length, Option, Some, None, ◌⊎◌, inl, inr, arith}
+use Rattle.std.specs.Prelude.{IsTrue, slice_get}
 use Rattle.std.specs.List.{All, Contains}
-use Rattle.std.proofs.lemmas.Bool.{eq-eqb}
 use Rattle.std.proofs.lemmas.List.Elements.{All-contains}
 use Rattle.log_node.specs.declared.ids.Id.{Id}
 use Rattle.log_node.specs.declared.ids.Counts.{Counts}
@@ -17,37 +16,31 @@ use Rattle.log_node.specs.declared.marks.ColourMark.{ColourMark}
 use Rattle.log_node.specs.declared.marks.Outcome.{Outcome}
 use Rattle.log_node.specs.Sets.{members}
 use Rattle.log_node.specs.Standings.{open_entry}
-use Rattle.col_core.specs.declared.Event as events
 use Rattle.col_core.specs.declared.Event.TheVariants.{Single, Propose}
 use Rattle.col_core.specs.declared.Entry.{Entry}
 use Rattle.col_core.specs.History.{entries, line, entry_key, has_entered}
 use Rattle.col_core.specs.Log.{Log, IsBegunFor, HasMark, HasOutcome}
-use Rattle.col_core.specs.Appending.{EntersBehind, IsClosedFor, IsMarked, IsDecided, IsStepWithin}
+use Rattle.col_core.specs.Appending.{EntersBehind, IsStepWithin}
 use Rattle.col_core.specs.Rows.{BegunRow, FitsRow, node_wants, wants_of}
-use Rattle.col_core.specs.Keeping.{Kept, updated, kept_after_single, with_made, with_row}
+use Rattle.col_core.specs.Keeping.{Kept, kept_after_single}
 use Rattle.col_core.proofs.CallerLemmas.{In, in_contains, contains_in, all_in, in_map-back, slice_in}
 use Rattle.script_text.specs.declared.commands.What.{What}
-use Rattle.script_text.specs.declared.commands.What.TheVariants as whats
 use Rattle.script_text.specs.declared.script.Script.{Script}
 use Rattle.script_text.specs.Fitting.{IsFitting, IsWithin}
 use Rattle.report_text.specs.declared.report.PointPiece.{PointPiece}
 use Rattle.report_text.specs.declared.report.RowReport.{RowReport}
 use Rattle.lawful_run.specs.Callers.{Caller, caller_of, node_of}
 use Rattle.lawful_run.specs.Columns.{row_report}
-use Rattle.lawful_run.specs.Appends.{AppendsOne, BeginsRow, StandsAt, AppendsSeveral, Appends, IsSettledIn}
-use Rattle.lawful_run.specs.Stops.{StopsAfter, Stops, stopped_at_once, stopped_after}
+use Rattle.lawful_run.specs.Appends.{AppendsOne, BeginsRow, StandsAt, Appends, IsSettledIn}
+use Rattle.lawful_run.specs.Stops.{StopsAfter}
 use Rattle.lawful_run.specs.Reads.{events_until}
-use Rattle.run_rules.specs.Told.{Untold, colours_asked, kept_after_append, kept_after_row, kept_after_stop}
+use Rattle.run_rules.specs.Told.{Untold, kept_after_append}
 use Rattle.run_rules.specs.Naming.{NamesSteps}
-use Rattle.run_rules.specs.Rules.{HasNode, StandsAsTold, with_room}
+use Rattle.run_rules.specs.Rules.{with_room}
 use Rattle.run_rules.specs.Shown.{is_row}
 use Rattle.run_rules.specs.Agreeing.{HasColumn, KeepSame, AreNodesAlike}
-use Rattle.run_rules.proofs.Facts.{asked_colours}
-use Rattle.run_rules.proofs.Reached.{appended_within}
-use Rattle.run_rules.proofs.ToldAlike.{asked_same}
 use Rattle.run_rules.proofs.NodesAlike.{of_command}
 use Rattle.run_rules.proofs.OpenAlike.{row_other}
-use Rattle.run_rules.proofs.Places.{behind_same}
 
 module _ (script : Script) (fits : IsFitting script) (n : ℕ) (log other : Log)
     (histories : (r c : ℕ) → HasColumn script r c → log.histories r c ≡ other.histories r c)
@@ -92,9 +85,12 @@ module _ (script : Script) (fits : IsFitting script) (n : ℕ) (log other : Log)
 
     mark_same : (colour : ℕ) (mark : Mark) → HasMark other mate colour mark → HasMark log node colour mark
     mark_same colour mark h =
-        let q = its_row h.0 h.1 in
-        (q.0, q.1, subst (λ (all : List ColourMark). Contains all (record { colour = colour; mark = mark }))
-        (sym (ap (λ (k : RowReport). k.marks) q.2)) h.2)
+        let q = its_row h.0 h.1 in (
+          q.0,
+          q.1,
+          subst (λ (all : List ColourMark). Contains all (record { colour = colour; mark = mark }))
+              (sym (ap (λ (k : RowReport). k.marks) q.2)) h.2,
+        )
 
     outcome_same : (outcome : Outcome) → HasOutcome other mate outcome → HasOutcome log node outcome
     outcome_same outcome h =

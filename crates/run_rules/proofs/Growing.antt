@@ -6,7 +6,7 @@ use Rattle.log_node.specs.declared.node.At.{At}
 use Rattle.log_node.specs.declared.node.At.TheVariants.{Event, Look}
 use Rattle.log_node.specs.declared.forms.Version.{Version}
 use Rattle.col_core.specs.Log.{Log}
-use Rattle.col_core.specs.Keeping.{Kept, updated, updated_at, kept_after_point, kept_after_event, with_row}
+use Rattle.col_core.specs.Keeping.{Kept, updated, updated_at, kept_after_point, kept_after_event}
 use Rattle.script_text.specs.declared.commands.What.{What}
 use Rattle.script_text.specs.declared.commands.What.TheVariants as whats
 use Rattle.script_text.specs.declared.uses.ReadUse.TheVariants.{Takes}
@@ -22,7 +22,6 @@ use Rattle.lawful_run.specs.Callers.{Caller}
 use Rattle.lawful_run.specs.Appends.{kept_after_points}
 use Rattle.lawful_run.specs.Moves.{with_places}
 use Rattle.lawful_run.specs.Reads.{events_until, kept_after_place, kept_after_piece}
-use Rattle.lawful_run.specs.Refusals.{kept_before}
 use Rattle.lawful_run.proofs.CallerLemmas.{before_is, behind_is}
 use Rattle.run_rules.specs.Told.{Untold, Step, Follow, is_several, kept_at, kept_past, kept_told, kept_after_append, kept_after_row, kept_after_raises, kept_after_syncs, kept_after_read, kept_pulled, kept_where, with_found, stamp_told}
 use Rattle.run_rules.specs.Shown.{is_row, begins_row}

@@ -1,17 +1,16 @@
 -- What the answers of two accounts leave out is the same, by what their clients made in the end.
-use Rattle.std.proofs.Common.{◌≡◌, ◌∙◌, refl, ap, sym, subst, Bool, true, false, cond, ℕ, zero, suc, ◌+◌, ◌<◌, ◌≤◌, List, [], ◌∷◌, ◌++◌, map, Option, Some, None, ◌⊎◌, inl, inr, arith, append_assoc}
-use Rattle.std.specs.Prelude.{◌==◌, IsTrue, slice_get}
+use Rattle.std.proofs.Common.{◌≡◌, ◌∙◌, refl, ap, sym, subst, Bool, true, false, cond, ℕ, zero, suc, ◌<◌, ◌≤◌, List, [], ◌∷◌, ◌++◌, map, Some, None, ◌⊎◌, inl, inr, arith}
+use Rattle.std.specs.Prelude.{◌==◌, slice_get}
 use Rattle.std.specs.List.{All}
 use Rattle.std.proofs.lemmas.Bool.{eq-eqb, eqb-true}
 use Rattle.std.proofs.lemmas.List.Elements.{All-contains, All-head, All-tail}
 use Rattle.log_node.specs.declared.ids.Id.{Id}
-use Rattle.log_node.specs.declared.node.At.{At}
 use Rattle.col_core.specs.declared.Event as events
 use Rattle.col_core.specs.declared.Event.TheVariants.{Single, Propose, Settle, Raise, Give, Carry, Trim}
 use Rattle.col_core.specs.declared.Entry.{Entry}
 use Rattle.col_core.specs.Ids.{IsStepOf}
 use Rattle.col_core.specs.Log.{Log}
-use Rattle.col_core.specs.Keeping.{Kept, updated, updated_at}
+use Rattle.col_core.specs.Keeping.{Kept, updated}
 use Rattle.col_core.proofs.CallerLemmas.{In, in_append, in_left, in_right, contains_in}
 use Rattle.script_text.specs.declared.commands.What.{What}
 use Rattle.script_text.specs.declared.commands.What.TheVariants as whats
@@ -22,16 +21,13 @@ use Rattle.report_text.specs.declared.report.Answer.{Answer}
 use Rattle.report_text.specs.declared.report.Answer.TheVariants as answers
 use Rattle.report_text.specs.declared.report.ReplyLine.{ReplyLine}
 use Rattle.lawful_run.specs.Callers.{Caller}
-use Rattle.lawful_run.specs.Reads.{events_until}
-use Rattle.lawful_run.specs.Refusals.{kept_before}
 use Rattle.lawful_run.proofs.CallerLemmas.{before_is}
 use Rattle.run_rules.specs.Told.{Untold, Step, Follow, AreKeysFound, is_several, kept_at, kept_past}
 use Rattle.run_rules.specs.Naming.{Names, NamesSteps, GivesTo, Has}
 use Rattle.run_rules.specs.Answering.{CanHave}
 use Rattle.run_rules.specs.Shown.{begins_row}
-use Rattle.run_rules.specs.Agreeing.{HasColumn, IsPulled, began_row}
-use Rattle.run_rules.proofs.Places.{Once, once_apart, one_beginning, one_before}
-use Rattle.run_rules.proofs.Growing.{nowhere, only_at, row_part, low_part, printed, printed_at, step_part, steps_part, one_where, step_grows}
+use Rattle.run_rules.specs.Agreeing.{began_row}
+use Rattle.run_rules.proofs.Growing.{nowhere, only_at, row_part, low_part, printed, step_part, steps_part, step_grows}
 
 -- PLACES OF ONE COLUMN
 

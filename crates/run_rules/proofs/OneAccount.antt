@@ -1,9 +1,8 @@
 -- Two told accounts of one report at which the first rules hold agree.
-use Rattle.std.proofs.Common.{◌≡◌, ◌∙◌, refl, ap, sym, subst, Bool, true, ℕ, zero, suc, ◌+◌, ◌<◌, ◌≤◌, List, [], ◌∷◌, ◌++◌, map, length, Some, ◌⊎◌, inl, inr, arith, append_assoc}
+use Rattle.std.proofs.Common.{◌≡◌, ◌∙◌, refl, ap, sym, subst, Bool, true, ℕ, zero, suc, ◌+◌, ◌<◌, ◌≤◌, List, [], ◌∷◌, ◌++◌, map, Some, ◌⊎◌, inl, inr, arith, append_assoc}
 use Rattle.std.specs.Prelude.{◌==◌, IsTrue, slice_get}
 use Rattle.std.specs.List.{All, AllZip, flat_map, range_with_len}
 use Rattle.std.proofs.lemmas.Bool.{cases_lt}
-use Rattle.std.proofs.lemmas.List.{length-map}
 use Rattle.std.proofs.lemmas.List.Elements.{All-contains, All-head, All-tail}
 use Rattle.col_core.specs.declared.Entry.{Entry}
 use Rattle.col_core.specs.Ids.{IsStepOf}
@@ -26,7 +25,6 @@ use Rattle.report_text.specs.declared.report.Report.{Report}
 use Rattle.lawful_run.specs.Callers.{Caller, caller_of}
 use Rattle.lawful_run.specs.Columns.{row_report, column_numbers}
 use Rattle.lawful_run.specs.Reads.{events_until}
-use Rattle.lawful_run.proofs.CallerLemmas.{get_within}
 use Rattle.run_rules.specs.Told.{Untold, Step, Account, IsTold, Follow, AreKeysFound, is_several, kept_at, kept_past}
 use Rattle.run_rules.specs.Naming.{Names}
 use Rattle.run_rules.specs.Answering.{CanHave}
@@ -37,6 +35,7 @@ use Rattle.run_rules.specs.Laws.{ToldAccountsAgree}
 use Rattle.run_rules.proofs.Numbers.{rule1, rule4}
 use Rattle.run_rules.proofs.Places.{Once, once_apart, once_behind, places_once, behind_same, one_beginning, one_before}
 use Rattle.run_rules.proofs.Growing.{only_at, row_part, low_part, printed, printed_at, step_part, steps_part, one_where, step_grows, follow_grows}
+use Rattle.run_rules.proofs.Reached.{home_within}
 use Rattle.run_rules.proofs.SameKept.{before_same}
 use Rattle.run_rules.proofs.SameKept.{behind_same as behind_kept}
 use Rattle.run_rules.proofs.ToldAlike.{several_same, told_same}
@@ -371,20 +370,11 @@ module _ (script : Script) (fits : IsFitting script) (report : Report) where
         (shows_region a.log.rows) (shows_region b.log.rows) 0 script.shape.regions (sym ta.rows ∙ tb.rows) region
         (omega arith) (omega (arith, lt))
 
-    pub home : (n : ℕ) (c : ClientReport) → slice_get report.clients n ≡ Some c
-        → (caller_of script n).own < script.shape.regions
-    home n c there =
-        let lt = get_within report.clients n c there in
-        let long : length report.clients ≡ length script.clients =
-        sym (length-map report.clients (λ (x : ClientReport). x.name)) ∙ ap length a1.names in
-        let all = fits.clients in
-        fits.shape.homes n 0 (omega (arith, lt, long, all))
-
     clients_alike : (n : ℕ) (c : ClientReport) → slice_get report.clients n ≡ Some c
         → AllZip (AreStepsAlike script (caller_of script n)) (a.steps n) (b.steps n)
         × KeepSame script (a.last n) (b.last n)
     clients_alike n c there =
-        let own = home n c there in
+        let own = home_within script report fits a1.names n c there in
         let of_a = ta.clients n c there in
         let of_b = tb.clients n c there in
         let who = caller_of script n in

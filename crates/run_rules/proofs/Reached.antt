@@ -1,9 +1,10 @@
 -- The colours that a command of a fitting script syncs, and those on which it appends, are the shape's.
 use Rattle.std.proofs.Common.{◌≡◌, ◌∙◌, refl, ap, sym, subst, Bool, true, ℕ, zero, suc, ◌<◌, List, [], ◌∷◌, ◌++◌, map, Option, Some, None, ◌⊎◌, inl, inr, arith}
 use Rattle.std.specs.Prelude.{◌==◌, ◌%◌, slice_get, slice_index, sum, length}
-use Rattle.std.specs.List.{All, list_any, filter, range_with_len}
+use Rattle.std.specs.List.{All, list_any, range_with_len}
 use Rattle.std.specs.Option.{option_map}
 use Rattle.std.proofs.lemmas.Bool.{eqb-true, or_cases}
+use Rattle.std.proofs.lemmas.List.{length-map}
 use Rattle.std.proofs.lemmas.List.Elements.{All-contains}
 use Rattle.log_node.specs.declared.forms.Version.{Version}
 use Rattle.log_node.specs.declared.limits.TheConstants.{MAX_COLOURS}
@@ -19,16 +20,18 @@ use Rattle.script_text.specs.declared.commands.What.TheVariants as whats
 use Rattle.script_text.specs.declared.script.Kind.{Kind}
 use Rattle.script_text.specs.declared.script.Kind.TheVariants as kinds
 use Rattle.script_text.specs.declared.script.Object.{Object}
-use Rattle.script_text.specs.declared.script.Command.{Command}
 use Rattle.script_text.specs.declared.script.Script.{Script}
 use Rattle.script_text.specs.declared.uses.Use.{Use}
 use Rattle.script_text.specs.declared.uses.Use.TheVariants.{OfLog, OfObject}
 use Rattle.script_text.specs.Apart.{colours_of}
 use Rattle.script_text.specs.Commands.{use_of}
 use Rattle.script_text.specs.Fitting.{IsFitting, IsWithin, IsKindWithin}
+use Rattle.report_text.specs.declared.report.ClientReport.{ClientReport}
+use Rattle.report_text.specs.declared.report.Report.{Report}
 use Rattle.lawful_run.specs.Callers.{Caller, caller_of}
 use Rattle.lawful_run.specs.Asks.{kind_of_object, kind_used, kind_asked, keys_of_pairs, object_colours}
 use Rattle.lawful_run.specs.Deeds.{Reach, NoColours, Named, One, ShardsOf, Whole, Listed, Saying, colours_reached, deed_of, colours_synced, saying_of, says_change, found_by}
+use Rattle.lawful_run.proofs.CallerLemmas.{get_within}
 use Rattle.run_rules.specs.Told.{colours_said, colours_asked}
 
 -- each is below so many
@@ -188,3 +191,14 @@ module _ (script : Script) (fits : IsFitting script) (n : ℕ) where
   appended_within kept what w =
       said_below colours fits.shape.a_colour script.shape.regions (object_colours (kind_asked it what)) (asked_below what)
       (kind_asked it what) (found_by (use_of what) kept) what w
+
+-- the region of a client that a report shows is in the shape
+pub home_within : (script : Script) (report : Report) → IsFitting script
+    → map (λ (c : ClientReport). c.name) report.clients ≡ script.clients → (n : ℕ) (c : ClientReport)
+    → slice_get report.clients n ≡ Some c → (caller_of script n).own < script.shape.regions
+home_within script report fits names n c there =
+    let lt = get_within report.clients n c there in
+    let long : length report.clients ≡ length script.clients =
+    sym (length-map report.clients (λ (x : ClientReport). x.name)) ∙ ap length names in
+    let all = fits.clients in
+    fits.shape.homes n 0 (omega (arith, lt, long, all))

@@ -1,6 +1,6 @@
 -- One told account at which rules 1 to 5 hold decides the rules up to the eighth.
-use Rattle.std.proofs.Common.{◌≡◌, ◌∙◌, refl, ap, sym, subst, Bool, cond, ℕ, zero, suc, ◌+◌, ◌<◌, ◌≤◌, List, [], ◌∷◌, ◌++◌, map, Option, Some, None, ◌⊎◌, inl, inr, arith}
-use Rattle.std.specs.Prelude.{◌==◌, IsTrue, slice_get}
+use Rattle.std.proofs.Common.{◌≡◌, ◌∙◌, refl, ap, sym, subst, Bool, cond, ℕ, zero, suc, ◌+◌, ◌<◌, List, [], ◌∷◌, ◌++◌, map, Option, Some, None, ◌⊎◌, inl, inr, arith}
+use Rattle.std.specs.Prelude.{IsTrue, slice_get}
 use Rattle.std.specs.List.{All, AllZip, Contains}
 use Rattle.std.proofs.lemmas.Bool.{cases_lt, eq-eqb}
 use Rattle.std.proofs.lemmas.List.Elements.{All-nil, All-cons, All-head, All-tail}
@@ -14,7 +14,6 @@ use Rattle.col_core.specs.Keeping.{Kept, updated, with_made, with_row}
 use Rattle.col_core.proofs.CallerLemmas.{In}
 use Rattle.script_text.specs.declared.commands.What.{What}
 use Rattle.script_text.specs.declared.commands.What.TheVariants as whats
-use Rattle.script_text.specs.declared.script.Command.{Command}
 use Rattle.script_text.specs.declared.script.Script.{Script}
 use Rattle.script_text.specs.Fitting.{IsFitting, IsWithin}
 use Rattle.report_text.specs.declared.report.Answer.{Answer}
@@ -32,16 +31,16 @@ use Rattle.run_rules.specs.Answering.{CanHave, HasPoints}
 use Rattle.run_rules.specs.Rules.{HasNode, UsesNode, Rule6, Rule7, StandsAsTold, Stands, StopsAsTold, with_room}
 use Rattle.run_rules.specs.Shown.{is_row, begins_row}
 use Rattle.run_rules.specs.Keeping.{RulesTo, six, seven, eight}
-use Rattle.run_rules.specs.Agreeing.{HasColumn, KeepSame, AreStepsAlike, Agree, began_row}
+use Rattle.run_rules.specs.Agreeing.{HasColumn, KeepSame, AreStepsAlike, Agree}
 use Rattle.run_rules.specs.Laws.{OneAccountDecides}
 use Rattle.run_rules.proofs.Facts.{asked_colours}
 use Rattle.run_rules.proofs.Numbers.{rule1, rule3, rule4, rule5, rule6, rule7, rule8, rules_fewer}
 use Rattle.run_rules.proofs.Places.{behind_same}
-use Rattle.run_rules.proofs.Reached.{appended_within}
+use Rattle.run_rules.proofs.Reached.{appended_within, home_within}
 use Rattle.run_rules.proofs.SameKept.{before_same, stamp_same}
 use Rattle.run_rules.proofs.ToldAlike.{asked_same, points_below}
 use Rattle.run_rules.proofs.LeftOut.{Obeys, steps_of_row}
-use Rattle.run_rules.proofs.OneAccount.{told_accounts_agree, obeys, home, step_with}
+use Rattle.run_rules.proofs.OneAccount.{told_accounts_agree, obeys, step_with}
 use Rattle.run_rules.proofs.NodesAlike.{Uses}
 use Rattle.run_rules.proofs.AppendsAlike.{appends_same, after_same}
 use Rattle.run_rules.proofs.OpenAlike.{eighth}
@@ -157,8 +156,7 @@ module _ (script : Script) (fits : IsFitting script) (n : ℕ) (log other : Log)
             ∙ made_own b.made who.own (λ (k : ℕ). b.made who.own k ++ t.0 k) c)) in
             let after : StopsAfter log (with_room who a) a (node_of who a e.0 e.1) (suc steps) u.places =
             after_same script fits n log other histories home rows fit row_nodes what within a b s e.0 e.0 e.1 e.1 refl below
-            next (suc steps) t.0 u.places named places t.1 in
-            (
+            next (suc steps) t.0 u.places named places t.1 in (
               e.0,
               e.1,
               e.2,
@@ -207,8 +205,7 @@ module _ (script : Script) (fits : IsFitting script) (report : Report) (a b : Ac
 
   its_home : (n : ℕ) (c : ClientReport) → slice_get report.clients n ≡ Some c
       → (caller_of script n).own < script.shape.regions
-  its_home =
-      home script fits report a b ta tb (rule1 ra.0.0.0.0.1) (rule1 rb.0.0.0.0.1) (rule4 ra.0.1) (rule4 rb.0.1)
+  its_home = home_within script report fits (rule1 ra.0.0.0.0.1).names
 
   known : (n : ℕ) (c : ClientReport) → slice_get report.clients n ≡ Some c
       → All (λ (x : Step). Obeys script a.log (caller_of script n) x × Uses a.log (caller_of script n) x) (a.steps n)

@@ -1,6 +1,6 @@
 -- Two clients that keep the same keep the same behind one answer.
-use Rattle.std.proofs.Common.{◌≡◌, ◌∙◌, refl, ap, sym, subst, Bool, true, false, cond, ℕ, zero, suc, ◌+◌, ◌<◌, List, [], ◌∷◌, ◌++◌, map, take, Option, Some, None, inl, inr, arith}
-use Rattle.std.specs.Prelude.{◌==◌, max, slice_get, IsTrue, nat_lt, length}
+use Rattle.std.proofs.Common.{◌≡◌, ◌∙◌, refl, ap, subst, Bool, true, false, cond, ℕ, ◌+◌, ◌<◌, List, [], ◌∷◌, ◌++◌, map, take, Option, Some, None, inl, inr}
+use Rattle.std.specs.Prelude.{◌==◌, max, slice_get, IsTrue}
 use Rattle.std.specs.List.{find}
 use Rattle.std.proofs.lemmas.Bool.{eqb-true}
 use Rattle.log_node.specs.declared.ids.Id.{Id}
@@ -8,7 +8,6 @@ use Rattle.log_node.specs.declared.ids.Counts.{Counts}
 use Rattle.log_node.specs.declared.node.At.{At}
 use Rattle.log_node.specs.declared.node.At.TheVariants.{Event, Look}
 use Rattle.log_node.specs.declared.forms.Version.{Version}
-use Rattle.log_node.specs.declared.marks.Outcome.{Outcome}
 use Rattle.log_node.specs.Order.{same_id}
 use Rattle.log_node.specs.Outcomes.{final_number}
 use Rattle.col_core.specs.declared.Entry.{Entry}
@@ -26,9 +25,6 @@ use Rattle.script_text.specs.declared.uses.ReadUse.TheVariants.{Takes, UsesUp}
 use Rattle.script_text.specs.declared.uses.Use.{Use}
 use Rattle.script_text.specs.declared.uses.Use.TheVariants.{OfObject}
 use Rattle.script_text.specs.Commands.{use_of}
-use Rattle.report_text.specs.declared.report.Answer.{Answer}
-use Rattle.report_text.specs.declared.report.Answer.TheVariants as answers
-use Rattle.report_text.specs.declared.report.KeyAnswer.{KeyAnswer}
 use Rattle.report_text.specs.declared.report.RowReport.{RowReport}
 use Rattle.report_text.specs.declared.report.PointPiece.{PointPiece}
 use Rattle.report_text.specs.declared.report.RaisePiece.{RaisePiece}
@@ -36,12 +32,12 @@ use Rattle.report_text.specs.declared.report.SyncPiece.{SyncPiece}
 use Rattle.lawful_run.specs.Callers.{Caller}
 use Rattle.lawful_run.specs.Columns.{row_report}
 use Rattle.lawful_run.specs.Appends.{kept_after_points}
-use Rattle.lawful_run.specs.Moves.{with_places, kept_after_pull}
+use Rattle.lawful_run.specs.Moves.{with_places}
 use Rattle.lawful_run.specs.Reads.{events_until, greatest_played, kept_after_place, kept_after_piece}
 use Rattle.lawful_run.specs.Refusals.{before_by, behind_by, kept_before, kept_behind}
-use Rattle.run_rules.specs.Told.{Untold, AreKeysFound, is_several, kept_told, kept_after_append, kept_after_row, kept_after_stop, kept_after_raises, kept_after_syncs, kept_after_read, kept_pulled, kept_trimmed, kept_where, with_found, stamp_told, stamp_of, last_of}
-use Rattle.run_rules.specs.Shown.{is_row, begins_row}
-use Rattle.run_rules.specs.Agreeing.{HasColumn, KeepSame, IsPulled, keys_found}
+use Rattle.run_rules.specs.Told.{Untold, kept_after_append, kept_after_row, kept_after_raises, kept_after_syncs, kept_after_read, kept_pulled, kept_trimmed, kept_where, with_found, stamp_told, stamp_of, last_of}
+use Rattle.run_rules.specs.Shown.{is_row}
+use Rattle.run_rules.specs.Agreeing.{HasColumn, KeepSame, keys_found}
 
 -- FUNCTIONS WITH OTHER VALUES
 
@@ -58,7 +54,7 @@ updated_same : {A : Type 0} (f g : ℕ → A) (k : ℕ) (x y : A) (n : ℕ) → 
     → updated f k x n ≡ updated g k y n
 updated_same f g k x y n e s = same_if (n == k) x (f n) y (g n) (λ t. s) e
 
--- no client keeps what is alike in columns that the shape does not have
+-- functions of region and colour with the same values at the columns of the shape
 module _ (script : Script) where
   abbrev Alike : {A : Type 0} → (ℕ → ℕ → A) → (ℕ → ℕ → A) → Type 0
   Alike f g = (r c : ℕ) → HasColumn script r c → f r c ≡ g r c
