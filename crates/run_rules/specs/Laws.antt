@@ -47,7 +47,7 @@ ToldNodesAgree = (script : Script) (report : Report) (a b : Account) → IsFitti
     → IsTold script report a → IsTold script report b
     → RulesTo script report a 5 → RulesTo script report b 5 → AgreeOnNodes report a b
 
--- Any told account at which rules 1 to 5 hold decides whether a report keeps the rules up to one from there to rule 8.
+-- A report keeps the rules up to a number, 8 at most, only where they hold at each told account at which rules 1 to 5 do.
 abbrev pub OneAccountDecides : Type 0
 OneAccountDecides = (script : Script) (report : Report) (account : Account) → IsFitting script
     → IsTold script report account → RulesTo script report account 5 → (n : ℕ) → n ≤ 8
