@@ -1,14 +1,13 @@
 -- Of a lawful run that hides nothing all rules hold.
-use Rattle.std.proofs.Common.{◌≡◌, ◌∙◌, ℕ, ◌<◌, false, List, [], ◌∷◌, ◌++◌, length, map, Option, Some, None, refl, ap, sym, subst, inl, arith}
+use Rattle.std.proofs.Common.{◌≡◌, ◌∙◌, ℕ, ◌<◌, false, List, [], ◌∷◌, ◌++◌, length, map, Option, Some, None, refl, ap, sym, subst, inl}
 use Rattle.std.specs.Prelude.{◌≢◌, slice_get}
 use Rattle.std.specs.List.{All, AllPairs, filter}
-use Rattle.std.proofs.lemmas.List.{length-map, map_push}
+use Rattle.std.proofs.lemmas.List.{map_push}
 use Rattle.std.proofs.lemmas.List.Elements.{All-nil, All-push, All-contains}
 use Rattle.col_core.specs.Log.{Log, places_of}
 use Rattle.col_core.specs.Rows.{BegunRow, FitsRow, is_of}
 use Rattle.col_core.specs.Keeping.{Kept, nothing_kept}
 use Rattle.col_core.proofs.CallerLemmas.{In, contains_in, in_left, in_right}
-use Rattle.lawful_run.proofs.CallerLemmas.{get_within}
 use Rattle.script_text.specs.declared.script.Command.{Command}
 use Rattle.script_text.specs.declared.script.Script.{Script}
 use Rattle.script_text.specs.Commands.{word_of}
@@ -26,6 +25,7 @@ use Rattle.run_rules.specs.Keeping.{HidesNothing, hides}
 use Rattle.run_rules.specs.Laws.{LawfulRunsKeepRules, BrokenIsUnlawful}
 use Rattle.run_rules.proofs.Facts.{Facts}
 use Rattle.run_rules.proofs.Numbers.{AllRules, rules_of, keeps_fewer}
+use Rattle.run_rules.proofs.Reached.{home_within}
 use Rattle.run_rules.proofs.RulesLawful.{shown_replies}
 use Rattle.run_rules.proofs.StepsTold.{step_told}
 
@@ -93,12 +93,7 @@ module _ (script : Script) (fits : IsFitting script) (report : Report) (none : H
 
   home : (n : ℕ) (c : ClientReport) → slice_get report.clients n ≡ Some c
       → (caller_of script n).own < script.shape.regions
-  home n c there =
-      let lt = get_within report.clients n c there in
-      let long : length report.clients ≡ length script.clients =
-      sym (length-map report.clients (λ (x : ClientReport). x.name)) ∙ ap length run.names in
-      let all = fits.clients in
-      fits.shape.homes n 0 (omega (arith, lt, long, all))
+  home = home_within script report fits run.names
 
   -- a client's steps, and what it keeps behind them
   record OfClient (n : ℕ) (c : ClientReport) (steps : List Step) (kept : Kept) : Type 0 where

@@ -1,13 +1,24 @@
+mod AppendsAlike
 mod AppendsTold
 pub mod CallerLemmas
 mod Explaining
 mod Facts
+mod Growing
 mod LawfulRules
+mod LeftOut
 mod Lists
+mod NodesAlike
 mod Numbers
+mod OneAccount
+mod OpenAlike
+mod Places
 mod PlayedStamps
+mod Reached
 mod ReadsTold
 mod ReportsTell
 mod Room
+mod RulesAlike
 mod RulesLawful
+mod SameKept
 mod StepsTold
+mod ToldAlike

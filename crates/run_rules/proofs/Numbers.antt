@@ -104,7 +104,7 @@ module _ {script : Script} {report : Report} {account : Account} where
   )
 
 -- who keeps rules up to a number keeps those up to a lesser one
-rules_fewer : (script : Script) (report : Report) (account : Account) (n m : ℕ) → m ≤ n → RulesTo script report account n
+pub rules_fewer : (script : Script) (report : Report) (account : Account) (n m : ℕ) → m ≤ n → RulesTo script report account n
     → RulesTo script report account m
 rules_fewer script report account zero m le r =
     let e : 0 ≡ m = omega (arith, le) in subst (RulesTo script report account) e r

@@ -5,9 +5,10 @@ use Rattle.script_text.specs.declared.script.Script.{Script}
 use Rattle.script_text.specs.Fitting.{IsFitting}
 use Rattle.report_text.specs.declared.report.Report.{Report}
 use Rattle.lawful_run.specs.Lawful.{LawfulRun}
-use Rattle.run_rules.specs.Told.{IsTold}
+use Rattle.run_rules.specs.Told.{Account, IsTold}
 use Rattle.run_rules.specs.Telling.{IsWellFormed, account_of}
-use Rattle.run_rules.specs.Keeping.{Keeps, IsLeastBroken, HidesNothing, rule_count}
+use Rattle.run_rules.specs.Keeping.{Keeps, RulesTo, IsLeastBroken, HidesNothing, rule_count}
+use Rattle.run_rules.specs.Agreeing.{Agree, AgreeOnNodes}
 
 -- A report of a script that hides nothing keeps all rules where it is that of a lawful run.
 abbrev pub LawfulRunsKeepRules : Type 0
@@ -33,3 +34,21 @@ LeastIsOne = (script : Script) (report : Report) (a b : ℕ)
 abbrev pub ReportsTell : Type 0
 ReportsTell = (script : Script) (report : Report) (nodes : ℕ → List Node) → IsWellFormed script report
     → IsTold script report (account_of script report nodes)
+
+-- Two accounts that a report of a script tells, and at which rules 1 to 4 hold, agree within the script's shape.
+abbrev pub ToldAccountsAgree : Type 0
+ToldAccountsAgree = (script : Script) (report : Report) (a b : Account) → IsFitting script
+    → IsTold script report a → IsTold script report b
+    → RulesTo script report a 4 → RulesTo script report b 4 → Agree script report a b
+
+-- Where rule 5 holds too, their nodes agree.
+abbrev pub ToldNodesAgree : Type 0
+ToldNodesAgree = (script : Script) (report : Report) (a b : Account) → IsFitting script
+    → IsTold script report a → IsTold script report b
+    → RulesTo script report a 5 → RulesTo script report b 5 → AgreeOnNodes report a b
+
+-- A report keeps the rules up to a number, 8 at most, only where they hold at each told account at which rules 1 to 5 do.
+abbrev pub OneAccountDecides : Type 0
+OneAccountDecides = (script : Script) (report : Report) (account : Account) → IsFitting script
+    → IsTold script report account → RulesTo script report account 5 → (n : ℕ) → n ≤ 8
+    → Keeps script report n → RulesTo script report account n

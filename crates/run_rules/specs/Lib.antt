@@ -5,4 +5,5 @@ pub mod Answering
 pub mod Rules
 pub mod Shown
 pub mod Keeping
+pub mod Agreeing
 pub mod Laws

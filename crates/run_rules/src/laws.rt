@@ -1,5 +1,5 @@
 // Laws of the rules. Each function does nothing, and its contract is the law.
-ghost use Rattle.run_rules.specs.Laws.{BrokenIsUnlawful, LawfulRunsKeepRules, LeastIsOne, ReportsTell, RulesMakeLawful};
+ghost use Rattle.run_rules.specs.Laws.{BrokenIsUnlawful, LawfulRunsKeepRules, LeastIsOne, OneAccountDecides, ReportsTell, RulesMakeLawful, ToldAccountsAgree, ToldNodesAgree};
 
 /// A report that hides nothing keeps all rules where it is that of a lawful run.
 pub fn lawful_runs_keep_rules()
@@ -24,4 +24,19 @@ pub fn least_is_one()
 /// A report that is well formed tells an account.
 pub fn reports_tell()
     ensures { ReportsTell }
+{}
+
+/// Two accounts of one report at which the first four rules hold agree.
+pub fn told_accounts_agree()
+    ensures { ToldAccountsAgree }
+{}
+
+/// Their nodes agree where the fifth holds too.
+pub fn told_nodes_agree()
+    ensures { ToldNodesAgree }
+{}
+
+/// One such account decides the rules up to the eighth.
+pub fn one_account_decides()
+    ensures { OneAccountDecides }
 {}

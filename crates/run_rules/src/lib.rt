@@ -3,4 +3,7 @@
 
 mod laws;
 
-pub use laws::{broken_is_unlawful, lawful_runs_keep_rules, least_is_one, rules_make_lawful};
+pub use laws::{
+    broken_is_unlawful, lawful_runs_keep_rules, least_is_one, one_account_decides,
+    rules_make_lawful, told_accounts_agree, told_nodes_agree,
+};
