@@ -27,8 +27,8 @@ pub returns-in-Causal-clause-unfolded : goal.returns-in-Causal-clause-unfolded
 returns-in-Causal-clause-unfolded c = (
   refl,
   λ client regions few within.
-      let e = c.open-map-in-Causal.ensures in
-      let one = one_colour client c.open-map-in-Causal.result.colour c.in-Causal.colour e.of few within in
+      let e = c.open-map.ensures in
+      let one = one_colour client c.open-map.result.colour c.in-Causal.colour e.of few within in
       e.map client one.0 one.1,
 )
 

@@ -1,4 +1,4 @@
-use Rattle.std.proofs.Common.{subst}
+use Rattle.std.proofs.Common.{refl, subst}
 use Rattle.log_client.specs.Objects.{HasColoursOf}
 use Rattle.run_script.proofs.ObjectFrames.{tx_within}
 use Rattle.run_script.proofs.serving.opened.open_tx.Goals as goal
