@@ -77,6 +77,8 @@ pub data Manner : Type 0 where
   Committing : Manner
   -- it appends a node, and then syncs its colour
   Dequeuing : Manner
+  -- it syncs a colour, makes a stamped read, and appends a node by what both told
+  Deciding : Manner
 
 -- a command that appends or makes a stamped read may help the appends of others
 abbrev pub may_help : Manner → Bool
@@ -89,6 +91,20 @@ may_help Getting = false
 may_help Reading = true
 may_help Committing = true
 may_help Dequeuing = true
+may_help Deciding = true
+
+-- a command that is answered by a colour alone where no stamp was left there for its node
+abbrev pub tells_stamp_end : Manner → Bool
+tells_stamp_end Appending = true
+tells_stamp_end Guarding = true
+tells_stamp_end Stopping = false
+tells_stamp_end Syncing = false
+tells_stamp_end Moving = false
+tells_stamp_end Getting = false
+tells_stamp_end Reading = false
+tells_stamp_end Committing = true
+tells_stamp_end Dequeuing = true
+tells_stamp_end Deciding = false
 
 -- the colours for which a test holds, in rising number
 abbrev pub colours_where : (ℕ → Bool) → List ℕ

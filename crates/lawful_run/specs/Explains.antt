@@ -1,5 +1,5 @@
 -- What the reply to a command says of the log, to a client that keeps what its earlier replies told.
-use Rattle.std.specs.Prelude.{◌≡◌, ◌≢◌, ◌⊎◌, ℕ, List, [], ◌∷◌, ◌++◌, length, Option, Some, None}
+use Rattle.std.specs.Prelude.{◌≡◌, ◌≢◌, ◌⊎◌, IsTrue, ℕ, List, [], ◌∷◌, ◌++◌, length, Option, Some, None}
 use Rattle.std.specs.List.{All, AllZip}
 use Rattle.log_node.specs.declared.ids.Colours.{Colours}
 use Rattle.log_node.specs.declared.ids.Key.{Key}
@@ -28,14 +28,15 @@ use Rattle.report_text.specs.declared.report.KeyAnswer.{KeyAnswer}
 use Rattle.report_text.specs.declared.report.PointPiece.{PointPiece}
 use Rattle.report_text.specs.declared.report.ReplyLine.{ReplyLine}
 use Rattle.lawful_run.specs.Callers.{Caller, node_of}
-use Rattle.lawful_run.specs.Asks.{kind_of_object, home_of_object, colours_of_object, home_asked, Appending, Guarding, Stopping, Committing, Dequeuing, Syncing, Getting, Reading}
+use Rattle.lawful_run.specs.Asks.{kind_of_object, home_of_object, colours_of_object, home_asked, tells_stamp_end, Appending, Guarding, Committing, Dequeuing, Deciding, Syncing, Getting, Reading}
 use Rattle.lawful_run.specs.Deeds.{AsksForKey, colours_synced, manner_of}
 use Rattle.lawful_run.specs.Appends.{Appends, AppendsUnshown, HasNoStamp, HasNoRowLeft, IsSoLong, WasNext}
 use Rattle.lawful_run.specs.Shapes.{AppendsBy, TellsBehind, TellsRead}
 use Rattle.lawful_run.specs.Stops.{Stops}
 use Rattle.lawful_run.specs.Reads.{Syncs, ShowsPlayed, greatest_stamp, kept_after_piece, ReadsAt, AreKeysRead, ShowsKey}
 use Rattle.lawful_run.specs.Moves.{Pulls, kept_after_pull, Trims}
-use Rattle.lawful_run.specs.Objects.{GetsValue, GetsValues, AreAnswers, TakesFront, shown_verdict}
+use Rattle.lawful_run.specs.Objects.{GetsValues, AreAnswers, TakesFront, shown_verdict}
+use Rattle.lawful_run.specs.Parts.{AnswersGet, AnswersUndecided, AsksToDecide, Decides, OfNodesPlayed}
 use Rattle.lawful_run.specs.Refusals.{FindsNoMemory, Hides, Refuses, IsAway, IsHomeRefusal, kept_before, kept_behind}
 
 -- the command is no stop before the first step, which is answered before anything is tried
@@ -77,7 +78,7 @@ Explains log caller kept what (answers.Stood stamp row points) nodes after =
     × AppendsBy caller kept what (λ colours text.
     Appends log caller kept (node_of caller kept colours text) stamp row points after)
 Explains log caller kept what (answers.StampEnd colour) nodes after =
-    (nodes ≡ []) × (manner_of what ≢ Stopping)
+    (nodes ≡ []) × IsTrue (tells_stamp_end (manner_of what))
     × AppendsBy caller kept what (λ colours text.
     HasNoStamp log caller kept (node_of caller kept colours text) colour after)
 Explains log caller kept what (answers.Full used) nodes after =
@@ -106,11 +107,8 @@ Explains log caller kept what (answers.Based at base) nodes after =
     (nodes ≡ []) × (colour : ℕ) × (what ≡ whats.Trim colour) × (place : ℕ) × (at ≡ Event place)
     × Trims log caller kept colour place base × (after ≡ kept_after_event kept caller.own colour place)
 Explains log caller kept what (answers.Got value sync) nodes after =
-    (nodes ≡ []) × (object : ℕ) × (key : List ℕ) × AsksForKey what object key
-    × (home : ℕ) × (colours : List ℕ) × (kind_of_object caller object ≡ Some (kinds.Map home colours))
-    × (colours_synced caller what ≡ sync.colour ∷ [])
+    (nodes ≡ []) × OfNodesPlayed log caller sync (AnswersGet caller what sync value)
     × Syncs log caller kept sync.colour sync.events sync.counts
-    × GetsValue log caller colours sync key value
     × (after ≡ kept_after_piece log caller kept sync)
 Explains log caller kept what (answers.GotMany values sync) nodes after =
     (nodes ≡ []) × (object : ℕ) × (key : List ℕ) × AsksForKey what object key
@@ -119,14 +117,22 @@ Explains log caller kept what (answers.GotMany values sync) nodes after =
     × GetsValues log caller sync key values
     × (after ≡ kept_after_piece log caller kept sync)
 Explains log caller kept what (answers.GotKeys stamp shown raises syncs) nodes after =
-    (nodes ≡ []) × (read : Kept) × TellsRead log caller kept what stamp raises syncs (AnswersKeys caller what shown read after) read
+    (nodes ≡ []) × (read : Kept) × TellsRead log caller kept (colours_synced caller what) stamp raises syncs
+    (AnswersKeys caller what shown read after) read
 Explains log caller kept what (answers.Ruled conflict stamp row points read_stamp raises syncs) nodes after =
     (nodes ≡ []) × TellsBehind log caller kept what row points read_stamp raises syncs (ShowsVerdict conflict stamp) after
 Explains log caller kept what (answers.Changed failed stamp row points read_stamp raises syncs) nodes after =
     (nodes ≡ []) × TellsBehind log caller kept what row points read_stamp raises syncs (ShowsChange failed stamp) after
 Explains log caller kept what (answers.Listed names stamp raises syncs) nodes after =
     (nodes ≡ []) × (object : ℕ) × (path : List ℕ) × (what ≡ whats.Ls object path)
-    × TellsRead log caller kept what stamp raises syncs (ShowsNames path names) after
+    × TellsRead log caller kept (colours_synced caller what) stamp raises syncs (ShowsNames path names) after
+Explains log caller kept what (answers.Undecided stamp sync) nodes after =
+    (nodes ≡ []) × OfNodesPlayed log caller sync (AnswersUndecided caller what sync stamp)
+    × Syncs log caller kept sync.colour sync.events sync.counts
+    × (after ≡ kept_after_piece log caller kept sync)
+Explains log caller kept what (answers.Decided commits stamp sync read_stamp raises syncs ended) nodes after =
+    (nodes ≡ []) × (colours : List ℕ) × AsksToDecide caller what sync colours
+    × Decides log caller kept what colours commits stamp sync read_stamp raises syncs ended after
 Explains log caller kept what (answers.Moved lined waiting colour events) nodes after =
     (nodes ≡ []) × (text : List ℕ) × (what ≡ whats.Only colour text)
     × IsSoLong log caller kept colour events lined waiting
@@ -153,7 +159,8 @@ Explains log caller kept what (answers.UnreadNoMemory stamp) nodes after =
     × AppendsUnshown log caller kept (node_of caller kept colours text) stamp stood
     × Hides log caller stood (colours_synced caller what) (manner_of what) after)
 Explains log caller kept what (answers.Trimmed colour base) nodes after =
-    (nodes ≡ []) × ((manner_of what ≡ Syncing) ⊎ ((manner_of what ≡ Getting) ⊎ (manner_of what ≡ Reading)))
+    (nodes ≡ []) × ((manner_of what ≡ Syncing) ⊎ ((manner_of what ≡ Getting)
+    ⊎ ((manner_of what ≡ Reading) ⊎ (manner_of what ≡ Deciding))))
     × Refuses log caller kept (colours_synced caller what) (manner_of what) colour base after
 Explains log caller kept what (answers.NotHome home) nodes after =
     (nodes ≡ []) × (after ≡ kept) × (home_asked caller what ≡ Some home) × (caller.own ≢ home)

@@ -7,6 +7,7 @@ pub mod Reads
 pub mod Moves
 pub mod Objects
 pub mod Shapes
+pub mod Parts
 pub mod Refusals
 pub mod Explains
 pub mod Columns

@@ -1,6 +1,6 @@
 -- What a reader takes of stamped reads and of the objects' answers: each is what its definition makes of nodes that
 -- stand in the closing lines.
-use Rattle.std.specs.Prelude.{◌≡◌, ◌≢◌, ◌⊎◌, ℕ, List, take, map, Option, Some, slice_get}
+use Rattle.std.specs.Prelude.{◌≡◌, ◌≢◌, ◌⊎◌, Bool, ℕ, List, take, map, Option, Some, slice_get}
 use Rattle.std.specs.List.{All, AllZip, Contains}
 use Rattle.log_node.specs.declared.ids.Id.{Id}
 use Rattle.log_node.specs.declared.ids.Key.{Key}
@@ -10,10 +10,11 @@ use Rattle.log_node.specs.Vectors.{at}
 use Rattle.object_form.specs.declared.tree_why.TreeWhy.{TreeWhy}
 use Rattle.object_fold.specs.Folds.{told_of}
 use Rattle.object_fold.specs.Nodes.{ObjectNode}
-use Rattle.object_fold.specs.Maps.{Value, shard_value, values_among}
+use Rattle.object_fold.specs.Maps.{Value, values_among}
 use Rattle.object_fold.specs.Queues.{front_after}
 use Rattle.object_fold.specs.Causal.{ChainNode, IsCausalAnswer}
 use Rattle.object_fold.specs.Transactions.{values_after, verdict_of}
+use Rattle.part_fold.specs.Decisions.{decision_text}
 use Rattle.tree_fold.specs.Paths.{Path}
 use Rattle.tree_fold.specs.Readings.{path_of}
 use Rattle.tree_fold.specs.Trees.{tree_after, telling, told_under, IsNamesAnswer}
@@ -27,6 +28,7 @@ use Rattle.script_text.specs.declared.script.Command.{Command}
 use Rattle.script_text.specs.declared.script.Script.{Script}
 use Rattle.script_text.specs.Fitting.{IsFitting}
 use Rattle.report_text.specs.declared.report.Answer.TheVariants as answers
+use Rattle.report_text.specs.declared.report.Ended.{Ended}
 use Rattle.report_text.specs.declared.report.KeyAnswer.{KeyAnswer}
 use Rattle.report_text.specs.declared.report.PointPiece.{PointPiece}
 use Rattle.report_text.specs.declared.report.RaisePiece.{RaisePiece}
@@ -38,6 +40,7 @@ use Rattle.lawful_run.specs.Callers.{caller_of, commands_of}
 use Rattle.lawful_run.specs.Asks.{kind_of_object, colours_of_object}
 use Rattle.lawful_run.specs.Deeds.{AsksForKey}
 use Rattle.lawful_run.specs.Objects.{AreAnswers, places_within, shown_verdict}
+use Rattle.lawful_run.specs.Parts.{AnswersGet, AnswersUndecided, AsksToDecide, IsRuledAs, OfPart, WaitsFor}
 use Rattle.lawful_run.specs.Lawful.{LawfulRun}
 use Rattle.lawful_run.specs.Readings.{HasReply, IsAppend, StandsAtEnd, StandsAtPoints, Nowhere, told}
 
@@ -81,17 +84,49 @@ ScansAreWhole =
     → (lines : List (List Key)) → AreClosing report (caller_of script client).own syncs lines
     → IsRegionOrder lines stamp (map (λ (item : PlacedNode). item.head.key) reply.nodes)
 
--- A get of a map answers the key's value after the first nodes of the closing line, as many as its sync counts.
+-- A get of a map, a peek, and a decide that finds nothing to decide are answered by the first nodes of the closing line, as
+-- many as the sync counts.
 abbrev pub GetsAreFolds : Type 0
 GetsAreFolds =
     (script : Script) (report : Report) → IsFitting script → (run : LawfulRun script report)
     → (client n : ℕ) (reply : ReplyLine) → HasReply report client n reply
     → (value : Value) (sync : SyncPiece) → reply.answer ≡ answers.Got value sync
     → (line : List Key) → IsClosing report (caller_of script client).own sync.colour line
-    → (what : What) × Commands script client n what × (object : ℕ) × (key : List ℕ) × AsksForKey what object key
-    × (home : ℕ) × (colours : List ℕ) × (kind_of_object (caller_of script client) object ≡ Some (kinds.Map home colours))
+    → (what : What) × Commands script client n what
     × (nodes : List ObjectNode) × AreNodesOf run (take (at sync.counts (caller_of script client).own) line) nodes
-    × (value ≡ shard_value colours sync.colour nodes key)
+    × AnswersGet (caller_of script client) what sync value nodes
+
+-- So is a peek that finds no value yet.
+abbrev pub UndecidedAreFolds : Type 0
+UndecidedAreFolds =
+    (script : Script) (report : Report) → IsFitting script → (run : LawfulRun script report)
+    → (client n : ℕ) (reply : ReplyLine) → HasReply report client n reply
+    → (stamp : ℕ) (sync : SyncPiece) → reply.answer ≡ answers.Undecided stamp sync
+    → (line : List Key) → IsClosing report (caller_of script client).own sync.colour line
+    → (what : What) × Commands script client n what
+    × (nodes : List ObjectNode) × AreNodesOf run (take (at sync.counts (caller_of script client).own) line) nodes
+    × AnswersUndecided (caller_of script client) what sync stamp nodes
+
+-- A decision is on the first transaction for which the part waits after the first nodes of its closing line, as many as the
+-- sync counts; what it says is the verdict after all nodes up to its read's stamp that the closing lines of its colours have;
+-- and where its node stands that has the decision's text.
+abbrev pub DecisionsAreFolds : Type 0
+DecisionsAreFolds =
+    (script : Script) (report : Report) → IsFitting script → (run : LawfulRun script report)
+    → (client n : ℕ) (reply : ReplyLine) → HasReply report client n reply
+    → (commits : Bool) (stamp : ℕ) (sync : SyncPiece) (read_stamp : ℕ) (raises : List RaisePiece) (syncs : List SyncPiece)
+    → (ended : Ended) → reply.answer ≡ answers.Decided commits stamp sync read_stamp raises syncs ended
+    → (line : List Key) → IsClosing report (caller_of script client).own sync.colour line
+    → (lines : List (List Key)) → AreClosing report (caller_of script client).own syncs lines
+    → (what : What) × Commands script client n what
+    × (colours : List ℕ) × AsksToDecide (caller_of script client) what sync colours
+    × (waits : Key) × (stamp ≡ waits.stamp)
+    × (played : List ObjectNode) × AreNodesOf run (take (at sync.counts (caller_of script client).own) line) played
+    × OfPart colours sync.colour (WaitsFor (Some waits)) played
+    × (keys : List Key) × IsRegionOrder lines read_stamp keys × (nodes : List ObjectNode) × AreNodesOf run keys nodes
+    × IsRuledAs waits commits nodes
+    × (told (answers.Decided commits stamp sync read_stamp raises syncs ended) ≢ Nowhere
+    → (id : Id) × (own : Colours) × IsAppend run client n reply id own (decision_text (record { key = waits; commits = commits })))
 
 -- the node of a chain as its command appended it, where its region's closing line of the colour has it
 pub record IsChainNodeOf {script : Script} {report : Report} (run : LawfulRun script report) (colour : ℕ)

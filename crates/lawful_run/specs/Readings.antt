@@ -15,6 +15,8 @@ use Rattle.script_text.specs.declared.script.Script.{Script}
 use Rattle.script_text.specs.Fitting.{IsFitting}
 use Rattle.report_text.specs.declared.report.Answer.{Answer}
 use Rattle.report_text.specs.declared.report.Answer.TheVariants as answers
+use Rattle.report_text.specs.declared.report.Ended.{Ended}
+use Rattle.report_text.specs.declared.report.Ended.TheVariants as ends
 use Rattle.report_text.specs.declared.report.PointPiece.{PointPiece}
 use Rattle.report_text.specs.declared.report.SyncPiece.{SyncPiece}
 use Rattle.report_text.specs.declared.report.ReplyLine.{ReplyLine}
@@ -71,6 +73,12 @@ pub data NodeTold : Type 0 where
   -- others may complete it
   Perhaps : NodeTold
 
+-- what the end of a decision's append tells of its node
+abbrev pub told_end : Ended → NodeTold
+told_end (ends.Stood stamp point) = UnderAt stamp (point ∷ [])
+told_end (ends.StampEnd colour) = Nowhere
+told_end ends.NoMemory = Nowhere
+
 -- what each answer tells of its command's node
 abbrev pub told : Answer → NodeTold
 told (answers.Stood stamp row points) = UnderAt stamp points
@@ -79,6 +87,7 @@ told (answers.Changed failed stamp row points read_stamp raises syncs) = StoodAt
 told (answers.Took value point sync) = StoodAt (point ∷ [])
 told (answers.UnreadTrimmed stamp colour base) = Under stamp
 told (answers.UnreadNoMemory stamp) = Under stamp
+told (answers.Decided commits stamp sync read_stamp raises syncs ended) = told_end ended
 told (answers.Stopped zero) = Nowhere
 told (answers.Stopped (suc steps)) = Perhaps
 told answers.NoMemory = Nowhere
@@ -93,6 +102,7 @@ told (answers.Got value sync) = Nowhere
 told (answers.GotMany values sync) = Nowhere
 told (answers.GotKeys stamp keys raises syncs) = Nowhere
 told (answers.Listed names stamp raises syncs) = Nowhere
+told (answers.Undecided stamp sync) = Nowhere
 told (answers.Moved lined waiting colour events) = Nowhere
 told answers.NoTx = Nowhere
 told (answers.Trimmed colour base) = Nowhere

@@ -1,5 +1,5 @@
 -- What a command that found no memory may have done, and when an object's home refuses.
-use Rattle.std.specs.Prelude.{◌≡◌, ◌≢◌, ◌⊎◌, ℕ, List, Option, Some, None}
+use Rattle.std.specs.Prelude.{◌≡◌, ◌≢◌, ◌⊎◌, ℕ, List, [], ◌∷◌, Option, Some, None}
 use Rattle.std.specs.List.{Contains}
 use Rattle.log_node.specs.declared.ids.Colours.{Colours}
 use Rattle.log_node.specs.declared.ids.Counts.{Counts}
@@ -14,11 +14,27 @@ use Rattle.script_text.specs.Commands.{use_of}
 use Rattle.report_text.specs.declared.report.Answer.{Answer}
 use Rattle.report_text.specs.declared.report.Answer.TheVariants as answers
 use Rattle.lawful_run.specs.Callers.{Caller, node_of}
-use Rattle.lawful_run.specs.Asks.{Manner, Appending, Guarding, Stopping, Syncing, Moving, Getting, Reading, Committing, Dequeuing}
+use Rattle.lawful_run.specs.Asks.{Manner, Appending, Guarding, Stopping, Syncing, Moving, Getting, Reading, Committing, Dequeuing, Deciding}
 use Rattle.lawful_run.specs.Deeds.{AsksToAppend, colours_synced, manner_of}
 use Rattle.lawful_run.specs.Appends.{IsGoneForMemory}
 use Rattle.lawful_run.specs.Reads.{HidesSyncs, HidesRead, IsTrimmed, RefusesRead}
 use Rattle.lawful_run.specs.Moves.{OnlyGives, kept_after_giving}
+
+-- What a decide may have done that its answer does not show, by the colours that it syncs: it played the first, and then
+-- perhaps made a stamped read of the others.
+abbrev pub HidesDecide : Log → Caller → Kept → List ℕ → Kept → Type 0
+HidesDecide log caller kept [] after = ⊥
+HidesDecide log caller kept (first ∷ all) after =
+    (played : Kept) × HidesSyncs log caller kept (first ∷ []) played
+    × ((after ≡ played) ⊎ HidesRead log caller played all after)
+
+-- How a decide was refused in this colour: in its first sync, or behind that in the stamped read.
+abbrev pub RefusesDecide : Log → Caller → Kept → List ℕ → ℕ → Counts → Kept → Type 0
+RefusesDecide log caller kept [] colour base after = ⊥
+RefusesDecide log caller kept (first ∷ all) colour base after =
+    ((colour ≡ first) × IsTrimmed log caller kept colour base × (after ≡ kept))
+    ⊎ ((played : Kept) × HidesSyncs log caller kept (first ∷ []) played
+    × RefusesRead log caller played all colour base after)
 
 -- What a command of this manner may have done in its syncs of these colours that its answer does not show, as where it
 -- found no memory; and what its client then keeps.
@@ -32,6 +48,7 @@ Hides log caller kept colours Getting after = HidesSyncs log caller kept colours
 Hides log caller kept colours Reading after = HidesRead log caller kept colours after
 Hides log caller kept colours Committing after = HidesRead log caller kept colours after
 Hides log caller kept colours Dequeuing after = HidesSyncs log caller kept colours after
+Hides log caller kept colours Deciding after = HidesDecide log caller kept colours after
 
 -- What a command of this manner did that was refused in this one of the colours that it syncs, since nodes that its client
 -- lacks are trimmed there, as the base shows; and what its client then keeps. Only a command that syncs is refused so.
@@ -48,6 +65,7 @@ Refuses log caller kept colours Reading colour base after = RefusesRead log call
 Refuses log caller kept colours Committing colour base after = RefusesRead log caller kept colours colour base after
 Refuses log caller kept colours Dequeuing colour base after =
     Contains colours colour × IsTrimmed log caller kept colour base × HidesSyncs log caller kept colours after
+Refuses log caller kept colours Deciding colour base after = RefusesDecide log caller kept colours colour base after
 
 -- What a command may have done that was answered with want of memory, and what its client then keeps.
 pub data FindsNoMemory (log : Log) (caller : Caller) (kept : Kept) (what : What) : Kept → Type 0 where

@@ -22,11 +22,11 @@ abbrev pub AppendsBy : Caller → Kept → What → (Colours → List ℕ → Ty
 AppendsBy caller kept what Says =
     (colours : Colours) × (text : List ℕ) × AsksToAppend caller kept what colours text × Says colours text
 
--- A stamped read of the command's colours was made, and this is so of the nodes read.
-abbrev pub TellsRead : Log → Caller → Kept → What → ℕ → List RaisePiece → List SyncPiece → (List ObjectNode → Type 0) → Kept
+-- A stamped read of these colours was made, and this is so of the nodes read.
+abbrev pub TellsRead : Log → Caller → Kept → List ℕ → ℕ → List RaisePiece → List SyncPiece → (List ObjectNode → Type 0) → Kept
     → Type 0
-TellsRead log caller kept what stamp raises syncs Says after =
-    ReadsAt log caller kept (colours_synced caller what) stamp raises syncs after
+TellsRead log caller kept colours stamp raises syncs Says after =
+    ReadsAt log caller kept colours stamp raises syncs after
     × (keys : List Key) × AreKeysRead log caller stamp syncs keys
     × (nodes : List ObjectNode) × AreObjectNodes log keys nodes × Says nodes
 
@@ -38,5 +38,5 @@ TellsBehind log caller kept what row points read_stamp raises syncs Says after =
     (manner_of what ≡ Committing)
     × AppendsBy caller kept what (λ colours text. (own : ℕ) × (stood : Kept)
     × Appends log caller kept (node_of caller kept colours text) own row points stood
-    × TellsRead log caller stood what read_stamp raises syncs
+    × TellsRead log caller stood (colours_synced caller what) read_stamp raises syncs
     (Says (entry_key own (node_of caller kept colours text).id)) after)

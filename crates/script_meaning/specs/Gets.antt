@@ -22,6 +22,7 @@ use Rattle.script_meaning.specs.States.{State, Grants, answered}
 use Rattle.script_meaning.specs.Objects.{caller_in}
 use Rattle.script_meaning.specs.Dequeues.{object_node_at, first_nodes, sync_now, base_now}
 use Rattle.script_meaning.specs.CausalGets.{got_values}
+use Rattle.script_meaning.specs.Parts.{peeked}
 use Rattle.script_meaning.specs.Stamped.{ended_by, stamped_read}
 
 -- a key's value after the own nodes that a client plays now; the map has these colours
@@ -41,10 +42,11 @@ got_value state command colours key =
     (answers.Got (value_now w client colours colour key) (sync_now w client colour)) []
     else answered state command w (answers.Trimmed colour (base_now w client colour)) []
 
--- a get, by the kind of its object
+-- a get or a peek, by the kind of its object
 abbrev pub got : Grants → State → Command → Option Kind → List ℕ → State
 got grants state command (Some (kinds.Map home colours)) key = got_value state command colours key
 got grants state command (Some (kinds.Causal colour)) key = got_values state command colour key
+got grants state command (Some (kinds.Parts home colours)) key = peeked state command colours key
 got grants state command _ key = state
 
 -- keys with their values

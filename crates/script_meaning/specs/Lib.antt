@@ -6,6 +6,7 @@ pub mod Stamped
 pub mod Objects
 pub mod Dequeues
 pub mod CausalGets
+pub mod Parts
 pub mod Gets
 pub mod Telling
 pub mod Transactions

@@ -1,5 +1,5 @@
 -- What it means to do a script's commands in the order of the file, over the world of core steps.
-use Rattle.std.specs.Prelude.{◌≡◌, ◌≢◌, ℕ, List, [], ◌∷◌, ◌++◌, map, Option, Some, None, unwrap_or, slice_get, if◌then◌else◌}
+use Rattle.std.specs.Prelude.{◌≡◌, ◌≢◌, Bool, ℕ, List, [], ◌∷◌, ◌++◌, map, Option, Some, None, unwrap_or, slice_get, if◌then◌else◌}
 use Rattle.std.specs.List.{All, fold, flat_map, range_with_len, enumerate_from}
 use Rattle.log_node.specs.Sets.{members}
 use Rattle.log_node.specs.declared.marks.Why.TheVariants.{Memory}
@@ -17,6 +17,9 @@ use Rattle.script_text.specs.declared.script.Command.{Command}
 use Rattle.script_text.specs.declared.script.Script.{Script}
 use Rattle.report_text.specs.declared.report.Answer.{Answer}
 use Rattle.report_text.specs.declared.report.Answer.TheVariants as answers
+use Rattle.report_text.specs.declared.report.Ended.TheVariants as ends
+use Rattle.report_text.specs.declared.report.RaisePiece.{RaisePiece}
+use Rattle.report_text.specs.declared.report.SyncPiece.{SyncPiece}
 use Rattle.report_text.specs.declared.report.ReplyLine.{ReplyLine}
 use Rattle.report_text.specs.declared.report.ClientReport.{ClientReport}
 use Rattle.report_text.specs.declared.report.RowReport.{RowReport}
@@ -32,6 +35,7 @@ use Rattle.script_meaning.specs.Dequeues.{dequeued}
 use Rattle.script_meaning.specs.Gets.{got, got_keys}
 use Rattle.script_meaning.specs.Transactions.{read_in, committed}
 use Rattle.script_meaning.specs.Guards.{appended_next}
+use Rattle.script_meaning.specs.Parts.{decided}
 use Rattle.script_meaning.specs.Trees.{changed, names_listed}
 
 -- The state after a command that was granted memory before it did anything. The last row is that of all commands which append
@@ -57,6 +61,8 @@ done_one objects grants state command (whats.Rm object path) =
 done_one objects grants state command (whats.Mv object source target) =
     changed objects grants state command object (move_of (below_root_of source) (below_root_of target))
 done_one objects grants state command (whats.Ls object path) = names_listed objects grants state command object path
+done_one objects grants state command (whats.Peek object key) = got grants state command (kind_in objects object) key
+done_one objects grants state command (whats.Decide object key) = decided objects grants state command object key
 done_one objects grants state command what = appended_said objects grants state command what
 
 -- the same, unless the home of the command's object refuses it
@@ -122,6 +128,8 @@ pub record IsStepReport (script : Script) (report : Report) : Type 0 where
 pub record TellsNoWant (answer : Answer) : Type 0 where
   pub refused : answer ≢ answers.NoMemory
   pub unread : (stamp : ℕ) → answer ≢ answers.UnreadNoMemory stamp
+  pub decided : (commits : Bool) (stamp : ℕ) (sync : SyncPiece) (read_stamp : ℕ) (raises : List RaisePiece)
+      (syncs : List SyncPiece) → answer ≢ answers.Decided commits stamp sync read_stamp raises syncs ends.NoMemory
 
 -- no reply and no mark tells of want of memory
 pub record FindsMemory (report : Report) : Type 0 where

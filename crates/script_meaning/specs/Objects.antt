@@ -8,7 +8,7 @@ use Rattle.script_text.specs.declared.script.Command.{Command}
 use Rattle.script_text.specs.declared.commands.What.{What}
 use Rattle.lawful_run.specs.Callers.{Caller}
 use Rattle.lawful_run.specs.Asks.{home_asked, kind_asked, object_colours, shards}
-use Rattle.lawful_run.specs.Deeds.{Reach, NoColours, Named, ShardsOf, Saying, colours_reached, saying_of}
+use Rattle.lawful_run.specs.Deeds.{Reach, NoColours, Named, ShardsOf, Saying, TextSaid, Exactly, ADecision, colours_reached, saying_of}
 use Rattle.script_meaning.specs.States.{State, Grants}
 use Rattle.script_meaning.specs.Appends.{appended}
 
@@ -41,9 +41,14 @@ set_reached own (Named colours) = colours
 set_reached own (ShardsOf keys) = shard_set own keys
 set_reached own reach = set_of (colours_reached own reach)
 
+-- the text that is said, where the command alone says it
+abbrev pub exact_text : TextSaid → List ℕ
+exact_text (Exactly text) = text
+exact_text ADecision = []
+
 -- the node that a command says which uses up no read; one of no colours where it says none
 abbrev pub node_said : Caller → What → Saying
-node_said caller what = unwrap_or (saying_of (kind_asked caller what) None what) (record { reach = NoColours; text = [] })
+node_said caller what = unwrap_or (saying_of (kind_asked caller what) None what) (record { reach = NoColours; text = Exactly [] })
 
 -- the set of its colours
 abbrev pub set_said : Caller → What → Colours
@@ -54,4 +59,4 @@ abbrev pub appended_said : List Object → Grants → State → Command → What
 appended_said objects grants state command what =
     let caller = caller_in state.world objects command.client in
     let set = set_said caller what in
-    appended grants state command set (node_said caller what).text (members set)
+    appended grants state command set (exact_text (node_said caller what).text) (members set)

@@ -49,7 +49,7 @@ opening script = record { world = opened script.shape; replies = λ _. []; reads
 -- Which requests for memory are granted to a command: before it does anything, for the proposal of its own node in each
 -- colour, for each of its helps, counted from 0, in each colour, for what a pull carries, for what an object's answer
 -- folds, for the raise of a stamped read in each colour, for the helps of a read that follows an append of the same
--- command, counted from 0 too, and for what is made of the nodes that a read has.
+-- command, counted from 0 too, for what is made of the nodes that a read has, and for the node that a decide appends.
 pub record Grants : Type 0 where
   pub start : Bool
   pub marks : ℕ → Bool
@@ -59,6 +59,7 @@ pub record Grants : Type 0 where
   pub raises : ℕ → Bool
   pub read_helps : ℕ → ℕ → Bool
   pub items : Bool
+  pub own : Bool
 
 -- memory is granted everywhere
 abbrev pub all_granted : Grants
@@ -71,6 +72,7 @@ all_granted = record {
   raises = λ _. true;
   read_helps = λ _ _. true;
   items = true;
+  own = true;
 }
 
 -- the reads that a client is left with by a command: a read and a commit let that of their object go
