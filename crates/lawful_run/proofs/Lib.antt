@@ -11,6 +11,7 @@ mod Entered
 mod Replies
 mod Traces
 mod Uses
+mod Decisions
 mod LettingGo
 mod Used
 mod Origins
