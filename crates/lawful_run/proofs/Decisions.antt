@@ -1,10 +1,9 @@
 -- What a decide does before its node is appended: it uses no id, and what it asks to append does not rest on what it keeps.
-use Rattle.std.proofs.Common.{◌≡◌, ℕ, List, refl, sym, subst}
+use Rattle.std.proofs.Common.{ℕ, List, refl, sym, subst}
 use Rattle.log_node.specs.declared.ids.Colours.{Colours}
 use Rattle.col_core.specs.Log.{Log}
 use Rattle.col_core.specs.Keeping.{Kept}
 use Rattle.script_text.specs.declared.commands.What.{What}
-use Rattle.script_text.specs.declared.commands.What.TheVariants as whats
 use Rattle.report_text.specs.declared.report.RaisePiece.{RaisePiece}
 use Rattle.report_text.specs.declared.report.SyncPiece.{SyncPiece}
 use Rattle.lawful_run.specs.Callers.{Caller}
