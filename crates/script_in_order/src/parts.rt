@@ -21,6 +21,7 @@ ghost use Rattle.script_in_order.specs.Stamped.{ReadsStamped, end_in};
 use crate::appends::append_one;
 use crate::folds::{Fold, Folds};
 use crate::lines_fold::{LinesFold, LinesRead};
+use crate::object_appends::all_colours;
 use crate::stamped::{Stamped, stamped_read};
 use crate::syncs::trimmed_base;
 use crate::tx_folds::TxFolds;
@@ -118,7 +119,13 @@ fn decision(
     ruled.fold_to(alloc, world, read)?;
     // The transaction is among those that were read, so there is an outcome.
     let commits = ruled.kept.state.outcome(waits).unwrap_or(false);
-    let text = write_decision(alloc, &Decision { key: waits, commits })?;
+    let text = write_decision(
+        alloc,
+        &Decision {
+            key: waits,
+            commits,
+        },
+    )?;
     Ok((commits, text))
 }
 
@@ -135,11 +142,13 @@ fn append_decision(
     ensures { EndsDecision command.now colour text.now (world_of world.old) (world_of world.new) result }
 {
     match append_one(alloc, command, colour, text, world) {
-        Ok(Answer::Stood {
-            stamp,
-            row: _row,
-            points,
-        }) => Ended::Stood {
+        Ok(
+            Answer::Stood {
+                stamp,
+                row: _row,
+                points,
+            },
+        ) => Ended::Stood {
             stamp,
             point: points.as_slice()[0],
         },
@@ -260,15 +269,7 @@ fn decide_in(
     let _played = world.play(command.client, colour);
     match waits {
         None => Ok(Answer::Got { value: None, sync }),
-        Some(waits) => Ok(decide_on(
-            alloc,
-            command,
-            all,
-            waits,
-            sync,
-            world,
-            &mut fold.ruled,
-        )),
+        Some(waits) => Ok(decide_on(alloc, command, all, waits, sync, world, &mut fold.ruled)),
     }
 }
 
@@ -295,18 +296,17 @@ pub fn decide(
     ensures folded { AreFolded (world_of world.new) objects.now folds.new }
 {
     world.is_whole();
+    let kind = &objects[object as usize].kind;
+    let all = all_colours(kind);
     let Kind::Parts {
         home: _home,
         colours,
-    } = &objects[object as usize].kind
+    } = kind
     else {
         unreachable!()
     };
     match &mut folds.of[object as usize] {
-        Fold::Tx(fold) => {
-            let all = Colours::of(colours.as_slice());
-            decide_in(alloc, command, colours, all, key, world, fold)
-        }
+        Fold::Tx(fold) => decide_in(alloc, command, colours, all, key, world, fold),
         _ => unreachable!(),
     }
 }

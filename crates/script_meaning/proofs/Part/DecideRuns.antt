@@ -164,11 +164,11 @@ module _ (script : Script) (commands : List Command) (state : State) (command : 
 
   -- a node that it has not played is trimmed
   refused : may_play w u c ≡ false → Goal (answered state command w (answers.Trimmed c (base_now w u c)) [])
-  refused no = done w (answers.Trimmed c (base_now w u c)) (leads_nowhere S u what w runs.finished) (λ kept k. (
+  refused none = done w (answers.Trimmed c (base_now w u c)) (leads_nowhere S u what w runs.finished) (λ kept k. (
     kept,
     k,
     explains_decide_refused (log_of w) caller kept object key c (base_now w u c) kept
-        (inl (refl, is_trimmed script.objects w runs.reached u c few client_ok (column_ok c low) kept k no, refl)),
+        (inl (refl, is_trimmed script.objects w runs.reached u c few client_ok (column_ok c low) kept k none, refl)),
   ))
 
   module _ (ok : may_play w u c ≡ true) where
