@@ -57,9 +57,13 @@ pub struct Folds {
 
 impl Model for Folds {
     ghost use Rattle.std.specs.Prelude.{List};
+    ghost use Rattle.std.specs.Coded.{coded_list};
+    ghost use Rattle.script_in_order.specs.contracts.folds.Fold as fold;
     ghost use Rattle.script_in_order.specs.declared.folds.Fold.{Fold};
 
     ghost Value = { List Fold };
+
+    ghost coded = { coded_list fold.the_row.coded };
 
     ghost view = { λ a. a.of.items };
 }

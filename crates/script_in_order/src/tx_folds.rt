@@ -1,5 +1,5 @@
 // Transactional maps: what of one is folded, and what the parts of one tell that is played by them.
-ghost use Rattle.std.specs.Prelude.{◌≡◌, ◌<◌, ◌%◌, [], ℕ, List, IfOk, length, sum};
+ghost use Rattle.std.specs.Prelude.{◌≡◌, ◌<◌, ◌^◌, ℕ, List, IfOk, length};
 ghost use Rattle.object_fold.specs.Nodes.{ObjectNode, shard_of};
 ghost use Rattle.part_fold.specs.Parts.{place_of, part_value, undecided_after};
 ghost use Rattle.part_fold.specs.PartStates.{IsPart};
