@@ -1,0 +1,425 @@
+-- Peeks and decides, by what their calls did.
+use Rattle.std.proofs.Common.{◌≡◌, ◌≢◌, ◌⊎◌, inl, inr, ℕ, ◌+◌, ◌<◌, zero, suc, Bool, true, false, cond, List, [], ◌∷◌, length, map, get_or, Option, Some, None, refl, ap, sym, subst, ◌∙◌, arith}
+use Rattle.std.specs.Prelude.{IsTrue, slice_get, slice_index, if◌then◌else◌}
+use Rattle.std.specs.List.{AllPairs}
+use Rattle.std.specs.Vec.{with_item}
+use Rattle.std.proofs.lemmas.Bool.{cases_Bool}
+use Rattle.log_node.specs.declared.ids.Counts.{Counts}
+use Rattle.log_node.specs.declared.ids.Key.{Key}
+use Rattle.log_node.specs.Order.{key_below, same_key}
+use Rattle.log_node.specs.Vectors.{at}
+use Rattle.log_node.proofs.CallerLemmas.{key-irrefl, same_key-is}
+use Rattle.object_fold.specs.declared.kept_line.KeptLine.{KeptLine}
+use Rattle.object_fold.specs.Folds.{IsAbsent}
+use Rattle.object_fold.specs.Nodes.{ObjectNode, shard_of}
+use Rattle.part_fold.specs.Decisions.{decision_text}
+use Rattle.part_fold.specs.declared.part_fold.PartFold.{PartFold}
+use Rattle.part_fold.specs.Agreement.{part_at}
+use Rattle.part_fold.specs.Parts.{Part, part_value, place_of, undecided_after}
+use Rattle.part_fold.specs.PartStates.{IsPart}
+use Rattle.part_fold.specs.Ruled.{AreApart}
+use Rattle.col_core.proofs.CallerLemmas.{In, contains_in, if_true, if_false}
+use Rattle.world_laws.specs.declared.steps.Step.TheVariants.{Play}
+use Rattle.world_laws.specs.Worlds.{World, after, home_of, may_play, may_single, next_id, single_stamp}
+use Rattle.script_text.specs.declared.script.Kind.TheVariants as kinds
+use Rattle.script_text.specs.declared.script.Object.{Object}
+use Rattle.script_text.specs.declared.script.Command.{Command}
+use Rattle.report_text.specs.declared.report.Answer.{Answer}
+use Rattle.report_text.specs.declared.report.Answer.TheVariants as answers
+use Rattle.report_text.specs.declared.report.Ended.{Ended}
+use Rattle.report_text.specs.declared.report.Ended.TheVariants as ends
+use Rattle.report_text.specs.declared.report.PointPiece.{PointPiece}
+use Rattle.report_text.specs.declared.report.RaisePiece.{RaisePiece}
+use Rattle.report_text.specs.declared.report.SyncPiece.{SyncPiece}
+use Rattle.lawful_run.specs.Asks.{object_colours, rising}
+use Rattle.script_meaning.specs.States.{State, Grants, all_granted, answered, kind_in}
+use Rattle.script_meaning.specs.Appends.{appended_one, point_in, with_single}
+use Rattle.script_meaning.specs.Dequeues.{base_now, object_node_at, sync_now}
+use Rattle.script_meaning.specs.Parts.{commits_among, decided, decided_by, decided_in, decision_ended, nodes_now, part_of, peek_answer, peeked}
+use Rattle.script_meaning.specs.Stamped.{ReadEnd, Whole, Refused, Unraised, StampedRead, ended_so, stamped_read}
+use Rattle.script_meaning.proofs.CallerLemmas.{single_same}
+use Rattle.script_in_order.specs.Deciding.{DecidesBehind, EndsDecision}
+use Rattle.script_in_order.specs.declared.tx_folds.TxFolds.{TxFolds}
+use Rattle.script_in_order.specs.Doing.{DoneBy, with_replies}
+use Rattle.script_in_order.specs.Folds.{IsKeptLine, IsPartFold, AreTxFolds, nodes_at}
+use Rattle.script_in_order.specs.Stamped.{ReadsStamped}
+use Rattle.script_in_order.proofs.DequeueSteps.{Entered, entered, ended, entered_of, first_point, stood_so}
+use Rattle.script_in_order.proofs.FoldsKept.{parts_with}
+use Rattle.script_in_order.proofs.GetSteps.{played_nodes}
+use Rattle.script_in_order.proofs.HelpsAndClears.{found_with, finds_all}
+use Rattle.script_in_order.proofs.StampedWholes.{finds_same}
+
+-- A PEEK
+
+-- on the colour of its key's shard
+abbrev peeked_on : State → Command → List ℕ → List ℕ → ℕ → State
+peeked_on state command colours key colour =
+    let w = state.world in
+    let client = command.client in
+    let nodes = nodes_now w client colour in
+    let part = part_of colours key in
+    if may_play w client colour then
+    answered state command (after w (Play client colour))
+    (peek_answer (undecided_after part nodes) (part_value part nodes key) (sync_now w client colour)) []
+    else answered state command w (answers.Trimmed colour (base_now w client colour)) []
+
+module _ (command : Command) (w new : World) (colours key : List ℕ) (colour : ℕ) (is : colour ≡ shard_of colours key) where
+  pub peek_trimmed : (base : Counts) → may_play w command.client colour ≡ false → base ≡ base_now w command.client colour
+      → new ≡ w
+      → DoneBy (λ _ state. peeked state command colours key) command w new (answers.Trimmed colour base) []
+  peek_trimmed base refused same there =
+      subst (λ (x : World). DoneBy (λ _ state. peeked state command colours key) command w x
+      (answers.Trimmed colour base) []) (sym there)
+      (subst (λ (c : ℕ). DoneBy (λ _ state. peeked_on state command colours key c) command w w
+      (answers.Trimmed colour base) []) is (record {
+        grants = all_granted;
+        begun = refl;
+        is = λ replies.
+            if_false (may_play w command.client colour) _
+            (answered (with_replies w replies) command w
+            (answers.Trimmed colour (base_now w command.client colour)) []) refused
+            ∙ ap (λ (b : Counts). answered (with_replies w replies) command w (answers.Trimmed colour b) []) (sym same);
+      }))
+
+  pub peek_done : (answer : Answer) → may_play w command.client colour ≡ true → new ≡ after w (Play command.client colour)
+      → answer ≡ peek_answer (undecided_after (part_of colours key) (nodes_now w command.client colour))
+      (part_value (part_of colours key) (nodes_now w command.client colour) key) (sync_now w command.client colour)
+      → DoneBy (λ _ state. peeked state command colours key) command w new answer []
+  peek_done answer may there answer_is =
+      subst (λ (c : ℕ). DoneBy (λ _ state. peeked_on state command colours key c) command w new answer []) is (record {
+        grants = all_granted;
+        begun = refl;
+        is = λ replies.
+            let shown : World → Answer → State = λ x a. answered (with_replies w replies) command x a [] in
+            let nodes = nodes_now w command.client colour in
+            let given = peek_answer (undecided_after (part_of colours key) nodes) (part_value (part_of colours key) nodes key)
+            (sync_now w command.client colour) in
+            if_true (may_play w command.client colour) (shown (after w (Play command.client colour)) given) _ may
+            ∙ (ap (λ (x : World). shown x given) (sym there) ∙ ap (shown new) (sym answer_is));
+      })
+
+-- THE PART OF A KEY'S SHARD
+
+-- one that was folded on to what a client plays now
+pub part_played : (w : World) (client colour own : ℕ) (sync : SyncPiece) (kept : KeptLine PartFold) → own ≡ home_of w client
+    → sync ≡ sync_now w client colour → kept.count ≡ at sync.counts own → IsKeptLine IsPart w own colour kept
+    → IsPart kept.state (nodes_now w client colour)
+part_played w client colour own sync kept home same count f =
+    subst (IsPart kept.state)
+    (ap (λ (n : ℕ). nodes_at w (record { region = own; colour = colour; count = n })) count
+    ∙ played_nodes w client colour own sync home same) f.folded
+
+-- as it stands at the key's place
+module _ (w : World) (client : ℕ) (colours key : List ℕ) (fold : TxFolds)
+    (f : AreTxFolds w (kinds.Parts (home_of w client) colours) fold) (place colour : ℕ) (kept : KeptLine PartFold)
+    (place_is : place ≡ place_of (length colours) key) (colour_is : colour ≡ shard_of colours key)
+    (there : slice_get fold.parts.items place ≡ Some kept) where
+  right : IsPartFold w (home_of w client) colours place kept
+  right = f.parts place kept there
+
+  pub kept_part : kept.state.part ≡ part_of colours key
+  kept_part = right.part_is ∙ ap (part_at colours) place_is
+
+  its_colour : slice_index colours place ≡ colour
+  its_colour = ap (slice_index colours) place_is ∙ sym colour_is
+
+  pub kept_line : IsKeptLine IsPart w (home_of w client) colour kept
+  kept_line = subst (λ (c : ℕ). IsKeptLine IsPart w (home_of w client) c kept) its_colour right.folded
+
+  -- folded on, it is right still
+  pub kept_on : (new : KeptLine PartFold) → new.state.part ≡ kept.state.part
+      → IsKeptLine IsPart w (home_of w client) colour new
+      → AreTxFolds w (kinds.Parts (home_of w client) colours) (record fold { parts = with_item fold.parts place new })
+  kept_on new same line = record {
+    map = f.map;
+    parts = parts_with w (home_of w client) colours fold.parts.items place new f.parts (record {
+      part_is = same ∙ right.part_is;
+      folded = subst (λ (c : ℕ). IsKeptLine IsPart w (home_of w client) c new) (sym its_colour) line;
+    });
+    ruled = f.ruled;
+  }
+
+-- what it answers
+pub part_answer : (part other : Part) (nodes : List ObjectNode) (key bytes : List ℕ) (sync asked : SyncPiece) (answer : Answer)
+    → part ≡ other → key ≡ bytes → sync ≡ asked
+    → answer ≡ peek_answer (undecided_after part nodes) (part_value part nodes key) sync
+    → answer ≡ peek_answer (undecided_after other nodes) (part_value other nodes bytes) asked
+part_answer part other nodes key bytes sync asked answer same of as is =
+    is
+    ∙ (ap (λ (p : Part). peek_answer (undecided_after p nodes) (part_value p nodes key) sync) same
+    ∙ (ap (λ (k : List ℕ). peek_answer (undecided_after other nodes) (part_value other nodes k) sync) of
+    ∙ ap (peek_answer (undecided_after other nodes) (part_value other nodes bytes)) as))
+
+-- THE NODES THAT A DECIDE READS
+
+-- nodes of rising keys are apart
+absent_behind : (w : World) (key : Key) (keys : List Key) → ((k : Key) → In k keys → key_below key k ≡ true)
+    → IsAbsent key (map (object_node_at w) keys)
+absent_behind w key [] below = tt
+absent_behind w key (k ∷ keys) below = (
+  elim (cases_Bool (same_key k key)) [
+    | inl t ↦
+        (let same = same_key-is k key t in
+        absurd (key-irrefl key (subst (λ (x : Key). key_below key x ≡ true) same (below k (inl refl)))))
+    | inr f ↦ f
+  ],
+  absent_behind w key keys (λ x i. below x (inr i)),
+)
+
+pub apart_rising : (w : World) (keys : List Key) → AllPairs (λ a b. IsTrue (key_below a b)) keys
+    → AreApart (map (object_node_at w) keys)
+apart_rising w [] rising = tt
+apart_rising w (key ∷ keys) rising = (
+  absent_behind w key keys (λ k i.
+      let c = contains_in keys k i in
+      subst (λ (x : Key). key_below key x ≡ true) c.2
+      (rising zero (suc c.0) k (omega arith) (let l = c.1 in omega (arith, l)))),
+  apart_rising w keys (λ i j d lt there. rising (suc i) (suc j) d (omega (arith, lt)) (omega (arith, there))),
+)
+
+-- THE APPEND OF A DECISION
+
+module _ (command : Command) (text : List ℕ) (colour : ℕ) (w new : World) where
+  abbrev client : ℕ
+  client = command.client
+
+  abbrev Ends : Ended → Type 0
+  Ends last = EndsDecision command colour text w new last
+
+  -- the states in which it may end
+  abbrev stood_in : State → (Ended → Answer) → World → ℕ → PointPiece → State
+  stood_in state told x stamp point = answered state command x (told (ends.Stood stamp point)) []
+
+  abbrev none_in : State → (Ended → Answer) → World → State
+  none_in state told x = answered state command x (told (ends.StampEnd colour)) []
+
+  abbrev without_in : State → (Ended → Answer) → World → State
+  without_in state told x = answered state command x (told ends.NoMemory) []
+
+  abbrev point_of : World → PointPiece
+  point_of x = point_in w x client (next_id w client) colour
+
+  pub ends_stood : (answer : Answer) (stamp : ℕ) (row : Option ℕ) (points list : List PointPiece) (other : PointPiece)
+      → answer ≡ answers.Stood stamp row points → list ≡ points
+      → DoneBy (λ grants state. appended_one grants state command text colour) command w new answer []
+      → Ends (ends.Stood stamp (get_or list 0 other))
+  ends_stood answer stamp row points list other is same d =
+      let s = stood_so command text colour w new answer stamp row points is (entered_of command text colour w new answer d) in
+      record {
+        helps = s.grants.helps;
+        own = true;
+        is = λ grants helps own state told.
+            let v = with_single grants w client text colour in
+            let stamp_in = single_stamp w client colour in
+            if_true grants.own
+            (cond (may_single w client colour) (stood_in state told v stamp_in (point_of v)) (none_in state told w))
+            (without_in state told w) own
+            ∙ (if_true (may_single w client colour) (stood_in state told v stamp_in (point_of v)) (none_in state told w) s.may
+            ∙ (ap (λ (x : World). stood_in state told x stamp_in (point_of x))
+            (single_same grants s.grants helps w client text colour ∙ s.single)
+            ∙ (ap (λ (n : ℕ). stood_in state told new n (point_of new)) s.stamp_is
+            ∙ ap (stood_in state told new stamp) (sym (first_point (point_of new) other list (s.points_are ∙ sym same))))));
+      }
+
+  not_stood : (answer : Answer) → ((stamp : ℕ) (row : Option ℕ) (points : List PointPiece)
+      → answer ≡ answers.Stood stamp row points → ⊥) → Entered command text colour w new answer → Ends (ends.StampEnd colour)
+  not_stood answer other (entered g begun may single is) = absurd (other _ _ _ (sym is))
+  not_stood answer other (ended none same is) = record {
+    helps = λ _ _. true;
+    own = true;
+    is = λ grants helps own state told.
+        let v = with_single grants w client text colour in
+        if_true grants.own
+        (cond (may_single w client colour) (stood_in state told v (single_stamp w client colour) (point_of v))
+        (none_in state told w)) (without_in state told w) own
+        ∙ (if_false (may_single w client colour) (stood_in state told v (single_stamp w client colour) (point_of v))
+        (none_in state told w) none
+        ∙ ap (none_in state told) same);
+  }
+
+  pub ends_without_stamp : (answer : Answer) → ((stamp : ℕ) (row : Option ℕ) (points : List PointPiece)
+      → answer ≡ answers.Stood stamp row points → ⊥)
+      → DoneBy (λ grants state. appended_one grants state command text colour) command w new answer []
+      → Ends (ends.StampEnd colour)
+  ends_without_stamp answer other d = not_stood answer other (entered_of command text colour w new answer d)
+
+  pub ends_without_memory : new ≡ w → Ends ends.NoMemory
+  ends_without_memory same = record {
+    helps = λ _ _. true;
+    own = false;
+    is = λ grants helps own state told.
+        let v = with_single grants w client text colour in
+        if_false grants.own
+        (cond (may_single w client colour) (stood_in state told v (single_stamp w client colour) (point_of v))
+        (none_in state told w)) (without_in state told w) own
+        ∙ ap (without_in state told) (sym same);
+  }
+
+-- BEHIND THE SYNC
+
+-- a read that found no memory before its first raise ends as one whose first raise finds none
+unraised : (g : Grants) (helps : ℕ → ℕ → Bool) (w : World) (client : ℕ) (colours : List ℕ) → colours ≢ []
+    → stamped_read (record g { raises = λ _. false; helps = helps }) w client colours ≡ record { world = w; ends = Unraised }
+unraised g helps w client [] some = absurd (some refl)
+unraised g helps w client (c ∷ colours) some = refl
+
+module _ (command : Command) (own : List ℕ) (sync : SyncPiece) (waits : Key) where
+  abbrev Decides : World → World → Answer → Type 0
+  Decides old new answer = DecidesBehind command own sync waits old new answer
+
+  pub not_begun : (cs : List ℕ) → cs ≡ rising own → cs ≢ [] → (old new : World) → new ≡ old
+      → Decides old new answers.NoMemory
+  not_begun cs is some old new same =
+      let all : Grants = record all_granted { raises = λ _. false } in record {
+        grants = all;
+        begun = refl;
+        is = λ state.
+            ap (λ (r : StampedRead).
+            ended_so all state command (decided_in all state command waits sync r.world) r.world r.ends)
+            (unraised all all.read_helps old command.client (rising own) (subst (λ (l : List ℕ). l ≢ []) is some))
+            ∙ ap (λ (x : World). answered state command x answers.NoMemory []) (sym same);
+      }
+
+  -- the read led there and ended so
+  module _ (old x : World) (e : ReadEnd) (reads : ReadsStamped old x command.client (rising own) e) where
+    abbrev found : Grants
+    found = found_with (λ _. true) reads.finds
+
+    -- what is granted, with this for the nodes that were read and for the append
+    abbrev granted : Bool → (ℕ → ℕ → Bool) → Bool → Grants
+    granted items helps last = record all_granted {
+      raises = reads.found;
+      read_helps = found.helps;
+      items = items;
+      helps = helps;
+      own = last;
+    }
+
+    read_is : (items : Bool) (helps : ℕ → ℕ → Bool) (last : Bool) (state : State)
+        → decided_by (granted items helps last) state command own sync old (Some waits)
+        ≡ ended_so (granted items helps last) state command (decided_in (granted items helps last) state command waits sync x) x
+        e
+    read_is items helps last state =
+        let all = granted items helps last in
+        let reading : Grants = record all { helps = found.helps } in
+        ap (λ (r : StampedRead). ended_so all state command (decided_in all state command waits sync r.world) r.world r.ends)
+        (reads.is reading refl (finds_same found reading refl 0 reads.finds (finds_all (λ _. true) reads.finds)))
+
+  pub not_raised : (old x : World) → ReadsStamped old x command.client (rising own) Unraised
+      → Decides old x answers.NoMemory
+  not_raised old x reads = record {
+    grants = granted old x Unraised reads true (λ _ _. true) true;
+    begun = refl;
+    is = read_is old x Unraised reads true (λ _ _. true) true;
+  }
+
+  pub not_played : (old x : World) (colour : ℕ) (base : Counts)
+      → ReadsStamped old x command.client (rising own) (Refused colour base) → Decides old x (answers.Trimmed colour base)
+  not_played old x colour base reads = record {
+    grants = granted old x (Refused colour base) reads true (λ _ _. true) true;
+    begun = refl;
+    is = read_is old x (Refused colour base) reads true (λ _ _. true) true;
+  }
+
+  module _ (old x : World) (stamp : ℕ) (raises : List RaisePiece) (syncs : List SyncPiece) (keys : List Key)
+      (reads : ReadsStamped old x command.client (rising own) (Whole stamp raises syncs keys)) where
+    -- no memory for what is made of the nodes
+    pub not_ruled : Decides old x answers.NoMemory
+    not_ruled = record {
+      grants = granted old x (Whole stamp raises syncs keys) reads false (λ _ _. true) true;
+      begun = refl;
+      is = read_is old x (Whole stamp raises syncs keys) reads false (λ _ _. true) true;
+    }
+
+    pub ruled : (new : World) (commits : Bool) (text : List ℕ) (last : Ended)
+        → commits ≡ commits_among (map (object_node_at x) keys) waits
+        → text ≡ decision_text (record { key = waits; commits = commits })
+        → EndsDecision command sync.colour text x new last
+        → Decides old new (answers.Decided commits waits.stamp sync stamp raises syncs last)
+    ruled new commits text last commits_are text_is said =
+        let all = granted old x (Whole stamp raises syncs keys) reads true said.helps said.own in
+        let told : Bool → Ended → Answer = λ b. answers.Decided b waits.stamp sync stamp raises syncs in record {
+          grants = all;
+          begun = refl;
+          is = λ state.
+              read_is old x (Whole stamp raises syncs keys) reads true said.helps said.own state
+              ∙ (ap (λ (b : Bool). decision_ended all state command x sync.colour
+              (decision_text (record { key = waits; commits = b })) (told b)) (sym commits_are)
+              ∙ (ap (λ (t : List ℕ). decision_ended all state command x sync.colour t (told commits)) (sym text_is)
+              ∙ said.is all refl refl state (told commits)));
+        }
+
+-- ALL OF IT
+
+-- on the colour of its key's shard, of a map with these colours
+abbrev decided_on : Grants → State → Command → List ℕ → List ℕ → ℕ → State
+decided_on grants state command colours key colour =
+    let w = state.world in
+    let client = command.client in
+    if may_play w client colour then
+    decided_by grants state command colours (sync_now w client colour) (after w (Play client colour))
+    (undecided_after (part_of colours key) (nodes_now w client colour))
+    else answered state command w (answers.Trimmed colour (base_now w client colour)) []
+
+module _ (objects : List Object) (object : ℕ) (command : Command) (w new : World) (colours key : List ℕ) (colour : ℕ)
+    (its : object_colours (kind_in objects object) ≡ colours) (is : colour ≡ shard_of colours key) where
+  abbrev Does : Answer → Type 0
+  Does answer = DoneBy (λ grants state. decided objects grants state command object key) command w new answer []
+
+  does_on : (answer : Answer)
+      → DoneBy (λ grants state. decided_on grants state command colours key colour) command w new answer [] → Does answer
+  does_on answer d =
+      subst (λ (cs : List ℕ). DoneBy (λ grants state. decided_on grants state command cs key (shard_of cs key)) command w new
+      answer []) (sym its)
+      (subst (λ (c : ℕ). DoneBy (λ grants state. decided_on grants state command colours key c) command w new answer []) is d)
+
+  pub decide_trimmed : (base : Counts) → may_play w command.client colour ≡ false
+      → base ≡ base_now w command.client colour → new ≡ w → Does (answers.Trimmed colour base)
+  decide_trimmed base refused same there = does_on (answers.Trimmed colour base) (record {
+    grants = all_granted;
+    begun = refl;
+    is = λ replies.
+        if_false (may_play w command.client colour) _
+        (answered (with_replies w replies) command w
+        (answers.Trimmed colour (base_now w command.client colour)) []) refused
+        ∙ (ap (λ (b : Counts). answered (with_replies w replies) command w (answers.Trimmed colour b) []) (sym same)
+        ∙ ap (λ (x : World). answered (with_replies w replies) command x (answers.Trimmed colour base) []) (sym there));
+  })
+
+  -- the shard is played
+  module _ (v : World) (sync : SyncPiece) (waits : Option Key) (may : may_play w command.client colour ≡ true)
+      (there : v ≡ after w (Play command.client colour)) (sync_is : sync ≡ sync_now w command.client colour)
+      (waits_are : waits ≡ undecided_after (part_of colours key) (nodes_now w command.client colour)) where
+    played : (grants : Grants) (state : State) → state.world ≡ w
+        → decided_on grants (with_replies w state) command colours key colour
+        ≡ decided_by grants (with_replies w state) command colours sync v waits
+    played grants state same =
+        let from = with_replies w state in
+        let go : SyncPiece → World → Option Key → State = λ s x o. decided_by grants from command colours s x o in
+        let o = undecided_after (part_of colours key) (nodes_now w command.client colour) in
+        if_true (may_play w command.client colour)
+        (go (sync_now w command.client colour) (after w (Play command.client colour)) o) _ may
+        ∙ (ap (λ (s : SyncPiece). go s (after w (Play command.client colour)) o) (sym sync_is)
+        ∙ (ap (λ (x : World). go sync x o) (sym there) ∙ ap (go sync v) (sym waits_are)))
+
+    pub decide_none : waits ≡ None → new ≡ v → Does (answers.Got None sync)
+    decide_none none same = does_on (answers.Got None sync) (record {
+      grants = all_granted;
+      begun = refl;
+      is = λ replies.
+          let from = with_replies w replies in
+          played all_granted from refl
+          ∙ (ap (decided_by all_granted from command colours sync v) none
+          ∙ ap (λ (x : World). answered from command x (answers.Got None sync) []) (sym same));
+    })
+
+    pub decide_some : (key : Key) (answer : Answer) → waits ≡ Some key
+        → DecidesBehind command colours sync key v new answer → Does answer
+    decide_some key answer some d = does_on answer (record {
+      grants = d.grants;
+      begun = d.begun;
+      is = λ replies.
+          let from = with_replies w replies in
+          played d.grants from refl
+          ∙ (ap (decided_by d.grants from command colours sync v) some ∙ d.is from);
+    })
