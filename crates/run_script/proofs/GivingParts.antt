@@ -213,12 +213,16 @@ module _ (s : Store) (c d : Client) (on : RestsOn s c d) (m : TxMap) (ps : PartP
             let node = node_of it kept set (said_text decided) in
             let one = at_one log it kept after node p.colour a.stood.key.stamp a.row (map piece_of a.stood.points) members_are is.2 in
             let point = one_point a.stood.points one.point one.point_is in
-            subst (λ (e : Ended). EndsAs log it kept decide (said_text decided) e after) (sym (shows point.0 point.1))
-            (set, said_text decided, asks kept set decided members_are, (
-              refl,
-              subst (λ (row : Option ℕ). Appends log it kept node a.stood.key.stamp row (piece_of point.0 ∷ []) after) one.no_row
-                  (subst (λ (l : List Point). Appends log it kept node a.stood.key.stamp a.row (map piece_of l) after) point.1 is.2),
-            ))
+            subst (λ (e : Ended). EndsAs log it kept decide (said_text decided) e after) (sym (shows point.0 point.1)) (
+              set,
+              said_text decided,
+              asks kept set decided members_are,
+              (
+                refl,
+                subst (λ (row : Option ℕ). Appends log it kept node a.stood.key.stamp row (piece_of point.0 ∷ []) after) one.no_row
+                    (subst (λ (l : List Point). Appends log it kept node a.stood.key.stamp a.row (map piece_of l) after) point.1 is.2),
+              ),
+            )
         ended_so (Err (append_faults.StampEnd colour)) ended shows log kept after is =
             subst (λ (e : Ended). EndsAs log it kept decide (said_text decided) e after) (sym shows)
             (set, said_text decided, asks kept set decided members_are, (refl, is))
@@ -335,12 +339,12 @@ module _ (s : Store) (c d : Client) (on : RestsOn s c d) (m : TxMap) (ps qs : Pa
               not_asked s c d on m ps kept_in key objects object at (whats.Peek object key) (inr idle) (ap object_home kind_is) fault none
           | inr is ↦
               get_refused s c d on objects (whats.Peek object key) refl idle (Some ps.home) (ap object_home kind_is)
-                  (shard_of ps.colours key)
-                  (ap (λ (kind : Option Kind). shards (object_colours kind) (key ∷ [])) kind_is
-                  ∙ alone s c d on m ps kept_in key objects object at)
-                  fault is
-                  (away_from s c d on objects (whats.Peek object key) ps.home (Err fault) (fault_answer fault) (ap object_home kind_is)
-                  tells refl)
+              (shard_of ps.colours key)
+              (ap (λ (kind : Option Kind). shards (object_colours kind) (key ∷ [])) kind_is
+              ∙ alone s c d on m ps kept_in key objects object at)
+              fault is
+              (away_from s c d on objects (whats.Peek object key) ps.home (Err fault) (fault_answer fault) (ap object_home kind_is)
+              tells refl)
         ]
 
   pub gives_decide : (call : Result (Synced × Option Decided) ObjectFault) (answer : Answer) → ShowsDecide call answer
@@ -376,7 +380,7 @@ module _ (s : Store) (c d : Client) (on : RestsOn s c d) (m : TxMap) (ps qs : Pa
           | inl none ↦ not_asked s c d on m ps kept_in key objects object at (whats.Decide object key) (inl refl) homes fault none
           | inr is ↦
               undecided s c d on m ps kept_in key objects object at is.0 is.1 fault homes
-                  (away_from s c d on objects (whats.Decide object key) ps.home (Err fault) (fault_answer fault) homes tells refl) is.2
+              (away_from s c d on objects (whats.Decide object key) ps.home (Err fault) (fault_answer fault) homes tells refl) is.2
         ])
 
 -- where memory was refused before anything was done

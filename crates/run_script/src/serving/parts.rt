@@ -92,10 +92,7 @@ fn ended_shown(appended: Result<Appended, MultiFault>) -> Ended
 }
 
 // The answer to a decide, in the room that was taken for its read.
-fn decide_shown(
-    call: Result<(Synced, Option<Decided>), ObjectFault>,
-    room: ReadRoom,
-) -> Answer
+fn decide_shown(call: Result<(Synced, Option<Decided>), ObjectFault>, room: ReadRoom) -> Answer
     requires room { ShowsNone room }
     requires few { IfOk call (λ r. IfSome r.1 (λ decided. HasRoomFor room decided.read)) }
     requires point { IfOk call (λ r. IfSome r.1 HasPoint) }
