@@ -18,6 +18,7 @@ mod GivingTrees
 mod GivingReads
 mod ReadsFound
 mod ObjectFrames
+mod Slots
 mod Yielding
 mod Dealing
 mod Pieces
