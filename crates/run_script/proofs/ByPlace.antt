@@ -1,10 +1,8 @@
 -- Lists of which each item is known by its place.
 use Rattle.std.proofs.Common.{◌≡◌, ℕ, zero, suc, ◌+◌, List, [], ◌∷◌, ◌++◌, length, map, Some, slice_get, refl, ap, ◌∙◌, arith}
 use Rattle.std.specs.List.{All, enumerate_from, flat_map, range_with_len}
-use Rattle.std.specs.Option.{option_map}
 use Rattle.std.proofs.lemmas.List.{map-append}
 use Rattle.std.proofs.lemmas.List.Elements.{All-append, All-nil}
-use Rattle.std.proofs.lemmas.Option.{slice_get-map}
 pub use Rattle.log_node.proofs.CallerLemmas.{get_map_back as unmapped}
 pub use Rattle.log_node.proofs.CallerLemmas.{get_map as mapped}
 

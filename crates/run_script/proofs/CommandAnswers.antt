@@ -1,6 +1,6 @@
 -- What the records of a client's calls say of the replies to its commands.
-use Rattle.std.proofs.Common.{◌≡◌, ◌≢◌, ℕ, ◌≤◌, List, [], ◌∷◌, length, None, refl, ap, sym, subst, inl, inr}
-use Rattle.std.specs.List.{All, AllZip}
+use Rattle.std.proofs.Common.{◌≡◌, ◌≢◌, ℕ, List, [], ◌∷◌, length, None, refl, ap, sym, subst, inl, inr}
+use Rattle.std.specs.List.{AllZip}
 use Rattle.log_node.specs.declared.ids.Colours.{Colours}
 use Rattle.log_node.specs.declared.ids.Counts.{Counts}
 use Rattle.log_node.specs.declared.ids.Key.{Key}
@@ -24,7 +24,7 @@ use Rattle.lawful_run.specs.Appends.{Appends, HasNoStamp, HasNoRowLeft, IsGoneFo
 use Rattle.lawful_run.specs.Asks.{object_home, kind_used, home_asked}
 use Rattle.lawful_run.specs.Callers.{Caller, node_of}
 use Rattle.lawful_run.specs.Explains.{Explains}
-use Rattle.lawful_run.specs.Moves.{OnlyGives, Pulls, Trims, kept_after_pull, kept_after_giving, GivesFrom, GivesTooLow, with_places}
+use Rattle.lawful_run.specs.Moves.{OnlyGives, Pulls, Trims, kept_after_pull, kept_after_giving}
 use Rattle.lawful_run.specs.Reads.{AreKeysRead, HidesRead, IsTrimmed, ReadsAt, ShowsKey, ShowsPlayed, Syncs, greatest_stamp, RefusesRead}
 use Rattle.lawful_run.specs.Refusals.{FindsNoMemory, IsAway, gave, gone, hidden, before_by, behind_by, kept_before, kept_behind, nothing}
 use Rattle.lawful_run.specs.Stops.{Stops}

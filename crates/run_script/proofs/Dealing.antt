@@ -1,36 +1,16 @@
 -- How clients get ready to be served.
 use Rattle.std.proofs.Common.{◌≡◌, ℕ, ◌+◌, ◌<◌, ◌≤◌, List, [], ◌∷◌, ◌++◌, ◌^◌, length, map, take, drop, zip, get_or, Global, Vec, ap, refl, sym, subst, ◌∙◌, arith, length-append}
-use Rattle.std.specs.List.{All}
 use Rattle.std.proofs.lemmas.List.{map_push, take_all, take_more, take-append-drop}
 use Rattle.std.proofs.lemmas.List.Concat.{flat_map-append}
 use Rattle.std.proofs.lemmas.List.Elements.{All-push}
 use Rattle.std.proofs.lemmas.Slice.Zip.{firsts-zip, seconds-zip}
-use Rattle.script_text.specs.declared.script.Kind.{Kind}
 use Rattle.script_text.specs.declared.script.Command.{Command}
 use Rattle.script_text.specs.declared.script.Object.{Object}
 use Rattle.script_beside.specs.Dealt.{share_commands}
 use Rattle.log_client.specs.declared.client.Client.{Client}
-use Rattle.run_script.specs.declared.serving.opened.Opened.{Opened}
 use Rattle.run_script.specs.declared.serving.served.Served.{Served}
 use Rattle.run_script.specs.Dealing.{AreFewCommands, AreIdle, IsIdle}
-use Rattle.run_script.specs.Opened.{IsUnfolded, kind_opened}
 use Rattle.run_script.proofs.EndsShown.{flat_more}
-
--- one more object is opened
-pub opened_more : (objects : List Object) (n : ℕ) (o : Object) (old new : List Opened) (x : Opened) → n < length objects
-    → o ≡ get_or objects n o → map (λ (o : Object). o.kind) (take n objects) ≡ map kind_opened old
-    → kind_opened x ≡ o.kind → new ≡ old ++ x ∷ []
-    → map (λ (o : Object). o.kind) (take (n + 1) objects) ≡ map kind_opened new
-opened_more objects n o old new x low at was is same =
-    ap (λ (l : List Object). map (λ (o : Object). o.kind) l) (take_more objects n o low)
-    ∙ (map_push (λ (o : Object). o.kind) (take n objects) (get_or objects n o)
-    ∙ (ap (λ (l : List Kind). l ++ (get_or objects n o).kind ∷ []) was
-    ∙ (ap (λ (k : Kind). map kind_opened old ++ k ∷ []) (ap (λ (o : Object). o.kind) (sym at) ∙ sym is)
-    ∙ (sym (map_push kind_opened old x) ∙ ap (λ (l : List Opened). map kind_opened l) (sym same)))))
-
-pub unfolded_more : (old new : List Opened) (x : Opened) → All IsUnfolded old → IsUnfolded x → new ≡ old ++ x ∷ []
-    → All IsUnfolded new
-unfolded_more old new x was is same = subst (All IsUnfolded) (sym same) (All-push IsUnfolded old x was is)
 
 abbrev Share : Type 0
 Share = Vec (Vec Command Global) Global

@@ -1,5 +1,5 @@
 -- What a client gives to appends that are made only where nothing has come between, by what its calls left.
-use Rattle.std.proofs.Common.{◌≡◌, ℕ, List, [], map, refl, inr}
+use Rattle.std.proofs.Common.{ℕ, List, [], map, refl, inr}
 use Rattle.script_text.specs.declared.commands.What.{What}
 use Rattle.script_text.specs.declared.commands.What.TheVariants as whats
 use Rattle.report_text.specs.declared.report.Answer.TheVariants as answers

@@ -213,7 +213,6 @@ module _ (s : Store) (c d : Client) (on : RestsOn s c d) (objects : List Object)
 -- memory was refused before anything was asked of the client
 pub gives_unasked_of : (s : Store) (c : Client) (x : Opened) (asks : ℕ → What) → IsClient s c → is_tx (kind_opened x) ≡ false
     → ((object : ℕ) → use_of (asks object) ≡ OfObject object Leaves) → GivesTo s c c x x asks answers.NoMemory
-gives_unasked_of s c x asks is no_reads uses = gives_unread s c c x x (kind_opened x) asks answers.NoMemory refl refl uses (record {
-  no_reads = no_reads;
-  of = λ objects object at. gives_none s c c (rests_same s c is) objects (asks object) (inr (λ helps. helps)) refl;
-})
+gives_unasked_of s c x asks is no_reads uses =
+    gives_unread s c c x x (kind_opened x) asks answers.NoMemory refl refl no_reads uses
+    (λ objects object at. gives_none s c c (rests_same s c is) objects (asks object) (inr (λ helps. helps)) refl)

@@ -32,8 +32,11 @@ use Rattle.log_client.specs.Objects.{HasColoursOf, PutRefused, StandsIn}
 use Rattle.log_client.specs.Reading.{RestsOn}
 use Rattle.log_client.proofs.CallerLemmas.{shard_low}
 use Rattle.run_script.specs.Replying.{append_answer}
-use Rattle.run_script.specs.Serving.{GivesFor, GivesOf}
+use Rattle.run_script.specs.declared.serving.opened.Opened.{Opened}
+use Rattle.run_script.specs.Opened.{kind_opened}
+use Rattle.run_script.specs.Serving.{GivesOf, GivesTo}
 use Rattle.run_script.proofs.GivingObjects.{TellsAway, gives_put, told_home, who}
+use Rattle.run_script.proofs.ReadsFound.{gives_unread}
 
 -- an append to so many colours has so many points
 pub points_fit : (s : Store) (c d : Client) (colours text : List ℕ) (call : Result Appended ObjectFault) (room : ℕ)
@@ -64,44 +67,42 @@ pub record SaysOf (kind : Kind) (asked : ℕ → What) (reach : Reach) (text : L
   pub appends : (object : ℕ) → manner_of (asked object) ≡ Appending
   pub said : (object : ℕ) → saying_of (Some kind) None (asked object) ≡ says reach text
 
-module _ (s : Store) (c d : Client) (on : RestsOn s c d) (call : Result Appended ObjectFault) (answer : Answer)
-    (shown : answer ≡ append_answer call) where
+module _ (s : Store) (c d : Client) (on : RestsOn s c d) (x y : Opened) (same : kind_opened y ≡ kind_opened x)
+    (call : Result Appended ObjectFault) (answer : Answer) (shown : answer ≡ append_answer call) where
   -- what is given to commands that say a node, where one was called with their text that stands in the colours of their reach
   pub gives_said : (kind : Kind) (asked : ℕ → What) (reach : Reach) (text colours : List ℕ) (home : Option ℕ)
-      → SaysOf kind asked reach text → is_tx kind ≡ false → object_home (Some kind) ≡ home
+      → SaysOf kind asked reach text → kind_opened x ≡ kind → is_tx kind ≡ false → object_home (Some kind) ≡ home
       → ((set : Colours) → members set ≡ colours → Reaches (object_colours (Some kind)) reach set) → TellsAway c home call
       → IfOk call (StandsIn s c d colours text) → IfErr call (PutRefused home s c d colours text)
-      → GivesFor s c d kind asked answer
-  gives_said kind asked reach text colours home its no_reads homes reaches tells ok err = record {
-    no_reads = no_reads;
-    of = each;
-  } where
-    each : (objects : List Object) (object : ℕ) → kind_in objects object ≡ Some kind
-        → GivesOf s objects c d (asked object) answer []
-    each objects object at =
-        subst (λ (a : Answer). GivesOf s objects c d (asked object) a []) (sym shown)
-        (gives_put s c d on objects (asked object) (its.appends object) home (ap object_home kind_is ∙ homes) colours text asks
-        call tells ok err) where
-          kind_is : kind_asked (who s c d on objects) (asked object) ≡ Some kind
-          kind_is = ap (kind_used (who s c d on objects)) (its.uses object) ∙ at
+      → GivesTo s c d x y asked answer
+  gives_said kind asked reach text colours home its is no_reads homes reaches tells ok err =
+      gives_unread s c d x y kind asked answer is same no_reads its.uses each where
+        each : (objects : List Object) (object : ℕ) → kind_in objects object ≡ Some kind
+            → GivesOf s objects c d (asked object) answer []
+        each objects object at =
+            subst (λ (a : Answer). GivesOf s objects c d (asked object) a []) (sym shown)
+            (gives_put s c d on objects (asked object) (its.appends object) home (ap object_home kind_is ∙ homes) colours text asks
+            call tells ok err) where
+              kind_is : kind_asked (who s c d on objects) (asked object) ≡ Some kind
+              kind_is = ap (kind_used (who s c d on objects)) (its.uses object) ∙ at
 
-          asks : (kept : Kept) (set : Colours) → members set ≡ colours
-              → AsksToAppend (who s c d on objects) kept (asked object) set text
-          asks kept set is =
-              subst (λ (k : Option Kind). SaysNode (object_colours k) (saying_of k (found_by (use_of (asked object)) kept) (asked object)) set text)
-              (sym kind_is)
-              (subst (λ (found : Option (List Version)). SaysNode (object_colours (Some kind)) (saying_of (Some kind) found (asked object)) set text)
-              (sym (ap (λ (u : Use). found_by u kept) (its.uses object)))
-              (subst (λ (said : Option Saying). SaysNode (object_colours (Some kind)) said set text) (sym (its.said object))
-              (reaches set is, refl)))
+              asks : (kept : Kept) (set : Colours) → members set ≡ colours
+                  → AsksToAppend (who s c d on objects) kept (asked object) set text
+              asks kept set is =
+                  subst (λ (k : Option Kind). SaysNode (object_colours k) (saying_of k (found_by (use_of (asked object)) kept) (asked object)) set text)
+                  (sym kind_is)
+                  (subst (λ (found : Option (List Version)). SaysNode (object_colours (Some kind)) (saying_of (Some kind) found (asked object)) set text)
+                  (sym (ap (λ (u : Use). found_by u kept) (its.uses object)))
+                  (subst (λ (said : Option Saying). SaysNode (object_colours (Some kind)) said set text) (sym (its.said object))
+                  (reaches set is, refl)))
 
   -- the same of a key of a map
   pub gives_in_shard : (asked : ℕ → What) (home : ℕ) (colours : List ℕ) → HasColoursOf c colours
       → (c.region ≢ home → call ≡ Err (faults.NotHome home)) → (key text : List ℕ)
-      → SaysOf (kinds.Map home colours) asked (ShardsOf (key ∷ [])) text
+      → SaysOf (kinds.Map home colours) asked (ShardsOf (key ∷ [])) text → kind_opened x ≡ kinds.Map home colours
       → IfOk call (StandsIn s c d (shard_of colours key ∷ []) text)
       → IfErr call (PutRefused (Some home) s c d (shard_of colours key ∷ []) text)
-      → GivesFor s c d (kinds.Map home colours) asked answer
-  gives_in_shard asked home colours are tells key text its ok err =
-      gives_said (kinds.Map home colours) asked (ShardsOf (key ∷ [])) text (shard_of colours key ∷ []) (Some home) its refl refl
+      → GivesTo s c d x y asked answer
+  gives_in_shard asked home colours are tells key text its is ok err =
+      gives_said (kinds.Map home colours) asked (ShardsOf (key ∷ [])) text (shard_of colours key ∷ []) (Some home) its is refl refl
       (λ set is. is ∙ sym (shard_alone c colours key are)) (told_home c home call tells) ok err

@@ -58,10 +58,10 @@ use Rattle.region_fold.specs.Transactions.{CommitRefused, Commits, KeysRefused, 
 use Rattle.tx_parts.specs.declared.players.PartPlayers.{PartPlayers}
 use Rattle.run_script.specs.declared.serving.opened.Opened.{Opened}
 use Rattle.run_script.specs.declared.serving.opened.Opened.TheVariants as opened
-use Rattle.run_script.specs.Opened.{KeepsReadsBut, tx_kind, versions_in}
+use Rattle.run_script.specs.Opened.{KeepsReadsBut, kind_opened, tx_kind, versions_in}
 use Rattle.run_script.specs.Replying.{ShowsKeys, fault_answer, keys_found, told_answer, tx_found}
-use Rattle.run_script.specs.Serving.{ServesObject, GivesFor, GivesOf, GivesTo, KnowsRead}
-use Rattle.run_script.proofs.ReadsFound.{tx_colours, tx_home}
+use Rattle.run_script.specs.Serving.{ServesObject, GivesOf, GivesTo, KnowsRead}
+use Rattle.run_script.proofs.ReadsFound.{gives_unread as gives_leaving, tx_colours, tx_home}
 use Rattle.run_script.proofs.Giving.{did_nothing, keeps_read, knowing}
 use Rattle.run_script.proofs.GivingObjects.{ExplainsIf, Helping, away_from, away_if, gives_away, gives_by, gives_none, none_if, told_if, who}
 use Rattle.run_script.proofs.GivingTold.{gives_found, refused_gives, told_gives}
@@ -263,55 +263,58 @@ module _ (s : Store) (c d : Client) (on : RestsOn s c d) (objects : List Object)
         gives_if answers.NoMemory away (none_if s c d on objects (λ kept. kept.reads object ≡ versions_in x) commit is)
 
 module _ (s : Store) (c d : Client) (on : RestsOn s c d) (answer : Answer) where
-  pub gives_map_get_all : (home : ℕ) (colours : List ℕ) (last : Option Key) (keys : List (List ℕ))
-      (call : Result (List Value × StampedRead) ObjectFault) → ShowsKeys keys call answer
+  pub gives_map_get_all : (x y : Opened) (home : ℕ) (colours : List ℕ) (last : Option Key) (keys : List (List ℕ))
+      (call : Result (List Value × StampedRead) ObjectFault) → kind_opened x ≡ kinds.Map home colours
+      → kind_opened y ≡ kind_opened x → ShowsKeys keys call answer
       → (c.region ≢ home → call ≡ Err (faults.NotHome home))
       → IfOk call (λ r. GetsAll s c d colours last keys r.0 r.1) → IfErr call (GetAllRefused home s c d (shards colours keys))
-      → GivesFor s c d (kinds.Map home colours) (λ object. whats.GetAll object keys) answer
-  gives_map_get_all home colours last keys call shows tells ok err = record { no_reads = refl; of = each } where
-    each : (objects : List Object) (object : ℕ) → kind_in objects object ≡ Some (kinds.Map home colours)
-        → GivesOf s objects c d (whats.GetAll object keys) answer []
-    each objects object at = by call shows tells ok err where
-      synced_are : colours_synced (caller_of s d objects) (whats.GetAll object keys) ≡ shards colours keys
-      synced_are = ap (λ (k : Option Kind). shards (object_colours k) keys) at
+      → GivesTo s c d x y (λ object. whats.GetAll object keys) answer
+  gives_map_get_all x y home colours last keys call is same shows tells ok err =
+      gives_leaving s c d x y (kinds.Map home colours) (λ object. whats.GetAll object keys) answer is same refl (λ object. refl)
+      each where
+        each : (objects : List Object) (object : ℕ) → kind_in objects object ≡ Some (kinds.Map home colours)
+            → GivesOf s objects c d (whats.GetAll object keys) answer []
+        each objects object at = by call shows tells ok err where
+          synced_are : colours_synced (caller_of s d objects) (whats.GetAll object keys) ≡ shards colours keys
+          synced_are = ap (λ (k : Option Kind). shards (object_colours k) keys) at
 
-      by : (call : Result (List Value × StampedRead) ObjectFault) → ShowsKeys keys call answer
-          → (c.region ≢ home → call ≡ Err (faults.NotHome home))
-          → IfOk call (λ r. GetsAll s c d colours last keys r.0 r.1) → IfErr call (GetAllRefused home s c d (shards colours keys))
-          → GivesOf s objects c d (whats.GetAll object keys) answer []
-      by (Ok r) shows tells ok err =
-          let raises = map raise_piece r.1.raises in
-          let syncs = map sync_piece r.1.syncs in
-          subst (λ (a : Answer). GivesOf s objects c d (whats.GetAll object keys) a []) (sym shows.2)
-          (gives_by s c d on objects (whats.GetAll object keys) (answers.GotKeys r.1.stamp shows.0 raises syncs)
-          (GetsAllAs colours last keys r.0 r.1) (inl refl)
-          (away_from s c d on objects (whats.GetAll object keys) home (Ok r) _ (ap object_home at) tells tt) ok
-          (λ log kept after x. (
-            refl,
-            after,
-            (
-              subst (λ (l : List ℕ). ReadsAt log (caller_of s d objects) kept l r.1.stamp raises syncs after)
-                  (sym synced_are) x.1.0,
-              x.0,
-              x.1.1,
-              x.2,
-              x.3,
-              inl (
-                object,
-                keys,
+          by : (call : Result (List Value × StampedRead) ObjectFault) → ShowsKeys keys call answer
+              → (c.region ≢ home → call ≡ Err (faults.NotHome home))
+              → IfOk call (λ r. GetsAll s c d colours last keys r.0 r.1) → IfErr call (GetAllRefused home s c d (shards colours keys))
+              → GivesOf s objects c d (whats.GetAll object keys) answer []
+          by (Ok r) shows tells ok err =
+              let raises = map raise_piece r.1.raises in
+              let syncs = map sync_piece r.1.syncs in
+              subst (λ (a : Answer). GivesOf s objects c d (whats.GetAll object keys) a []) (sym shows.2)
+              (gives_by s c d on objects (whats.GetAll object keys) (answers.GotKeys r.1.stamp shows.0 raises syncs)
+              (GetsAllAs colours last keys r.0 r.1) (inl refl)
+              (away_from s c d on objects (whats.GetAll object keys) home (Ok r) _ (ap object_home at) tells tt) ok
+              (λ log kept after x. (
                 refl,
-                subst (λ (v : List Value). AreAnswers keys v shows.0)
-                    (x.4 ∙ ap (λ (k : Option Kind). values_among (object_colours k) x.2 keys) (sym at)) shows.1,
-                refl,
-              ),
-            ),
-          )))
-      by (Err fault) shows tells ok err =
-          subst (λ (a : Answer). GivesOf s objects c d (whats.GetAll object keys) a []) (sym shows)
-          (refused_gives_of s c d on objects (whats.GetAll object keys) refl (shards colours keys) synced_are home
-          (ap object_home at) fault
-          (away_from s c d on objects (whats.GetAll object keys) home (Err fault) (fault_answer fault) (ap object_home at) tells refl)
-          err)
+                after,
+                (
+                  subst (λ (l : List ℕ). ReadsAt log (caller_of s d objects) kept l r.1.stamp raises syncs after)
+                      (sym synced_are) x.1.0,
+                  x.0,
+                  x.1.1,
+                  x.2,
+                  x.3,
+                  inl (
+                    object,
+                    keys,
+                    refl,
+                    subst (λ (v : List Value). AreAnswers keys v shows.0)
+                        (x.4 ∙ ap (λ (k : Option Kind). values_among (object_colours k) x.2 keys) (sym at)) shows.1,
+                    refl,
+                  ),
+                ),
+              )))
+          by (Err fault) shows tells ok err =
+              subst (λ (a : Answer). GivesOf s objects c d (whats.GetAll object keys) a []) (sym shows)
+              (refused_gives_of s c d on objects (whats.GetAll object keys) refl (shards colours keys) synced_are home
+              (ap object_home at) fault
+              (away_from s c d on objects (whats.GetAll object keys) home (Err fault) (fault_answer fault) (ap object_home at) tells refl)
+              err)
 
   pub gives_read : (players : Option PartPlayers) (m n : TxMap) (found now : Option Tx) (keys : List (List ℕ))
       (call : Result (List Value × Tx × StampedRead) ObjectFault) → now ≡ tx_found call

@@ -55,11 +55,11 @@ use Rattle.run_script.specs.declared.serving.opened.Opened.TheVariants as opened
 use Rattle.run_script.specs.Changing.{AsksChange}
 use Rattle.run_script.specs.Opened.{HasCommand, KeepsReadsBut, kind_opened, object_asked, object_in, versions_in}
 use Rattle.run_script.specs.Replying.{fault_answer, names_answer, told_answer}
-use Rattle.run_script.specs.Serving.{ServesObject, GivesFor, GivesOf}
+use Rattle.run_script.specs.Serving.{ServesObject, GivesOf, GivesTo}
 use Rattle.run_script.proofs.GivingObjects.{ExplainsIf, away_from, away_if, gives_by, gives_none, none_if, who}
 use Rattle.run_script.proofs.GivingReads.{refused_gives_of}
 use Rattle.run_script.proofs.GivingTold.{gives_found, refused_gives, told_gives}
-use Rattle.run_script.proofs.ReadsFound.{given_at, keeps_but}
+use Rattle.run_script.proofs.ReadsFound.{given_at, gives_unread, keeps_but}
 
 -- WHICH COMMANDS CHANGE TREES
 
@@ -278,14 +278,14 @@ module _ (s : Store) (c d : Client) (on : RestsOn s c d) (t : LogTree) (text : L
       refused_gives_of s c d on objects ls refl (rising t.colours) reads_whole t.home (ap object_home at) fault
       (away_from s c d on objects ls t.home (Err fault) (fault_answer fault) (ap object_home at) tells refl) err
 
-pub gives_list : (s : Store) (c d : Client) → RestsOn s c d → (t : LogTree) (text : List ℕ) (place : Path)
+pub gives_list : (s : Store) (c d : Client) → RestsOn s c d → (x y : Opened) (t : LogTree) → kind_opened x ≡ kinds.Tree t.home t.colours
+    → kind_opened y ≡ kind_opened x → (text : List ℕ) (place : Path)
     → path_of text ≡ Some place → (call : Result (Option (List (List ℕ)) × StampedRead) ObjectFault) (answer : Answer)
     → answer ≡ names_answer call → (c.region ≢ t.home → call ≡ Err (faults.NotHome t.home))
     → IfOk call (λ r. Looks s c d t r.1 (NamesAfter place r.0)) → IfErr call (TreeRefused s c d t)
-    → GivesFor s c d (kinds.Tree t.home t.colours) (λ object. whats.Ls object text) answer
-gives_list s c d on t text place is call answer shown tells ok err = record {
-  no_reads = refl;
-  of = λ objects object at.
-      subst (λ (a : Answer). GivesOf s objects c d (whats.Ls object text) a []) (sym shown)
-      (lists s c d on t text place is objects object at call tells ok err);
-}
+    → GivesTo s c d x y (λ object. whats.Ls object text) answer
+gives_list s c d on x y t of same text place is call answer shown tells ok err =
+    gives_unread s c d x y (kinds.Tree t.home t.colours) (λ object. whats.Ls object text) answer of same refl (λ object. refl)
+    (λ objects object at.
+    subst (λ (a : Answer). GivesOf s objects c d (whats.Ls object text) a []) (sym shown)
+    (lists s c d on t text place is objects object at call tells ok err))

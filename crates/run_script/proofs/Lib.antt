@@ -20,6 +20,7 @@ mod GivingParts
 mod ReadsFound
 mod ObjectFrames
 mod PartsKept
+mod Slots
 mod Yielding
 mod Dealing
 mod Pieces

@@ -1,5 +1,5 @@
 -- The script of a load can be run on threads, and what its run shows.
-use Rattle.std.proofs.Common.{◌≡◌, ℕ, ◌<◌, ◌≤◌, false, List, length, refl, ap, sym, subst, ◌∙◌, ◌⊎◌, inl, inr, arith}
+use Rattle.std.proofs.Common.{◌≡◌, ℕ, ◌<◌, ◌≤◌, false, refl, sym, subst, arith}
 use Rattle.std.specs.List.{All}
 use Rattle.script_text.specs.declared.commands.What.{What}
 use Rattle.script_text.specs.declared.commands.What.TheVariants as whats
@@ -14,13 +14,9 @@ use Rattle.script_meaning.specs.States.{StopsAreLast}
 use Rattle.load_script.specs.declared.script.TheConstants.{MAX_LOAD}
 use Rattle.load_script.specs.Generated.{load_script}
 use Rattle.load_script.specs.Plain.{IsPlainWhat, IsUnwanting}
-use Rattle.load_script.specs.declared.summary.Summary.{Summary}
-use Rattle.load_script.specs.Summing.{summary_of, summary_text, load_summary}
 use Rattle.load_script.specs.Laws.{LoadsFit, LoadsComeToTheirSummary}
 use Rattle.report_text.specs.declared.report.Report.{Report}
 use Rattle.lawful_run.specs.Lawful.{LawfulRun}
-use Rattle.run_script.specs.declared.status.Status.{Status}
-use Rattle.run_script.specs.declared.status.Status.TheVariants.{Done, WriteFault, NoMemory}
 use Rattle.run_script.specs.Running.{CanRun}
 use Rattle.run_script.specs.TopCall.{IsLoaded}
 

@@ -1,8 +1,6 @@
 -- What the reads of a client's objects found, while it is served.
-use Rattle.std.proofs.Common.{◌≡◌, ◌≢◌, ℕ, zero, suc, List, [], ◌∷◌, set, Option, Some, None, slice_get, refl, ap, sym, subst, ◌∙◌, inl, eq-eqb}
-use Rattle.std.specs.Prelude.{IsTrue, false, ◌==◌}
-use Rattle.std.specs.List.{All}
-use Rattle.std.proofs.lemmas.Option.{get_or_from_slice_get, slice_get_within}
+use Rattle.std.proofs.Common.{◌≡◌, ◌≢◌, ℕ, zero, suc, ◌<◌, List, [], ◌∷◌, length, map, set, get_or-set_same, get_or-set_other, Option, Some, None, refl, ap, sym, ◌∙◌, inl, eq-eqb, subst}
+use Rattle.std.specs.Prelude.{IsTrue, Bool, false, true, ◌==◌, slice_index_or}
 use Rattle.log_node.specs.declared.forms.Version.{Version}
 use Rattle.log_node.specs.Seen.{PlacedNode}
 use Rattle.col_core.specs.Keeping.{Kept, nothing_kept}
@@ -26,14 +24,15 @@ use Rattle.lawful_run.specs.Explains.{Explains}
 use Rattle.lawful_run.specs.Refusals.{before_by, behind_by, kept_before, kept_behind}
 use Rattle.lawful_run.proofs.CallerLemmas.{explained_keeps}
 use Rattle.client_law.specs.Knowing.{log_seen}
+use Rattle.script_meaning.specs.States.{kind_in}
 use Rattle.log_client.specs.declared.store.Store.{Store}
 use Rattle.log_client.specs.declared.client.Client.{Client}
 use Rattle.log_client.specs.Clients.{caller_of, seen_of}
 use Rattle.tx_parts.specs.declared.players.PartPlayers.{PartPlayers}
 use Rattle.run_script.specs.declared.serving.opened.Opened.{Opened}
 use Rattle.run_script.specs.declared.serving.opened.Opened.TheVariants as opened
-use Rattle.run_script.specs.Opened.{HaveReads, IsUnfolded, KeepsReadsBut, found_in, kind_opened, tx_kind, versions_in}
-use Rattle.run_script.specs.Serving.{ServesLog, GivesAll, GivesFor, GivesTo, ServesObject, GivesOf, KnowsRead, KnowsReads}
+use Rattle.run_script.specs.Opened.{AreUnopened, HaveReads, KeepsReadsBut, found_in, kind_opened, tx_kind, unopened, versions_in}
+use Rattle.run_script.specs.Serving.{ServesLog, GivesAll, GivesTo, ServesObject, ServesSlot, GivesOf, KnowsRead, KnowsReads}
 use Rattle.run_script.proofs.CommandAnswers.{IsOfLog, of_log}
 use Rattle.run_script.proofs.Giving.{knowing}
 
@@ -83,35 +82,28 @@ tree_not_tx (kinds.Tx home colours) is = absurd (let f : ⊥ = cc (is) in f)
 tree_not_tx (kinds.Parts home colours) is = absurd (let f : ⊥ = cc (is) in f)
 tree_not_tx _ is = refl
 
--- who keeps nothing keeps the reads of objects of which nothing was read
-pub none_found : (xs : List Opened) → All IsUnfolded xs → HaveReads xs nothing_kept
-none_found xs unfolded n = by (slice_get xs n) refl where
-  by : (x : Option Opened) → slice_get xs n ≡ x → None ≡ found_in x
-  by None at = refl
-  by (Some x) at =
-      sym (subst IsUnfolded (get_or_from_slice_get xs n x x at) (unfolded n x (slice_get_within xs n x at))).0
+-- nothing is found where no object is opened
+unopened_found : (objects : List Object) (n : ℕ) → found_in (slice_index_or (map unopened objects) n None) ≡ None
+unopened_found [] n = refl
+unopened_found (o ∷ objects) zero = refl
+unopened_found (o ∷ objects) (suc n) = unopened_found objects n
 
--- WHERE ONE OF THEM IS ANOTHER
+-- who keeps nothing keeps the reads of objects that are not opened
+pub none_found : (objects : List Object) (slots : List (Option Opened)) → AreUnopened objects slots
+    → HaveReads slots nothing_kept
+none_found objects slots are n =
+    sym (ap (λ (l : List (Option Opened)). found_in (slice_index_or l n None)) are ∙ unopened_found objects n)
 
-set_here : (xs : List Opened) (n : ℕ) (x y : Opened) → slice_get xs n ≡ Some x → slice_get (set xs n y) n ≡ Some y
-set_here [] n x y at = absurd (let f : ⊥ = cc (at) in f)
-set_here (z ∷ xs) zero x y at = refl
-set_here (z ∷ xs) (suc n) x y at = set_here xs n x y at
+-- WHERE ONE SLOT IS ANOTHER
 
-set_apart : (xs : List Opened) (n j : ℕ) (y : Opened) → j ≢ n → slice_get (set xs n y) j ≡ slice_get xs j
-set_apart [] n j y other = refl
-set_apart (z ∷ xs) zero zero y other = absurd (other refl)
-set_apart (z ∷ xs) zero (suc j) y other = refl
-set_apart (z ∷ xs) (suc n) zero y other = refl
-set_apart (z ∷ xs) (suc n) (suc j) y other = set_apart xs n j y (λ e. other (ap suc e))
-
-pub reads_with : (xs : List Opened) (n : ℕ) (x y : Opened) (kept after : Kept) → slice_get xs n ≡ Some x
-    → HaveReads xs kept → KeepsReadsBut n (versions_in y) kept after → HaveReads (set xs n y) after
-reads_with xs n x y kept after at have keeps j =
+pub reads_with : (slots : List (Option Opened)) (n : ℕ) (y : Option Opened) (kept after : Kept) → n < length slots
+    → HaveReads slots kept → KeepsReadsBut n (found_in y) kept after → HaveReads (set slots n y) after
+reads_with slots n y kept after lt have keeps j =
     keeps j
-    ∙ at_updated (λ (v : Option (List Version)). v ≡ found_in (slice_get (set xs n y) j)) kept.reads n (versions_in y) j
-    (λ same. ap found_in (sym (set_here xs n x y at) ∙ ap (slice_get (set xs n y)) (sym same)))
-    (λ other. have j ∙ ap found_in (sym (set_apart xs n j y (λ same. apart (j == n) (eq-eqb j n same) other))))
+    ∙ at_updated (λ (v : Option (List Version)). v ≡ found_in (slice_index_or (set slots n y) j None)) kept.reads n (found_in y) j
+    (λ same. ap found_in (sym (ap (λ (k : ℕ). slice_index_or (set slots n y) k None) same ∙ get_or-set_same slots n y None lt)))
+    (λ other. have j
+    ∙ ap found_in (sym (get_or-set_other slots n j y None (λ same. apart (j == n) (eq-eqb j n same) other))))
 
 -- what is kept of reads is the same, of one object too
 pub keeps_but : (object : ℕ) (found : Option (List Version)) (kept after : Kept) → kept.reads object ≡ found
@@ -156,8 +148,8 @@ module _ (s : Store) (objects : List Object) (c d : Client) where
       (λ k. (ap (λ (u : Use). before_by u k) uses, ap (λ (u : Use). behind_by u k) uses))
       (λ n keys is. let two = sym uses ∙ ap use_of is in let f : ⊥ = cc (two) in f) explains))
 
-  -- of the log, whatever the objects
-  pub given_by_log : (xs : List Opened) (what : What) (answer : Answer) (nodes : List PlacedNode) → IsOfLog what
+  -- of the log, whatever is opened
+  pub given_by_log : (xs : List (Option Opened)) (what : What) (answer : Answer) (nodes : List PlacedNode) → IsOfLog what
       → ServesLog s c d what answer nodes → GivesAll s objects c d xs xs what answer nodes
   given_by_log xs what answer nodes of v =
       knowing s objects c d what answer nodes (KnowsReads c xs) (λ kept. HaveReads xs) (v.of objects) (λ kept knows. tt)
@@ -167,21 +159,25 @@ module _ (s : Store) (objects : List Object) (c d : Client) where
       (λ k. let same = of_log what k of in (same.0, same.1)) (no_read what of) explains)
       ∙ knows rest fits n)
 
-  -- to a command of one of the objects, which then is another
-  pub given_of_one : (xs : List Opened) (n : ℕ) (x y : Opened) (what : What) (answer : Answer) → slice_get xs n ≡ Some x
-      → ServesObject s objects c d n x y what answer → GivesAll s objects c d xs (set xs n y) what answer []
-  given_of_one xs n x y what answer at v =
+  -- to a command of an object, whose slot then is another
+  pub given_of_slot : (xs : List (Option Opened)) (n : ℕ) (x y : Option Opened) (what : What) (answer : Answer)
+      → n < length xs → slice_index_or xs n None ≡ x → ServesSlot s objects c d n x y what answer
+      → GivesAll s objects c d xs (set xs n y) what answer []
+  given_of_slot xs n x y what answer lt at v =
       knowing s objects c d what answer [] (KnowsReads c xs) (λ kept. HaveReads (set xs n y)) v
       (λ kept knows rest fits. knows rest fits n ∙ ap found_in at)
       (λ kept answered rest knows fits explains left.
-      reads_with xs n x y kept (kept_behind what answered) at (knows rest fits) left)
+      reads_with xs n y kept (kept_behind what answered) lt (knows rest fits) left)
 
--- to commands of an object of a kind, by its number, which neither let a read go nor use it up
+-- to commands of an object of a kind of which no reads are kept, by its number, which neither let a read go nor use it up
 pub gives_unread : (s : Store) (c d : Client) (x y : Opened) (kind : Kind) (asks : ℕ → What) (answer : Answer)
-    → kind_opened x ≡ kind → kind_opened y ≡ kind_opened x → ((object : ℕ) → use_of (asks object) ≡ OfObject object Leaves)
-    → GivesFor s c d kind asks answer → GivesTo s c d x y asks answer
-gives_unread s c d x y kind asks answer is same uses gives = record {
+    → kind_opened x ≡ kind → kind_opened y ≡ kind_opened x → is_tx kind ≡ false
+    → ((object : ℕ) → use_of (asks object) ≡ OfObject object Leaves)
+    → ((objects : List Object) (object : ℕ) → kind_in objects object ≡ Some kind
+    → GivesOf s objects c d (asks object) answer [])
+    → GivesTo s c d x y asks answer
+gives_unread s c d x y kind asks answer is same no_reads uses gives = record {
   of = λ objects object at.
       given_at s objects c d object x y (asks object) answer (uses object)
-      (finds_same x y (ap is_tx is ∙ gives.no_reads) same) (gives.of objects object (at ∙ ap Some is));
+      (finds_same x y (ap is_tx is ∙ no_reads) same) (gives objects object (at ∙ ap Some is));
 }

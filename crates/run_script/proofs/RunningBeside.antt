@@ -12,7 +12,7 @@ use Rattle.chain_store.specs.Opening.{size_of}
 use Rattle.chain_store.proofs.CallerLemmas.{got}
 use Rattle.script_text.specs.declared.script.Command.{Command}
 use Rattle.script_text.specs.declared.script.Script.{Script}
-use Rattle.script_text.specs.Fitting.{IsWithin}
+use Rattle.script_text.specs.Fitting.{IsKindWithin, IsWithin}
 use Rattle.script_text.proofs.CallerLemmas.{colours_few}
 use Rattle.script_beside.specs.declared.dealt.DealtScript.{DealtScript}
 use Rattle.script_beside.specs.Dealt.{share_commands}
@@ -25,15 +25,14 @@ use Rattle.log_client.specs.declared.store.Store.{Store}
 use Rattle.log_client.specs.Clients.{tracks_of}
 use Rattle.log_client.specs.Closes.{AreClients}
 use Rattle.log_client.specs.Opening.{AreNewClients}
-use Rattle.run_script.specs.declared.serving.opened.Opened.{Opened}
 use Rattle.run_script.specs.declared.serving.served.Served.{Served}
 use Rattle.run_script.specs.Dealing.{AreFewCommands, AreIdle, IsIdle}
-use Rattle.run_script.specs.Opened.{AreOf}
+use Rattle.run_script.specs.Opened.{AreOpenable}
 use Rattle.run_script.specs.Running.{CanRun}
 use Rattle.run_script.specs.Served.{CanServe, IsServable, IsServed, IsServedIfDone}
 use Rattle.run_script.specs.Serving.{AreServed, StopsLast, WasServed}
 use Rattle.run_script.proofs.ByPlace.{mapped}
-use Rattle.run_script.proofs.ObjectFrames.{kept_unfolded, of_one}
+use Rattle.run_script.proofs.ObjectFrames.{kept_unopened, of_unopened}
 use Rattle.run_script.proofs.ServedClients.{serves_none, stops_last_of}
 
 -- a script of which these are the commands, and the rest is what was dealt
@@ -78,30 +77,38 @@ module _ (script : Script) (dealt : DealtScript) (can : CanRun script dealt) (s 
       let few = can.fits.few in
       omega (arith, is, kept, less, few)
 
-  servable : (xs : List Opened) → AreOf script.objects xs → All (IsServable s xs) script.commands
-  servable xs of k d lt = record {
+  servable : All (IsServable s script.objects) script.commands
+  servable k d lt = record {
     within = subst (λ (r : ℕ). IsWithin r s.size.colours (slice_index_or script.commands k d).what) (sym regions)
         (subst (λ (z : Size). IsWithin script.shape.regions z.colours (slice_index_or script.commands k d).what) (sym size)
         (can.fits.commands k d lt));
-    of_one = of_one script.objects xs (slice_index_or script.commands k d).what of (can.fits.uses k d lt);
+    uses = can.fits.uses k d lt;
   }
 
   few : script.shape.colours ≤ MAX_COLOURS
   few = colours_few script.version script.shape can.fits.shape
 
-  pub can_serve : (n : ℕ) (x : Served) → slice_get before n ≡ Some x → CanServe s x
+  openable : AreOpenable s script.objects
+  openable k d lt = (
+    subst (λ (z : Size). z.colours ≤ MAX_COLOURS) (sym size) few,
+    subst (λ (r : ℕ). IsKindWithin r s.size.colours (slice_index_or script.objects k d).kind) (sym regions)
+        (subst (λ (z : Size). IsKindWithin script.shape.regions z.colours (slice_index_or script.objects k d).kind) (sym size)
+        (can.fits.objects k d lt)),
+  )
+
+  pub can_serve : (n : ℕ) (x : Served) → slice_get before n ≡ Some x → CanServe s script.objects x
   can_serve n x at =
       let i = idle_at n x at in
       let c = new.1 n x.client (client_at n x at) in
       let colours : length (tracks_of x.client) ≡ script.shape.colours = c.rests.colours ∙ ap (λ (z : Size). z.colours) size in
       record {
-        serves = λ objects. serves_none script.shape s objects n x.client x.objects.items c i.unfolded;
+        serves = serves_none script.shape s script.objects n x.client x.objects.items c i.unopened;
         finished = c.finished;
-        kept = kept_unfolded x.client script.shape.regions script.shape.colours script.objects x.objects.items colours few
-            can.fits.objects i.opened i.unfolded;
-        servable = subst (All (IsServable s x.objects.items)) (sym (commands_at n x at))
-            (All-filter (λ (k : Command). k.client == n) (IsServable s x.objects.items) script.commands
-            (servable x.objects.items i.opened));
+        openable = openable;
+        of = of_unopened script.objects x.objects.items i.unopened;
+        kept = kept_unopened x.client script.objects x.objects.items i.unopened;
+        servable = subst (All (IsServable s script.objects)) (sym (commands_at n x at))
+            (All-filter (λ (k : Command). k.client == n) (IsServable s script.objects) script.commands servable);
         stops = subst StopsLast (sym (commands_at n x at)) (stops_last_of script can.stops n);
         replies = i.replies;
         few_commands = few_at n x at;
@@ -112,7 +119,8 @@ module _ (script : Script) (dealt : DealtScript) (can : CanRun script dealt) (s 
   many_before = sym (length-map before (λ (x : Served). x.client)) ∙ (ap length idle.clients_are ∙ new.0)
 
   module _ (after : List Served) (long : length after ≡ length before)
-      (served : (n : ℕ) (x y : Served) → slice_get before n ≡ Some x → slice_get after n ≡ Some y → IsServed s x y) where
+      (served : (n : ℕ) (x y : Served) → slice_get before n ≡ Some x → slice_get after n ≡ Some y
+      → IsServed s script.objects x y) where
     abbrev pub clients_after : List Client
     clients_after = map (λ (x : Served). x.client) after
 
@@ -143,7 +151,7 @@ module _ (script : Script) (dealt : DealtScript) (can : CanRun script dealt) (s 
             (k.home ∙ ap Some (sym v.same.1)),
             subst (λ (rs : List ReplyLine). WasServed s script.objects y.0.client (commands_of script n) rs) (sym replied)
                 (subst (λ (cs : List Command). WasServed s script.objects y.0.client cs y.0.replies.items)
-                (commands_at n x.0 x.1) (v.served script.objects (idle_at n x.0 x.1).opened)),
+                (commands_at n x.0 x.1) v.served),
           );
     } where
       same_there : (a b : Client) → Some a ≡ Some b → a ≡ b
@@ -163,7 +171,7 @@ pub were_served : (script : Script) (dealt : DealtScript) → CanRun script deal
     → s.size ≡ size_of script.shape → length s.regions ≡ script.shape.regions → (opened : List Client)
     → AreNewClients script.shape s opened → (before lent after : List Served) → lent ≡ before
     → AreIdle script.objects opened dealt.shares.items before → length after ≡ length lent
-    → ((n : ℕ) (x y : Served) → slice_get lent n ≡ Some x → slice_get after n ≡ Some y → IsServedIfDone s x y)
+    → ((n : ℕ) (x y : Served) → slice_get lent n ≡ Some x → slice_get after n ≡ Some y → IsServedIfDone s script.objects x y)
     → (n : ℕ) → n ≡ length before → (clients : List Client) (replies : List (List ReplyLine))
     → clients ≡ map (λ (x : Served). x.client) (take n (after ++ drop (length after) before))
     → replies ≡ map (λ (x : Served). x.replies.items) (take n (after ++ drop (length after) before))

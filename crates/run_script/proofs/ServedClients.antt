@@ -1,7 +1,6 @@
 -- A client that is served one command after another.
-use Rattle.std.proofs.Common.{◌≡◌, ◌⊎◌, ℕ, ◌+◌, List, [], ◌∷◌, ◌++◌, length, Some, slice_get, refl, ap, sym, subst, ◌∙◌, inl, inr, arith, append_assoc, eqb-true, length-append}
+use Rattle.std.proofs.Common.{◌≡◌, ◌⊎◌, ℕ, ◌+◌, List, [], ◌∷◌, ◌++◌, length, Option, Some, slice_get, refl, ap, sym, subst, ◌∙◌, inl, inr, arith, append_assoc, eqb-true, length-append}
 use Rattle.std.specs.Prelude.{◌≢◌, ◌==◌, IsTrue}
-use Rattle.std.specs.List.{All}
 use Rattle.std.proofs.lemmas.List.Kept.{AllPairs-filter}
 use Rattle.std.proofs.lemmas.Option.{get_or_from_slice_get, slice_get_within}
 use Rattle.log_node.specs.declared.node.Shape.{Shape}
@@ -30,19 +29,19 @@ use Rattle.log_client.specs.Forgetting.{HasForgotten}
 use Rattle.log_client.specs.Opening.{IsNewClient}
 use Rattle.log_client.proofs.CallerLemmas.{client_sees_on, fits_less, rests_forgotten, same_caller}
 use Rattle.run_script.specs.declared.serving.opened.Opened.{Opened}
-use Rattle.run_script.specs.Opened.{IsUnfolded}
+use Rattle.run_script.specs.Opened.{AreUnopened}
 use Rattle.run_script.specs.Serving.{HasStopped, IsAnswered, MayHelp, Serves, StopsLast, WasServed}
 use Rattle.run_script.proofs.ReadsFound.{none_found}
 
--- a new client has no replies, and nothing was read of its objects
-pub serves_none : (shape : Shape) (s : Store) (objects : List Object) (n : ℕ) (c : Client) (xs : List Opened)
-    → IsNewClient shape s n c → All IsUnfolded xs → Serves s objects c xs [] []
-serves_none shape s objects n c xs new unfolded = record {
+-- a new client has no replies, and has opened none of the objects
+pub serves_none : (shape : Shape) (s : Store) (objects : List Object) (n : ℕ) (c : Client) (slots : List (Option Opened))
+    → IsNewClient shape s n c → AreUnopened objects slots → Serves s objects c slots [] []
+serves_none shape s objects n c slots new unopened = record {
   rests = new.rests;
   kept = nothing_kept;
   keeps = new.keeps objects;
   explained = λ rest fits. start;
-  reads = λ rest fits. none_found xs unfolded;
+  reads = λ rest fits. none_found objects slots unopened;
   finished = inl new.finished;
   helps = λ helps. absurd (new.idle helps);
 }
@@ -64,7 +63,7 @@ may_help_last done command may = (
 )
 
 -- one command more, of a client who has finished
-pub serves_next : (s : Store) (objects : List Object) (c d : Client) (xs ys : List Opened) (done : List Command)
+pub serves_next : (s : Store) (objects : List Object) (c d : Client) (xs ys : List (Option Opened)) (done : List Command)
     (replies : List ReplyLine) (command : Command) (reply : ReplyLine) → Serves s objects c xs done replies → Finished c
     → IsAnswered s objects c d xs ys command reply
     → Serves s objects d ys (done ++ command ∷ []) (replies ++ reply ∷ [])
@@ -109,7 +108,7 @@ serves_next s objects c d xs ys done replies command reply v finished a =
 
 -- WHAT THE END NEEDS
 
-pub was_served : (s : Store) (objects : List Object) (c : Client) (xs : List Opened) (commands : List Command)
+pub was_served : (s : Store) (objects : List Object) (c : Client) (xs : List (Option Opened)) (commands : List Command)
     (replies : List ReplyLine) → Serves s objects c xs commands replies → WasServed s objects c commands replies
 was_served s objects c xs commands replies v = record {
   rests = v.rests;

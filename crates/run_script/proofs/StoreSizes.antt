@@ -1,5 +1,5 @@
 -- The store of a script is no larger than a stamp board may be.
-use Rattle.std.proofs.Common.{◌≡◌, ℕ, ◌+◌, ◌*◌, ◌≤◌, ◌⊎◌, inl, inr, length, subst, sym, lit≤}
+use Rattle.std.proofs.Common.{◌≡◌, ℕ, ◌+◌, ◌*◌, ◌≤◌, inl, inr, length, subst, lit≤}
 use Rattle.log_node.specs.declared.node.Shape.{Shape}
 use Rattle.stamp_board.specs.declared.view.TheConstants.{MAX_WORDS}
 use Rattle.stamp_board.proofs.CallerLemmas.{words_within}

@@ -15,7 +15,6 @@ use Rattle.std.proofs.lemmas.Result.{OkIff-at_ok, OkIff-at_err}
 use Rattle.std.proofs.lemmas.Str.Parse.{IsNumeralModel, numerals_by_fold, parse_plain}
 use Rattle.script_text.specs.Pieces.{is_between, is_digit, number_value}
 use Rattle.load_script.specs.declared.script.TheConstants.{MAX_LOAD}
-use Rattle.run_script.specs.declared.asked.Asked.{Asked}
 use Rattle.run_script.specs.declared.asked.Task.{Task}
 use Rattle.run_script.specs.declared.asked.Task.TheVariants as tasks
 use Rattle.run_script.specs.Words.{asked_by, rounds_asked, task_by, task_of}

@@ -1,5 +1,5 @@
 -- What a loop over a list has had, and what comes next.
-use Rattle.std.proofs.Common.{◌≡◌, ℕ, zero, suc, ◌<◌, ◌≤◌, List, [], ◌∷◌, ◌++◌, length, take, get_or, Some, slice_get, ap, sym, ◌∙◌, inl, inr, arith}
+use Rattle.std.proofs.Common.{◌≡◌, ℕ, zero, suc, ◌<◌, ◌≤◌, List, [], ◌∷◌, ◌++◌, length, take, get_or, Option, Some, slice_get, ap, sym, ◌∙◌, inl, inr, arith}
 use Rattle.std.proofs.lemmas.List.{append_assoc}
 use Rattle.script_text.specs.declared.script.Command.{Command}
 use Rattle.script_text.specs.declared.script.Object.{Object}
@@ -24,7 +24,7 @@ split_there {A} (y ∷ ys) (suc n) x at = let r = split_there ys n x at in (r.0,
 
 -- a client who is to be served another of its commands has finished
 pub finished_before : (s : Store) (objects : List Object) (c : Client) (commands : List Command) (n : ℕ) (next : Command)
-    (xs : List Opened) (done : List Command) (replies : List ReplyLine) → StopsLast commands
+    (xs : List (Option Opened)) (done : List Command) (replies : List ReplyLine) → StopsLast commands
     → slice_get commands n ≡ Some next → done ≡ take n commands → Serves s objects c xs done replies → Finished c
 finished_before s objects c commands n next xs done replies last at are v = elim v.finished [
   | inl still ↦ still

@@ -7,12 +7,11 @@ use Rattle.script_text.specs.declared.script.Object.{Object}
 use Rattle.script_beside.specs.Dealt.{share_commands}
 use Rattle.log_client.specs.declared.client.Client.{Client}
 use Rattle.run_script.specs.declared.serving.served.Served.{Served}
-use Rattle.run_script.specs.Opened.{AreOf, IsUnfolded}
+use Rattle.run_script.specs.Opened.{AreUnopened}
 
--- The client has opened these objects and folded nothing of them, and has replied nothing.
+-- The client has opened none of these objects, and has replied nothing.
 pub record IsIdle (objects : List Object) (x : Served) : Type 0 where
-  pub opened : AreOf objects x.objects.items
-  pub unfolded : All IsUnfolded x.objects.items
+  pub unopened : AreUnopened objects x.objects.items
   pub replies : x.replies.items ≡ []
 
 -- these clients, each with its share, by number, and all idle

@@ -1,5 +1,6 @@
--- The objects of a script as a client has opened them, beside which it keeps them.
-use Rattle.std.specs.Prelude.{◌≡◌, Bool, ℕ, ◌≤◌, List, length, map, Option, Some, None, slice_get, IsTrue, IfSome}
+-- The objects of a script, each of which a client opens at its first command on it, and keeps beside itself.
+use Rattle.std.specs.Prelude.{◌≡◌, Bool, false, true, ℕ, ◌≤◌, List, length, map, Option, Some, None, slice_index_or, IsTrue, IfSome}
+use Rattle.std.specs.List.{All, AllZip}
 use Rattle.std.specs.Option.{option_map}
 use Rattle.log_node.specs.declared.limits.TheConstants.{MAX_COLOURS}
 use Rattle.log_node.specs.declared.forms.Version.{Version}
@@ -16,6 +17,7 @@ use Rattle.script_text.specs.declared.commands.What.{What}
 use Rattle.script_text.specs.declared.uses.Use.{Use}
 use Rattle.script_text.specs.declared.uses.Use.TheVariants.{OfLog, OfObject}
 use Rattle.log_client.specs.declared.client.Client.{Client}
+use Rattle.log_client.specs.declared.store.Store.{Store}
 use Rattle.log_client.specs.Clients.{tracks_of}
 use Rattle.log_map.specs.Maps.{IsMapOf}
 use Rattle.log_tree.specs.Trees.{IsTreeOf}
@@ -47,10 +49,6 @@ kind_opened (opened.Causal of) = kinds.Causal of.colour
 kind_opened (opened.Queue of) = kinds.Queue of.home of.colour
 kind_opened (opened.Tree of) = kinds.Tree of.home of.colours
 
--- these are the objects of a script, by number
-abbrev pub AreOf : List Object → List Opened → Type 0
-AreOf objects xs = map (λ (o : Object). o.kind) objects ≡ map kind_opened xs
-
 -- the players are kept beside the client, and are of the map's home and colours
 abbrev pub ArePlayersIn : Client → TxMap → PartPlayers → Type 0
 ArePlayersIn c map players = ArePlayersOf c players × (players.home ≡ map.home) × (players.colours ≡ map.colours)
@@ -65,9 +63,45 @@ IsOpenedOf c (opened.Causal of) = IsCausalMapOf c of
 IsOpenedOf c (opened.Queue of) = IsQueueOf c of
 IsOpenedOf c (opened.Tree of) = IsTreeOf c of
 
+-- SLOTS
+
+-- the slot of an object that is not opened
+abbrev pub unopened : Object → Option Opened
+unopened object = None
+
+-- a slot for each of these objects, by number, of which none is opened
+abbrev pub AreUnopened : List Object → List (Option Opened) → Type 0
+AreUnopened objects slots = slots ≡ map unopened objects
+
+-- what was opened in the slot, if it is opened, is this object
+abbrev pub IsSlotOf : Object → Option Opened → Type 0
+IsSlotOf object None = Unit {0}
+IsSlotOf object (Some x) = kind_opened x ≡ object.kind
+
+-- these are slots of the objects of a script, by number
+abbrev pub AreOf : List Object → List (Option Opened) → Type 0
+AreOf objects slots = AllZip IsSlotOf objects slots
+
+-- what was opened in the slot, if it is opened, is kept beside the client
+abbrev pub IsKept : Client → Option Opened → Type 0
+IsKept c None = Unit {0}
+IsKept c (Some x) = IsOpenedOf c x
+
 -- the same of each of them
-abbrev pub AreKept : Client → List Opened → Type 0
-AreKept c xs = (n : ℕ) (x : Opened) → slice_get xs n ≡ Some x → IsOpenedOf c x
+abbrev pub AreKept : Client → List (Option Opened) → Type 0
+AreKept c slots = All (IsKept c) slots
+
+-- the slot is unopened, or opened of this object and kept beside the client
+abbrev pub IsKeptOf : Client → Object → Option Opened → Type 0
+IsKeptOf c object slot = IsSlotOf object slot × IsKept c slot
+
+-- each client of the store can open the object
+abbrev pub IsOpenable : Store → Object → Type 0
+IsOpenable s object = (s.size.colours ≤ MAX_COLOURS) × IsKindWithin (length s.regions) s.size.colours object.kind
+
+-- the same of each of these
+abbrev pub AreOpenable : Store → List Object → Type 0
+AreOpenable s objects = All (IsOpenable s) objects
 
 -- WHAT READS FOUND
 
@@ -79,14 +113,14 @@ versions_in (opened.Causal of) = None
 versions_in (opened.Queue of) = None
 versions_in (opened.Tree of) = None
 
--- the same of one that is opened, or not
+-- the same of a slot: of an object that is not opened nothing was read
 abbrev pub found_in : Option Opened → Option (List Version)
 found_in None = None
 found_in (Some x) = versions_in x
 
--- what is kept of reads is what was found by those of these objects, by number
-abbrev pub HaveReads : List Opened → Kept → Type 0
-HaveReads xs kept = (n : ℕ) → kept.reads n ≡ found_in (slice_get xs n)
+-- what is kept of reads is what was found by those of the objects in these slots, by number
+abbrev pub HaveReads : List (Option Opened) → Kept → Type 0
+HaveReads slots kept = (n : ℕ) → kept.reads n ≡ found_in (slice_index_or slots n None)
 
 -- of reads is kept what was kept before, but of one object this
 abbrev pub KeepsReadsBut : ℕ → Option (List Version) → Kept → Kept → Type 0
@@ -124,9 +158,3 @@ HasBy kind what (OfObject object read) = IsTrue (is_of (kinds_asked what) kind) 
 -- an object of this kind has the command
 abbrev pub HasCommand : Kind → What → Type 0
 HasCommand kind what = HasBy kind what (use_of what)
-
--- Where the command is of an object, it is one of these, which has it.
-abbrev pub IsOfOne : List Opened → What → Type 0
-IsOfOne xs what =
-    (n : ℕ) → object_asked what ≡ Some n
-    → (x : Opened) × (slice_get xs n ≡ Some x) × HasCommand (kind_opened x) what

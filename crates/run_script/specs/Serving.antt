@@ -1,13 +1,11 @@
 -- What it is to serve a client its commands, one after another.
-use Rattle.std.specs.Prelude.{◌≡◌, ◌⊎◌, false, IsTrue, ℕ, List, [], ◌∷◌, ◌++◌, length, Some, slice_get, slice_index_or}
+use Rattle.std.specs.Prelude.{◌≡◌, ◌⊎◌, IsTrue, ℕ, List, [], ◌∷◌, ◌++◌, length, Option, Some, slice_get, slice_index_or}
 use Rattle.std.specs.List.{Contains}
 use Rattle.log_node.specs.Seen.{PlacedNode}
 use Rattle.col_core.specs.Keeping.{Kept}
 use Rattle.chain_store.specs.Opening.{size_of}
 use Rattle.script_text.specs.Items.{is_stop}
 use Rattle.script_text.specs.Commands.{word_of}
-use Rattle.script_text.specs.Fitting.{is_tx}
-use Rattle.script_text.specs.declared.script.Kind.{Kind}
 use Rattle.script_text.specs.declared.script.Object.{Object}
 use Rattle.script_text.specs.declared.commands.What.{What}
 use Rattle.script_text.specs.declared.script.Command.{Command}
@@ -30,7 +28,7 @@ use Rattle.log_client.specs.Growing.{HasGrown}
 use Rattle.log_client.specs.Clients.{IsClient, Keeps, Finished, Helps, caller_of, holds_of, nodes_of_rows, seen_of}
 use Rattle.log_client.specs.Calls.{IsSame}
 use Rattle.run_script.specs.declared.serving.opened.Opened.{Opened}
-use Rattle.run_script.specs.Opened.{HaveReads, KeepsReadsBut, kind_opened, versions_in}
+use Rattle.run_script.specs.Opened.{HaveReads, KeepsReadsBut, found_in, kind_opened, versions_in}
 
 -- the answer is that an append stopped
 abbrev pub IsStopped : Answer → Type 0
@@ -51,17 +49,21 @@ pub record HasStopped (commands : List Command) (replies : List ReplyLine) : Typ
 abbrev pub MayHelp : List Command → Type 0
 MayHelp commands = (command : Command) × Contains commands command × IsTrue (may_help (manner_of command.what))
 
--- as far as what a client knows tells, what it keeps of reads is what those of its objects found
-abbrev pub KnowsReads : Client → List Opened → Kept → Type 0
-KnowsReads c xs kept = (rest : Rest) → FitsHolds (holds_of c) rest → HaveReads xs kept
+-- as far as what a client knows tells, what it keeps of reads is what those of the objects in its slots found
+abbrev pub KnowsReads : Client → List (Option Opened) → Kept → Type 0
+KnowsReads c slots kept = (rest : Rest) → FitsHolds (holds_of c) rest → HaveReads slots kept
 
--- the same of one of them, by its number
+-- the same of one of the slots, by its number
+abbrev pub KnowsSlot : Client → ℕ → Option Opened → Kept → Type 0
+KnowsSlot c object slot kept = (rest : Rest) → FitsHolds (holds_of c) rest → kept.reads object ≡ found_in slot
+
+-- the same of an object that is opened
 abbrev pub KnowsRead : Client → ℕ → Opened → Kept → Type 0
 KnowsRead c object x kept = (rest : Rest) → FitsHolds (holds_of c) rest → kept.reads object ≡ versions_in x
 
 -- A client of the store rests after these commands, to which these are the replies: what it has seen explains them, and it
 -- keeps what the reads of its objects found.
-pub record Serves (s : Store) (objects : List Object) (c : Client) (xs : List Opened) (commands : List Command)
+pub record Serves (s : Store) (objects : List Object) (c : Client) (xs : List (Option Opened)) (commands : List Command)
     (replies : List ReplyLine) : Type 0 where
   pub rests : IsClient s c
   pub kept : Kept
@@ -101,12 +103,6 @@ pub record ServesLog (s : Store) (c d : Client) (what : What) (answer : Answer) 
   -- whatever the objects are
   pub of : (objects : List Object) → GivesOf s objects c d what answer nodes
 
--- to a command of whatever object of this kind was asked, by its number among the objects of a script; no reads are kept of it
-pub record GivesFor (s : Store) (c d : Client) (kind : Kind) (asked : ℕ → What) (answer : Answer) : Type 0 where
-  pub no_reads : is_tx kind ≡ false
-  pub of : (objects : List Object) (object : ℕ) → kind_in objects object ≡ Some kind
-      → GivesOf s objects c d (asked object) answer []
-
 -- to a command of an object, by its number among these, which was opened as x and then is y: of reads the client keeps what it
 -- kept, but of this object what was found
 abbrev pub ServesObject : Store → List Object → Client → Client → ℕ → Opened → Opened → What → Answer → Type 0
@@ -118,13 +114,20 @@ pub record GivesTo (s : Store) (c d : Client) (x y : Opened) (asked : ℕ → Wh
   pub of : (objects : List Object) (object : ℕ) → kind_in objects object ≡ Some (kind_opened x)
       → ServesObject s objects c d object x y (asked object) answer
 
--- to a command of a client that had opened these objects and then has those
-abbrev pub GivesAll : Store → List Object → Client → Client → List Opened → List Opened → What → Answer → List PlacedNode → Type 0
+-- to a command of an object, by its number among these, whose slot was this and then is that
+abbrev pub ServesSlot : Store → List Object → Client → Client → ℕ → Option Opened → Option Opened → What → Answer → Type 0
+ServesSlot s objects c d object x y what answer =
+    HasServed s objects c d what answer [] (KnowsSlot c object x) (KeepsReadsBut object (found_in y))
+
+-- to a command of a client that had these slots and then has those
+abbrev pub GivesAll : Store → List Object → Client → Client → List (Option Opened) → List (Option Opened) → What → Answer
+    → List PlacedNode → Type 0
 GivesAll s objects c d xs ys what answer nodes =
     HasServed s objects c d what answer nodes (KnowsReads c xs) (λ kept. HaveReads ys)
 
--- From c to d the client, with these objects and then those, was served the command, and this is the reply.
-abbrev pub IsAnswered : Store → List Object → Client → Client → List Opened → List Opened → Command → ReplyLine → Type 0
+-- From c to d the client, with these slots and then those, was served the command, and this is the reply.
+abbrev pub IsAnswered : Store → List Object → Client → Client → List (Option Opened) → List (Option Opened) → Command → ReplyLine
+    → Type 0
 IsAnswered s objects c d xs ys command reply =
     (reply.line ≡ command.line) × (reply.word ≡ word_of command.what)
     × GivesAll s objects c d xs ys command.what reply.answer reply.nodes

@@ -1,23 +1,25 @@
 // One command of a client, and its reply.
-ghost use Rattle.std.specs.Prelude.{◌≡◌, List, None, length, map};
+ghost use Rattle.std.specs.Prelude.{◌≡◌, ℕ, List, None, Some, length};
 ghost use Rattle.script_text.specs.declared.script.Object.{Object};
-ghost use Rattle.script_text.specs.Fitting.{IsWithin};
+ghost use Rattle.script_text.specs.Fitting.{IsWithin, UsesObject};
+ghost use Rattle.script_meaning.specs.States.{kind_in};
 ghost use Rattle.log_client.specs.Clients.{Finished, IsClient};
-ghost use Rattle.run_script.specs.Opened.{kind_opened, object_asked, AreKept, AreOf, IsOfOne};
-ghost use Rattle.run_script.specs.Serving.{ServesLog, GivesAll, IsAnswered};
+ghost use Rattle.log_client.specs.Reading.{RestsOn};
+ghost use Rattle.run_script.specs.Opened.{object_asked, AreKept, AreOf, AreOpenable, HasCommand, IsKeptOf, IsOpenable};
+ghost use Rattle.run_script.specs.Serving.{ServesLog, ServesSlot, GivesAll, IsAnswered};
 ghost use Rattle.run_script.specs.Served.{IsServable};
 
 use crate::serving::appends::{append, only, stop};
 use crate::serving::moves::{pull, trim};
 use crate::serving::object_answers::{object_answer, object_asked};
-use crate::serving::opened::Opened;
+use crate::serving::opened::{Opened, open};
 use crate::serving::scans::scan;
 use crate::serving::syncs::sync;
 use fuzzy_io::Gate;
 use log_client::{Client, Store, reads_go_on};
 use log_node::{Items, ListOf};
 use report_text::{Answer, ReplyLine};
-use script_text::{Command, What};
+use script_text::{Command, Object, What};
 use std::alloc::Global;
 use std::sync::Wait;
 
@@ -64,31 +66,70 @@ fn log_answer<R: Wait, G: Gate>(
     }
 }
 
-// What the client answers to what is asked of it, and the nodes that it shows.
-fn answer<R: Wait, G: Gate>(
+// What the client answers to what is asked of it and of this object, which it opens in its slot where this is its first command
+// on it. Where there is no memory for that, nothing else was done.
+fn slot_answer<R: Wait, G: Gate>(
     rt: &R,
     alloc: Global,
     store: &Store,
     gate: &G,
     client: &mut Client,
-    opened: &mut Vec<Opened>,
+    object: &Object,
+    slot: &mut Option<Opened>,
+    what: What,
+) -> Answer
+    requires client { IsClient store.now client.old }
+    requires openable { IsOpenable store.now object.now }
+    requires kept { IsKeptOf client.old object.now slot.old }
+    requires has { HasCommand object.now.kind what }
+    ensures rests { RestsOn store.now client.old client.new }
+    ensures kept { IsKeptOf client.new object.now slot.new }
+    ensures gives { (objects : List Object) (n : ℕ) → object_asked what ≡ Some n
+        → kind_in objects n ≡ Some object.now.kind
+        → ServesSlot store.now objects client.old client.new n slot.old slot.new what result }
+{
+    match slot {
+        Some(opened) => object_answer(rt, alloc, store, gate, client, opened, what),
+        None => {
+            let Ok(mut opened) = open(alloc, &object.kind) else {
+                return Answer::NoMemory;
+            };
+            let answer = object_answer(rt, alloc, store, gate, client, &mut opened, what);
+            *slot = Some(opened);
+            answer
+        }
+    }
+}
+
+// What the client answers to what is asked of it, and the nodes that it shows.
+fn answer<R: Wait, G: Gate>(
+    rt: &R,
+    alloc: Global,
+    store: &Store,
+    objects: &[Object],
+    gate: &G,
+    client: &mut Client,
+    slots: &mut Vec<Option<Opened>>,
     what: What,
 ) -> (Answer, Items)
     requires client { IsClient store.now client.old }
-    requires kept { AreKept client.old opened.old.items }
+    requires openable { AreOpenable store.now objects.now }
+    requires of { AreOf objects.now slots.old.items }
+    requires kept { AreKept client.old slots.old.items }
     requires within { IsWithin (length store.now.regions) store.now.size.colours what }
-    requires of_one { IsOfOne opened.old.items what }
-    ensures gives { (objects : List Object) → AreOf objects opened.old.items
-        → GivesAll store.now objects client.old client.new opened.old.items opened.new.items what result.0 result.1 }
-    ensures kept { Finished client.new → AreKept client.new opened.new.items }
-    ensures same { map kind_opened opened.new.items ≡ map kind_opened opened.old.items }
+    requires uses { UsesObject objects.now what }
+    ensures gives { GivesAll store.now objects.now client.old client.new slots.old.items slots.new.items what
+        result.0 result.1 }
+    ensures kept { Finished client.new → AreKept client.new slots.new.items }
+    ensures of { AreOf objects.now slots.new.items }
 {
     reads_go_on();
     match object_asked(&what) {
         None => log_answer(rt, alloc, store, gate, client, what),
-        Some(object) => {
-            let one = &mut opened[object as usize];
-            let answer = object_answer(rt, alloc, store, gate, client, one, what);
+        Some(number) => {
+            let object = &objects[number as usize];
+            let slot = &mut slots[number as usize];
+            let answer = slot_answer(rt, alloc, store, gate, client, object, slot, what);
             (answer, ListOf::new(alloc))
         }
     }
@@ -99,22 +140,24 @@ pub fn serve<R: Wait, G: Gate>(
     rt: &R,
     alloc: Global,
     store: &Store,
+    objects: &[Object],
     gate: &G,
     client: &mut Client,
-    opened: &mut Vec<Opened>,
+    slots: &mut Vec<Option<Opened>>,
     command: Command,
 ) -> ReplyLine
     requires client { IsClient store.now client.old }
-    requires kept { AreKept client.old opened.old.items }
-    requires command { IsServable store.now opened.old.items command }
-    ensures answered { (objects : List Object) → AreOf objects opened.old.items
-        → IsAnswered store.now objects client.old client.new opened.old.items opened.new.items command result }
-    ensures kept { Finished client.new → AreKept client.new opened.new.items }
-    ensures same { map kind_opened opened.new.items ≡ map kind_opened opened.old.items }
+    requires openable { AreOpenable store.now objects.now }
+    requires of { AreOf objects.now slots.old.items }
+    requires kept { AreKept client.old slots.old.items }
+    requires command { IsServable store.now objects.now command }
+    ensures answered { IsAnswered store.now objects.now client.old client.new slots.old.items slots.new.items command result }
+    ensures kept { Finished client.new → AreKept client.new slots.new.items }
+    ensures of { AreOf objects.now slots.new.items }
 {
     let line = command.line;
     let word = command.what.word();
-    let (answer, nodes) = answer(rt, alloc, store, gate, client, opened, command.what);
+    let (answer, nodes) = answer(rt, alloc, store, objects, gate, client, slots, command.what);
     ReplyLine {
         line,
         word,

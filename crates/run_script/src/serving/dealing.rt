@@ -2,15 +2,15 @@
 ghost use Rattle.std.specs.Prelude.{◌≡◌, length, IfOk};
 ghost use Rattle.run_script.specs.Dealing.{AreIdle};
 
-use crate::serving::opened::open_all;
+use crate::serving::opened::unopened;
 use crate::serving::served::Served;
 use log_client::Clients;
 use script_beside::Share;
 use script_text::Object;
 use std::alloc::{AllocError, Global};
 
-/// Each client with the objects, opened, and with the share of its number, before it is served. The room for its replies it
-/// takes itself.
+/// Each client with a slot for each object and with the share of its number, before it is served. The objects it opens itself,
+/// and the room for its replies it takes itself.
 pub fn make_ready(
     alloc: Global,
     clients: Clients,
@@ -22,10 +22,10 @@ pub fn make_ready(
 {
     let mut served = Vec::new(alloc);
     for (client, commands) in clients.into_vec().into_iter().zip(shares) {
-        let objects = open_all(alloc, objects)?;
+        let slots = unopened(alloc, objects)?;
         served.push(Served {
             client,
-            objects,
+            objects: slots,
             commands,
             replies: Vec::new(alloc),
             done: false,

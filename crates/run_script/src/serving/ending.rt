@@ -1,7 +1,7 @@
 // The report of a store in the end, and of the replies to its clients.
 ghost use Rattle.std.specs.Prelude.{◌≡◌, ◌≤◌, ◌++◌, length, map, IfOk, OnOk};
 ghost use Rattle.std.specs.List.{flat_map, enumerate_from};
-ghost use Rattle.run_script.specs.EndReports.{nodes_in, closing_nodes, HaveNodes, row_shown, rows_shown, region_shown, replies_shown, CanShow, end_report};
+ghost use Rattle.run_script.specs.EndReports.{nodes_in, HaveNodes, row_shown, rows_shown, region_shown, replies_shown, CanShow, end_report};
 
 use chain_store::ClosedRegion;
 use closing_report::columns_beside;

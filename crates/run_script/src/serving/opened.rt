@@ -1,7 +1,6 @@
 // The objects of a script as a client opens them.
 ghost use Rattle.std.specs.Prelude.{◌≡◌, IfOk};
-ghost use Rattle.std.specs.List.{All};
-ghost use Rattle.run_script.specs.Opened.{kind_opened, AreOf, IsUnfolded};
+ghost use Rattle.run_script.specs.Opened.{kind_opened, AreUnopened, IsUnfolded};
 
 use atomic_map::AtomicMap;
 use causal_map::CausalMap;
@@ -69,8 +68,8 @@ fn open_parts(alloc: Global, home: u8, colours: &[u8]) -> Result<Opened, AllocEr
     })
 }
 
-// Opens an object of this kind.
-fn open(alloc: Global, kind: &Kind) -> Result<Opened, AllocError>
+/// Opens an object of this kind.
+pub fn open(alloc: Global, kind: &Kind) -> Result<Opened, AllocError>
     ensures kind { IfOk result (λ x. kind_opened x ≡ kind.now) }
     ensures unfolded { IfOk result IsUnfolded }
 {
@@ -100,15 +99,9 @@ fn open(alloc: Global, kind: &Kind) -> Result<Opened, AllocError>
     }
 }
 
-/// Opens all objects, by number.
-pub fn open_all(alloc: Global, objects: &[Object]) -> Result<Vec<Opened>, AllocError>
-    ensures opened { IfOk result (λ xs. AreOf objects.now xs.items) }
-    ensures unfolded { IfOk result (λ xs. All IsUnfolded xs.items) }
+/// A slot for each object, by number; none of them is opened.
+pub fn unopened(alloc: Global, objects: &[Object]) -> Result<Vec<Option<Opened>>, AllocError>
+    ensures { IfOk result (λ slots. AreUnopened objects.now slots.items) }
 {
-    let mut opened = Vec::new(alloc);
-    for object in objects {
-        let one = open(alloc, &object.kind)?;
-        opened.push(one)?;
-    }
-    Ok(opened)
+    objects.iter().map(|_object| None).collect(alloc)
 }

@@ -66,8 +66,9 @@ fn run_in_store<R: Threads + Wait + Sync, G: Gate>(
         begins: _,
     } = dealt;
     let (store, clients) = Store::open(alloc, &header.shape)?;
-    let mut served = make_ready(alloc, clients, header.objects.as_slice(), shares)?;
-    serve_beside(rt, alloc, &store, gate, served.as_mut_slice());
+    let objects = header.objects.as_slice();
+    let mut served = make_ready(alloc, clients, objects, shares)?;
+    serve_beside(rt, alloc, &store, objects, gate, served.as_mut_slice());
     let (clients, replies) = parted(alloc, served)?;
     let closed = store.close(rt, alloc, clients.into())?;
     end_report(rt, alloc, &header, closed, replies, threads)

@@ -10,16 +10,17 @@ use fuzzy_io::Gate;
 use log_client::{Client, Store};
 use report_text::ReplyLine;
 use script_beside::Share;
-use script_text::Command;
+use script_text::{Command, Object};
 use std::alloc::Global;
 use std::mem;
 use std::sync::Wait;
 
-/// A client, its objects by number, the commands that it is still to be served, in order, and the replies so far.
+/// A client, a slot for each object by number, in which it opens the object at its first command on it, the commands that it
+/// is still to be served, in order, and the replies so far.
 #[derive(Drop)]
 pub struct Served {
     pub client: Client,
-    pub objects: Vec<Opened>,
+    pub objects: Vec<Option<Opened>>,
     pub commands: Share,
     pub replies: Vec<ReplyLine>,
     /// Whether it was served them: without memory for its replies it is served none.
@@ -46,12 +47,13 @@ fn serve_in_room<R: Wait, G: Gate>(
     rt: &R,
     alloc: Global,
     store: &Store,
+    objects: &[Object],
     gate: &G,
     served: &mut Served,
 )
-    requires can { CanServe store.now served.old }
+    requires can { CanServe store.now objects.now served.old }
     requires room { length (share_commands served.old.commands.items) ≤ vec_capacity served.old.replies }
-    ensures { IsServed store.now served.old served.new }
+    ensures { IsServed store.now objects.now served.old served.new }
 {
     let commands = mem::replace(&mut served.commands, Vec::new(alloc));
     for command in commands.into_iter().flatten() {
@@ -59,6 +61,7 @@ fn serve_in_room<R: Wait, G: Gate>(
             rt,
             alloc,
             store,
+            objects,
             gate,
             &mut served.client,
             &mut served.objects,
@@ -77,17 +80,18 @@ pub fn serve_all<R: Wait, G: Gate>(
     rt: &R,
     alloc: Global,
     store: &Store,
+    objects: &[Object],
     gate: &G,
     served: &mut Served,
 )
-    requires { CanServe store.now served.old }
-    ensures { IsServedIfDone store.now served.old served.new }
+    requires { CanServe store.now objects.now served.old }
+    ensures { IsServedIfDone store.now objects.now served.old served.new }
 {
     let Ok(replies) = Vec::with_capacity(alloc, count(served.commands.as_slice())) else {
         served.done = false;
         return;
     };
     served.replies = replies;
-    serve_in_room(rt, alloc, store, gate, served);
+    serve_in_room(rt, alloc, store, objects, gate, served);
     served.done = true;
 }

@@ -13,5 +13,5 @@ returns-clause-served g c = λ i x y at after.
     let w = c.for_each_mut.ensures i x (slice_get_within c.args.served.now i x at) in
     let was = w.1.argument_is ∙ get_or_from_slice_get c.args.served.now i x x at in
     let is = w.1.left ∙ get_or_from_slice_get c.for_each_mut.new.items i y x after in
-    subst (λ (z : Served). IsServedIfDone c.args.store.now x z) is
-    (subst (λ (z : Served). IsServedIfDone c.args.store.now z w.1.after_call.now) was w.1.call)
+    subst (λ (z : Served). IsServedIfDone c.args.store.now c.args.objects.now x z) is
+    (subst (λ (z : Served). IsServedIfDone c.args.store.now c.args.objects.now z w.1.after_call.now) was w.1.call)

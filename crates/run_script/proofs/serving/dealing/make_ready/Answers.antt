@@ -9,10 +9,9 @@ use Rattle.run_script.proofs.serving.dealing.make_ready.Goals as goal
 
 pub loop-client-preserved : goal.loop-client-preserved
 loop-client-preserved c =
-    let e = c.in_ok-objects.ensures in
     idle_more c.args.objects.now c.loop-client.yielded c.loop-client.served.items c.push.new.self.items _
     c.loop-client.invariant
-    (record { opened = e.opened; unfolded = e.unfolded; replies = c.new.ensures.items }) c.in_ok-push.ensures.items
+    (record { unopened = c.in_ok-slots.ensures; replies = c.new.ensures.items }) c.in_ok-push.ensures.items
 
 pub returns : goal.returns
 returns c =

@@ -1,10 +1,8 @@
-use Rattle.std.proofs.Common.{ℕ, ap, sym, subst, ◌∙◌, refl}
+use Rattle.std.proofs.Common.{ℕ, ap, sym, subst, ◌∙◌}
 use Rattle.script_text.specs.declared.script.Kind.TheVariants as kinds
-use Rattle.script_text.specs.declared.commands.What.TheVariants as whats
 use Rattle.run_script.specs.declared.serving.opened.Opened.TheVariants as opened
 use Rattle.run_script.specs.Opened.{IsOpenedOf, kind_opened}
 use Rattle.run_script.proofs.GivingGets.{a_point, gives_deq}
-use Rattle.run_script.proofs.ReadsFound.{gives_unread}
 use Rattle.run_script.proofs.serving.gets.deq.Goals as goal
 
 pub deq-deq-requires-clause-queue : goal.deq-deq-requires-clause-queue
@@ -26,8 +24,6 @@ returns-clause-stays g c =
 pub returns-clause-gives : goal.returns-clause-gives
 returns-clause-gives g c =
     let e = c.deq-deq.ensures in
-    gives_unread c.args.store.now c.args.client.now c.deq-deq.new.client c.args.opened.now
-    (opened.Queue c.deq-deq.new.self) _ (λ object. whats.Deq object) c.took.result
-    (ap kind_opened c.in-Queue.is) (returns-clause-stays g c).0 (λ object. refl)
-    (gives_deq c.args.store.now c.args.client.now c.deq-deq.new.client e.client c.took.result c.in-Queue.queue.home
-    c.in-Queue.queue.colour c.deq-deq.result c.took.ensures.ok c.took.ensures.err e.away e.ok e.err)
+    gives_deq c.args.store.now c.args.client.now c.deq-deq.new.client e.client c.args.opened.now
+    (opened.Queue c.deq-deq.new.self) (returns-clause-stays g c).0 c.took.result c.in-Queue.queue.home
+    c.in-Queue.queue.colour c.deq-deq.result (ap kind_opened c.in-Queue.is) c.took.ensures.ok c.took.ensures.err e.away e.ok e.err

@@ -5,7 +5,6 @@ use Rattle.atomic_map.proofs.CallerLemmas.{map_later as atomic_later}
 use Rattle.run_script.specs.declared.serving.opened.Opened.TheVariants as opened
 use Rattle.run_script.specs.Opened.{IsOpenedOf, kind_opened}
 use Rattle.run_script.proofs.GivingGets.{gives_causal_get, gives_map_get}
-use Rattle.run_script.proofs.ReadsFound.{gives_unread}
 use Rattle.run_script.proofs.serving.gets.get.Goals as goal
 
 pub get-get-requires-clause-map : goal.get-get-requires-clause-map
@@ -30,12 +29,10 @@ pub returns-in-Map-clause-gives : goal.returns-in-Map-clause-gives
 returns-in-Map-clause-gives g c =
     let e = c.get-get.ensures in
     let is = subst (IsOpenedOf c.args.client.now) c.in-Map.is c.requires.kept in
-    gives_unread c.args.store.now c.args.client.now c.get-get.new.client c.args.opened.now
-    (opened.Map c.get-get.new.self c.in-Map.several) _ (λ object. whats.Get object c.args.key) c.got.result
-    (ap kind_opened c.in-Map.is) (returns-in-Map-clause-stays g c).0 (λ object. refl)
-    (gives_map_get c.args.store.now c.args.client.now c.get-get.new.client e.client c.got.result
+    gives_map_get c.args.store.now c.args.client.now c.get-get.new.client e.client c.args.opened.now
+    (opened.Map c.get-get.new.self c.in-Map.several) (returns-in-Map-clause-stays g c).0 c.got.result
     (λ (object : ℕ). whats.Get object c.args.key) c.args.key (λ object. record { uses = refl; gets = refl }) c.in-Map.single.home
-    c.in-Map.single.colours c.get-get.result c.got.ensures is.0.colours e.idle e.away e.ok e.err)
+    c.in-Map.single.colours c.get-get.result (ap kind_opened c.in-Map.is) c.got.ensures is.0.colours e.idle e.away e.ok e.err
 
 pub get-get-requires-in-Causal-clause-map : goal.get-get-requires-in-Causal-clause-map
 get-get-requires-in-Causal-clause-map g c κs within = subst (IsOpenedOf c.args.client.now) c.in-Causal.is c.requires.kept
@@ -51,9 +48,7 @@ returns-in-Causal-clause-gives g c =
     let e = c.get-get-in-Causal.ensures in
     let is = subst (IsOpenedOf c.args.client.now) c.in-Causal.is c.requires.kept in
     let few = is.few in
-    gives_unread c.args.store.now c.args.client.now c.get-get-in-Causal.new.client c.args.opened.now
-    (opened.Causal c.get-get-in-Causal.new.self) _ (λ object. whats.Get object c.args.key) c.got_many.result
-    (ap kind_opened c.in-Causal.is) (returns-in-Causal-clause-stays g c).0 (λ object. refl)
-    (gives_causal_get c.args.store.now c.args.client.now c.get-get-in-Causal.new.client e.client c.got_many.result
+    gives_causal_get c.args.store.now c.args.client.now c.get-get-in-Causal.new.client e.client c.args.opened.now
+    (opened.Causal c.get-get-in-Causal.new.self) (returns-in-Causal-clause-stays g c).0 c.got_many.result
     (λ (object : ℕ). whats.Get object c.args.key) c.args.key (λ object. record { uses = refl; gets = refl }) c.in-Causal.map.colour
-    c.get-get-in-Causal.result c.got_many.ensures (omega (arith, few)) e.idle e.ok e.err)
+    c.get-get-in-Causal.result (ap kind_opened c.in-Causal.is) c.got_many.ensures (omega (arith, few)) e.idle e.ok e.err

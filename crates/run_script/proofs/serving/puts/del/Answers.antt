@@ -11,7 +11,7 @@ use Rattle.run_script.specs.declared.serving.opened.Opened.TheVariants as opened
 use Rattle.run_script.specs.Opened.{IsOpenedOf, kind_opened}
 use Rattle.run_script.proofs.GivingObjects.{gives_unasked_of}
 use Rattle.run_script.proofs.GivingPuts.{gives_in_shard, points_fit}
-use Rattle.run_script.proofs.ReadsFound.{gives_unread, map_not_tx}
+use Rattle.run_script.proofs.ReadsFound.{map_not_tx}
 use Rattle.run_script.proofs.serving.puts.del.Goals as goal
 
 pub returns-in_default-clause-rests : goal.returns-in_default-clause-rests
@@ -49,10 +49,8 @@ pub returns-clause-gives : goal.returns-clause-gives
 returns-clause-gives g c =
     let e = c.del-del.ensures in
     let is = subst (IsOpenedOf c.args.client.now) c.in-Map.is c.requires.kept in
-    gives_unread c.args.store.now c.args.client.now c.del-del.new.client c.args.opened.now
-    (opened.Map c.del-del.new.self c.in-Map.several) _ (λ object. whats.Del object c.args.key) c.appended.result
-    (ap kind_opened c.in-Map.is) (returns-clause-stays g c).0 (λ object. refl)
-    (gives_in_shard c.args.store.now c.args.client.now c.del-del.new.client e.client c.del-del.result c.appended.result
+    gives_in_shard c.args.store.now c.args.client.now c.del-del.new.client e.client c.args.opened.now
+    (opened.Map c.del-del.new.self c.in-Map.several) (returns-clause-stays g c).0 c.del-del.result c.appended.result
     c.appended.ensures (λ object. whats.Del object c.args.key) c.in-Map.single.home c.in-Map.single.colours is.0.colours e.away
     c.args.key (form_text (forms.Delete c.args.key)) (record { uses = λ object. refl; appends = λ object. refl; said = λ object. refl })
-    e.ok e.err)
+    (ap kind_opened c.in-Map.is) e.ok e.err

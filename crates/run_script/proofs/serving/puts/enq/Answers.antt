@@ -10,7 +10,7 @@ use Rattle.run_script.specs.declared.serving.opened.Opened.TheVariants as opened
 use Rattle.run_script.specs.Opened.{IsOpenedOf, kind_opened}
 use Rattle.run_script.proofs.GivingObjects.{gives_unasked_of, told_home}
 use Rattle.run_script.proofs.GivingPuts.{gives_said, points_fit}
-use Rattle.run_script.proofs.ReadsFound.{gives_unread, queue_not_tx}
+use Rattle.run_script.proofs.ReadsFound.{queue_not_tx}
 use Rattle.run_script.proofs.serving.puts.enq.Goals as goal
 
 pub returns-in_default-clause-rests : goal.returns-in_default-clause-rests
@@ -39,11 +39,9 @@ returns-clause-stays g c = (
 pub returns-clause-gives : goal.returns-clause-gives
 returns-clause-gives g c =
     let e = c.enq-enq.ensures in
-    gives_unread c.args.store.now c.args.client.now c.enq-enq.new.client c.args.opened.now
-    (opened.Queue c.enq-enq.new.self) _ (λ object. whats.Enq object c.args.value) c.appended.result
-    (ap kind_opened c.in-Queue.is) (returns-clause-stays g c).0 (λ object. refl)
-    (gives_said c.args.store.now c.args.client.now c.enq-enq.new.client e.client c.enq-enq.result c.appended.result
+    gives_said c.args.store.now c.args.client.now c.enq-enq.new.client e.client c.args.opened.now
+    (opened.Queue c.enq-enq.new.self) (returns-clause-stays g c).0 c.enq-enq.result c.appended.result
     c.appended.ensures (kinds.Queue c.in-Queue.queue.home c.in-Queue.queue.colour) (λ object. whats.Enq object c.args.value)
     Listed (form_text (forms.Enqueue c.args.value)) (c.in-Queue.queue.colour ∷ []) (Some c.in-Queue.queue.home)
-    (record { uses = λ object. refl; appends = λ object. refl; said = λ object. refl }) refl refl
-    (λ set one. one) (told_home c.args.client.now c.in-Queue.queue.home c.enq-enq.result e.away) e.ok e.err)
+    (record { uses = λ object. refl; appends = λ object. refl; said = λ object. refl }) (ap kind_opened c.in-Queue.is) refl refl
+    (λ set one. one) (told_home c.args.client.now c.in-Queue.queue.home c.enq-enq.result e.away) e.ok e.err

@@ -13,7 +13,7 @@ use Rattle.run_script.specs.declared.serving.opened.Opened.TheVariants as opened
 use Rattle.run_script.specs.Opened.{IsOpenedOf, kind_opened}
 use Rattle.run_script.proofs.GivingObjects.{gives_unasked_of}
 use Rattle.run_script.proofs.GivingPuts.{gives_in_shard, gives_said, only_shard, points_fit}
-use Rattle.run_script.proofs.ReadsFound.{any_map_not_tx, gives_unread}
+use Rattle.run_script.proofs.ReadsFound.{any_map_not_tx}
 use Rattle.run_script.proofs.serving.puts.put.Goals as goal
 
 pub returns-in_default-clause-rests : goal.returns-in_default-clause-rests
@@ -51,13 +51,11 @@ pub returns-in-Map-clause-gives : goal.returns-in-Map-clause-gives
 returns-in-Map-clause-gives g c =
     let e = c.put-put.ensures in
     let is = subst (IsOpenedOf c.args.client.now) c.in-Map.is c.requires.kept in
-    gives_unread c.args.store.now c.args.client.now c.put-put.new.client c.args.opened.now
-    (opened.Map c.put-put.new.self c.in-Map.several) _ (λ object. whats.Put object c.args.key c.args.value) c.appended.result
-    (ap kind_opened c.in-Map.is) (returns-in-Map-clause-stays g c).0 (λ object. refl)
-    (gives_in_shard c.args.store.now c.args.client.now c.put-put.new.client e.client c.put-put.result c.appended.result
+    gives_in_shard c.args.store.now c.args.client.now c.put-put.new.client e.client c.args.opened.now
+    (opened.Map c.put-put.new.self c.in-Map.several) (returns-in-Map-clause-stays g c).0 c.put-put.result c.appended.result
     c.appended.ensures (λ object. whats.Put object c.args.key c.args.value) c.in-Map.single.home c.in-Map.single.colours
     is.0.colours e.away c.args.key (form_text (forms.Put c.args.key c.args.value))
-    (record { uses = λ object. refl; appends = λ object. refl; said = λ object. refl }) e.ok e.err)
+    (record { uses = λ object. refl; appends = λ object. refl; said = λ object. refl }) (ap kind_opened c.in-Map.is) e.ok e.err
 
 pub put-put-requires-in-Causal-clause-map : goal.put-put-requires-in-Causal-clause-map
 put-put-requires-in-Causal-clause-map g c κs within = subst (IsOpenedOf c.args.client.now) c.in-Causal.is c.requires.kept
@@ -80,13 +78,11 @@ returns-in-Causal-clause-gives g c =
     let e = c.put-put-in-Causal.ensures in
     let is = subst (IsOpenedOf c.args.client.now) c.in-Causal.is c.requires.kept in
     let few = is.few in
-    gives_unread c.args.store.now c.args.client.now c.put-put-in-Causal.new.client c.args.opened.now
-    (opened.Causal c.put-put-in-Causal.new.self) _ (λ object. whats.Put object c.args.key c.args.value) c.appended-in-Causal.result
-    (ap kind_opened c.in-Causal.is) (returns-in-Causal-clause-stays g c).0 (λ object. refl)
-    (gives_said c.args.store.now c.args.client.now c.put-put-in-Causal.new.client e.client c.put-put-in-Causal.result
+    gives_said c.args.store.now c.args.client.now c.put-put-in-Causal.new.client e.client c.args.opened.now
+    (opened.Causal c.put-put-in-Causal.new.self) (returns-in-Causal-clause-stays g c).0 c.put-put-in-Causal.result
     c.appended-in-Causal.result c.appended-in-Causal.ensures (kinds.Causal c.in-Causal.map.colour)
     (λ object. whats.Put object c.args.key c.args.value) (ShardsOf (c.args.key ∷ []))
     (form_text (forms.Causal c.args.key c.args.value)) (c.in-Causal.map.colour ∷ []) None
-    (record { uses = λ object. refl; appends = λ object. refl; said = λ object. refl }) refl refl
+    (record { uses = λ object. refl; appends = λ object. refl; said = λ object. refl }) (ap kind_opened c.in-Causal.is) refl refl
     (λ set one. one ∙ sym (only_shard c.in-Causal.map.colour c.args.key (omega (arith, few))))
-    (λ home some far. absurd (let f : ⊥ = cc (some) in f)) e.ok e.err)
+    (λ home some far. absurd (let f : ⊥ = cc (some) in f)) e.ok e.err

@@ -15,7 +15,7 @@ use Rattle.run_script.specs.Opened.{IsOpenedOf, kind_opened}
 use Rattle.run_script.proofs.GivingObjects.{gives_unasked_of, told_home}
 use Rattle.run_script.proofs.GivingPuts.{gives_said, points_fit}
 use Rattle.run_script.proofs.ReplyRoom.{shards_few}
-use Rattle.run_script.proofs.ReadsFound.{gives_unread, map_not_tx}
+use Rattle.run_script.proofs.ReadsFound.{map_not_tx}
 use Rattle.run_script.proofs.serving.puts.put_all.Goals as goal
 
 pub returns-in_default-clause-rests : goal.returns-in_default-clause-rests
@@ -56,13 +56,12 @@ pub returns-clause-gives : goal.returns-clause-gives
 returns-clause-gives g c =
     let e = c.put_all-put.ensures in
     let is = subst (IsOpenedOf c.args.client.now) c.in-Map.is c.requires.kept in
-    gives_unread c.args.store.now c.args.client.now c.put_all-put.new.client c.args.opened.now
-    (opened.Map c.in-Map.single c.put_all-put.new.self) _ (λ object. whats.PutAll object c.args.pairs) c.appended.result
-    (ap kind_opened c.in-Map.is ∙ (ap (λ (home : ℕ). kinds.Map home c.in-Map.single.colours) (sym is.2)
-    ∙ ap (λ (colours : List ℕ). kinds.Map c.in-Map.several.home colours) (sym is.3))) (returns-clause-stays g c).0 (λ object. refl)
-    (gives_said c.args.store.now c.args.client.now c.put_all-put.new.client e.client c.put_all-put.result
+    gives_said c.args.store.now c.args.client.now c.put_all-put.new.client e.client c.args.opened.now
+    (opened.Map c.in-Map.single c.put_all-put.new.self) (returns-clause-stays g c).0 c.put_all-put.result
     c.appended.result c.appended.ensures (kinds.Map c.in-Map.several.home c.in-Map.several.colours)
     (λ object. whats.PutAll object c.args.pairs) (ShardsOf (keys_of_pairs c.args.pairs))
     (form_text (forms.PutAll c.args.pairs)) (shards c.in-Map.several.colours (keys_of_pairs c.args.pairs))
-    (Some c.in-Map.several.home) (record { uses = λ object. refl; appends = λ object. refl; said = λ object. refl }) refl refl
-    (λ set are. are) (told_home c.args.client.now c.in-Map.several.home c.put_all-put.result e.away) e.ok e.err)
+    (Some c.in-Map.several.home) (record { uses = λ object. refl; appends = λ object. refl; said = λ object. refl })
+    (ap kind_opened c.in-Map.is ∙ (ap (λ (home : ℕ). kinds.Map home c.in-Map.single.colours) (sym is.2)
+    ∙ ap (λ (colours : List ℕ). kinds.Map c.in-Map.several.home colours) (sym is.3))) refl refl
+    (λ set are. are) (told_home c.args.client.now c.in-Map.several.home c.put_all-put.result e.away) e.ok e.err

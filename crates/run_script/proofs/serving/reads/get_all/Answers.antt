@@ -7,7 +7,7 @@ use Rattle.run_script.specs.Opened.{IsOpenedOf, kind_opened}
 use Rattle.run_script.proofs.FewShown.{shows_few_all}
 use Rattle.run_script.proofs.GivingObjects.{gives_unasked_of}
 use Rattle.run_script.proofs.GivingReads.{gives_map_get_all}
-use Rattle.run_script.proofs.ReadsFound.{gives_unread, map_not_tx}
+use Rattle.run_script.proofs.ReadsFound.{map_not_tx}
 use Rattle.run_script.proofs.serving.reads.get_all.Goals as goal
 
 pub returns-in_default-clause-gives : goal.returns-in_default-clause-gives
@@ -46,9 +46,9 @@ pub returns-clause-gives : goal.returns-clause-gives
 returns-clause-gives g c =
     let kept = subst (IsOpenedOf c.args.client.now) c.in-Map.is c.requires.kept in
     let e = c.get_all-get.ensures in
-    gives_unread c.args.store.now c.args.client.now c.get_all-get.new.client c.args.opened.now
-    (opened.Map c.in-Map.single c.get_all-get.new.self) _ (λ object. whats.GetAll object c.args.keys) c.got_keys.result
+    gives_map_get_all c.args.store.now c.args.client.now c.get_all-get.new.client e.client c.got_keys.result c.args.opened.now
+    (opened.Map c.in-Map.single c.get_all-get.new.self) c.in-Map.several.home c.in-Map.several.colours c.in-Map.several.last
+    c.args.keys c.get_all-get.result
     (ap kind_opened c.in-Map.is ∙ (ap (λ (home : ℕ). kinds.Map home c.in-Map.single.colours) (sym kept.2)
-    ∙ ap (λ (colours : List ℕ). kinds.Map c.in-Map.several.home colours) (sym kept.3))) (returns-clause-stays g c).0 (λ object. refl)
-    (gives_map_get_all c.args.store.now c.args.client.now c.get_all-get.new.client e.client c.got_keys.result
-    c.in-Map.several.home c.in-Map.several.colours c.in-Map.several.last c.args.keys c.get_all-get.result c.got_keys.ensures e.away e.ok e.err)
+    ∙ ap (λ (colours : List ℕ). kinds.Map c.in-Map.several.home colours) (sym kept.3))) (returns-clause-stays g c).0
+    c.got_keys.ensures e.away e.ok e.err

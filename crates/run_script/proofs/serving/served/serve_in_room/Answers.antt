@@ -8,7 +8,6 @@ use Rattle.script_beside.specs.Dealt.{share_commands}
 use Rattle.report_text.specs.declared.report.ReplyLine.{ReplyLine}
 use Rattle.run_script.specs.Served.{IsServable}
 use Rattle.run_script.specs.Serving.{Serves}
-use Rattle.run_script.proofs.ObjectFrames.{of_one_on, some_objects}
 use Rattle.run_script.proofs.Pieces.{all_pieces}
 use Rattle.run_script.proofs.ServedClients.{forgets_same, forgotten, serves_next, was_served}
 use Rattle.run_script.proofs.Yielding.{there, finished_before, room_left}
@@ -16,20 +15,18 @@ use Rattle.run_script.proofs.serving.served.serve_in_room.Goals as goal
 
 pub loop-command-init : goal.loop-command-init
 loop-command-init g c = record {
+  of = c.requires.can.of;
   kept = λ done. c.requires.can.kept;
-  kinds = refl;
-  serves = λ objects of. subst (λ (rs : List ReplyLine). Serves c.args.store.now objects c.args.served.now.client
+  serves = subst (λ (rs : List ReplyLine). Serves c.args.store.now c.args.objects.now c.args.served.now.client
       c.args.served.now.objects.items [] rs)
-      (sym c.requires.can.replies) (c.requires.can.serves objects);
+      (sym c.requires.can.replies) c.requires.can.serves;
   same = (refl, refl);
   count = ap length c.requires.can.replies;
   room = refl;
 }
 
 pub serve-reply-requires-clause-client : goal.serve-reply-requires-clause-client
-serve-reply-requires-clause-client g c κs within =
-    let some = some_objects c.args.served.now.objects.items in
-    (c.loop-command.invariant.serves some.0 some.1).rests
+serve-reply-requires-clause-client g c κs within = c.loop-command.invariant.serves.rests
 
 pub serve-reply-requires-clause-kept : goal.serve-reply-requires-clause-kept
 serve-reply-requires-clause-kept g c κs within =
@@ -42,13 +39,11 @@ serve-reply-requires-clause-kept g c κs within =
     let t = YieldsList-turn all yielded _
     c.loop-command.yielded_by _ c.next.new.self c.in-Some.command c.in-Some.is c.next.ensures.steps in
     let so_far = sym (map-id yielded) ∙ YieldsList-so_far all yielded _ c.loop-command.yielded_by in
-    let some = some_objects c.args.served.now.objects.items in
-    was.kept (finished_before c.args.store.now some.0 c.loop-command.served.client commands
+    was.kept (finished_before c.args.store.now c.args.objects.now c.loop-command.served.client commands
     (length yielded) c.in-Some.command c.loop-command.served.objects.items yielded c.loop-command.served.replies.items
     c.requires.can.stops
     (there commands (length yielded) c.in-Some.command
-    t) so_far
-    (was.serves some.0 some.1))
+    t) so_far was.serves)
 
 -- one of the commands that can be served
 servable : (P : Command → Type 0) (commands : List Command) (n : ℕ) (command : Command) → All P commands
@@ -65,13 +60,8 @@ serve-reply-requires-clause-command g c κs within =
     let commands = share_commands c.args.served.now.commands.items in
     let t = YieldsList-turn all yielded _
     c.loop-command.yielded_by _ c.next.new.self c.in-Some.command c.in-Some.is c.next.ensures.steps in
-    let is = servable (IsServable c.args.store.now c.args.served.now.objects.items) commands
-    (length yielded) c.in-Some.command c.requires.can.servable
-    (there commands (length yielded) c.in-Some.command t) in record {
-      within = is.within;
-      of_one = of_one_on c.args.served.now.objects.items c.loop-command.served.objects.items c.in-Some.command.what
-          c.loop-command.invariant.kinds is.of_one;
-    }
+    servable (IsServable c.args.store.now c.args.objects.now) commands (length yielded) c.in-Some.command
+    c.requires.can.servable (there commands (length yielded) c.in-Some.command t)
 
 pub push_reserved-requires : goal.push_reserved-requires
 push_reserved-requires g c =
@@ -88,6 +78,7 @@ pub loop-command-preserved : goal.loop-command-preserved
 loop-command-preserved g c =
     let was = c.loop-command.invariant in
     let store = c.args.store.now in
+    let objects = c.args.objects.now in
     let client = c.loop-command.served.client in
     let yielded = c.loop-command.yielded in
     let replies = c.loop-command.served.replies.items in
@@ -99,23 +90,20 @@ loop-command-preserved g c =
     c.loop-command.yielded_by _ c.next.new.self c.in-Some.command c.in-Some.is c.next.ensures.steps in
     let so_far = sym (map-id yielded) ∙ YieldsList-so_far all yielded _ c.loop-command.yielded_by in
     let stops = c.requires.can.stops in
-    let some = some_objects c.args.served.now.objects.items in
-    let finished = finished_before store some.0 client commands (length yielded) c.in-Some.command
+    let finished = finished_before store objects client commands (length yielded) c.in-Some.command
     c.loop-command.served.objects.items yielded replies stops (there commands (length yielded) c.in-Some.command
-    t) so_far
-    (was.serves some.0 some.1) in
-    let e = c.serve-reply.ensures.answered some.0 (some.1 ∙ sym was.kinds) in
+    t) so_far was.serves in
+    let e = c.serve-reply.ensures.answered in
     let items_are = ap length c.push_reserved.ensures.items in
     let long = length_push yielded c.in-Some.command in
     let longer = length_push replies c.serve-reply.result in
     record {
+      of = c.serve-reply.ensures.of;
       kept = c.serve-reply.ensures.kept;
-      kinds = c.serve-reply.ensures.same ∙ was.kinds;
-      serves = λ objects of. subst (Serves store objects c.serve-reply.new.client c.serve-reply.new.opened.items (yielded ++ c.in-Some.command ∷ []))
+      serves = subst (Serves store objects c.serve-reply.new.client c.serve-reply.new.slots.items (yielded ++ c.in-Some.command ∷ []))
           (sym c.push_reserved.ensures.items)
           (serves_next store objects client c.serve-reply.new.client c.loop-command.served.objects.items
-          c.serve-reply.new.opened.items yielded replies c.in-Some.command c.serve-reply.result
-          (was.serves objects of) finished (c.serve-reply.ensures.answered objects (of ∙ sym was.kinds)));
+          c.serve-reply.new.slots.items yielded replies c.in-Some.command c.serve-reply.result was.serves finished e);
       same = (e.2.same.0 ∙ was.same.0, e.2.same.1 ∙ was.same.1);
       count = omega (arith, items_are, long, longer, was.count);
       room = c.push_reserved.ensures.capacity ∙ was.room;
@@ -130,23 +118,22 @@ returns g c =
     let t = YieldsList-end all c.loop-command.yielded _ c.loop-command.yielded_by _ c.next.new.self c.in-None.is c.next.ensures.steps in
     let whole = sym (map-id c.loop-command.yielded) ∙ t.0 in
     let store = c.args.store.now in
+    let objects = c.args.objects.now in
     let client = c.loop-command.served.client in
     let xs = c.loop-command.served.objects.items in
     let replies = c.loop-command.served.replies.items in
     record {
       same = forgets_same c.args.served.now.client client c.forget_played.new.self c.loop-command.invariant.same
           c.forget_played.ensures;
-      served = λ objects of. forgotten store objects client c.forget_played.new.self commands replies
+      served = forgotten store objects client c.forget_played.new.self commands replies
           (was_served store objects client xs commands replies
-          (subst (λ (l : List Command). Serves store objects client xs l replies) whole
-          (c.loop-command.invariant.serves objects of)))
+          (subst (λ (l : List Command). Serves store objects client xs l replies) whole c.loop-command.invariant.serves))
           c.forget_played.ensures;
     }
 
 pub forget_played-requires : goal.forget_played-requires
 forget_played-requires g c =
-    let some = some_objects c.args.served.now.objects.items in
-    let first = (c.requires.can.serves some.0).rests.colours in
-    let last = (c.loop-command.invariant.serves some.0 some.1).rests.colours in
+    let first = c.requires.can.serves.rests.colours in
+    let last = c.loop-command.invariant.serves.rests.colours in
     let few = c.requires.can.few in
     omega (arith, first, last, few)

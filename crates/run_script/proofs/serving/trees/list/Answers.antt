@@ -10,7 +10,7 @@ use Rattle.run_script.specs.Serving.{GivesTo}
 use Rattle.run_script.proofs.FewShown.{shows_few_each}
 use Rattle.run_script.proofs.GivingObjects.{gives_unasked_of}
 use Rattle.run_script.proofs.GivingTrees.{gives_list}
-use Rattle.run_script.proofs.ReadsFound.{gives_unread, tree_not_tx}
+use Rattle.run_script.proofs.ReadsFound.{tree_not_tx}
 use Rattle.run_script.proofs.serving.trees.list.Goals as goal
 
 pub returns-in_default-clause-gives : goal.returns-in_default-clause-gives
@@ -33,11 +33,9 @@ names_shown-requires-clause-few g c =
 pub returns-clause-gives : goal.returns-clause-gives
 returns-clause-gives g c =
     let e = c.list-listed.ensures in
-    gives_unread c.args.store.now c.args.client.now c.list-listed.new.client c.args.opened.now
-    (opened.Tree c.list-listed.new.self) _ (λ object. whats.Ls object c.args.path) c.names_shown.result
-    (ap kind_opened c.in-Tree.is)
+    gives_list c.args.store.now c.args.client.now c.list-listed.new.client e.client c.args.opened.now
+    (opened.Tree c.list-listed.new.self) c.in-Tree.tree (ap kind_opened c.in-Tree.is)
     (ap (λ (home : ℕ). kinds.Tree home c.list-listed.new.self.colours) e.same.0
-    ∙ (ap (λ (colours : List ℕ). kinds.Tree c.in-Tree.tree.home colours) e.same.1 ∙ ap kind_opened (sym c.in-Tree.is))) (λ object. refl)
-    (gives_list c.args.store.now c.args.client.now c.list-listed.new.client e.client c.in-Tree.tree c.args.path
+    ∙ (ap (λ (colours : List ℕ). kinds.Tree c.in-Tree.tree.home colours) e.same.1 ∙ ap kind_opened (sym c.in-Tree.is))) c.args.path
     c.in-Some.place (ap path_of (sym c.as_bytes.ensures) ∙ (sym c.in-Ok.ensures ∙ c.in-Some.is)) c.list-listed.result c.names_shown.result c.names_shown.ensures
-    e.away e.ok e.err)
+    e.away e.ok e.err
