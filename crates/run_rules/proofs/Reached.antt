@@ -29,7 +29,7 @@ use Rattle.script_text.specs.Fitting.{IsFitting, IsWithin, IsKindWithin}
 use Rattle.report_text.specs.declared.report.ClientReport.{ClientReport}
 use Rattle.report_text.specs.declared.report.Report.{Report}
 use Rattle.lawful_run.specs.Callers.{Caller, caller_of}
-use Rattle.lawful_run.specs.Asks.{kind_of_object, kind_used, kind_asked, keys_of_pairs, object_colours}
+use Rattle.lawful_run.specs.Asks.{kind_of_object, kind_used, kind_asked, keys_of_pairs, object_colours, rising}
 use Rattle.lawful_run.specs.Deeds.{Reach, NoColours, Named, One, ShardsOf, Whole, Listed, ShardThenWhole, Saying, colours_reached, deed_of, colours_synced, saying_of, says_change, found_by}
 use Rattle.lawful_run.proofs.CallerLemmas.{get_within}
 use Rattle.run_rules.specs.Told.{colours_said, colours_asked}
@@ -61,6 +61,12 @@ module _ (count : ℕ) (some : 0 < count) where
   NamesBelow (One colour) = colour < count
   NamesBelow _ = Unit {0}
 
+  rising_below : (own : List ℕ) → Below count own → Below count (rising own)
+  rising_below own b c i =
+      let t = in_filter (λ (k : ℕ). list_any (λ (d : ℕ). d == k) own) c (range_with_len 0 MAX_COLOURS) i in
+      let x = any_of (λ (d : ℕ). d == c) own t.1 in
+      subst (λ (k : ℕ). k < count) (eqb-true x.0 c x.2) (b x.0 x.1)
+
   reached_below : (own : List ℕ) → Below count own → (reach : Reach) → NamesBelow reach → Below count (colours_reached own reach)
   reached_below own b NoColours n c i = absurd i
   reached_below own b (Named colours) n c i = n c i
@@ -71,14 +77,11 @@ module _ (count : ℕ) (some : 0 < count) where
       let x = any_of (λ (key : List ℕ). shard_of own key == c) keys t.1 in
       subst (λ (k : ℕ). k < count) (eqb-true (shard_of own x.0) c x.2)
       (index_below own (sum x.0 % length own) b)
-  reached_below own b Whole n c i =
-      let t = in_filter (λ (k : ℕ). list_any (λ (d : ℕ). d == k) own) c (range_with_len 0 MAX_COLOURS) i in
-      let x = any_of (λ (d : ℕ). d == c) own t.1 in
-      subst (λ (k : ℕ). k < count) (eqb-true x.0 c x.2) (b x.0 x.1)
+  reached_below own b Whole n c i = rising_below own b c i
   reached_below own b Listed n c i = b c i
   reached_below own b (ShardThenWhole key) n c (inl e) =
       subst (λ (k : ℕ). k < count) e (index_below own (sum key % length own) b)
-  reached_below own b (ShardThenWhole key) n c (inr i) = reached_below own b Whole tt c i
+  reached_below own b (ShardThenWhole key) n c (inr i) = rising_below own b c i
 
   module _ (regions : ℕ) where
     synced_names : (what : What) → IsWithin regions count what → NamesBelow (deed_of what).syncs
