@@ -34,7 +34,7 @@ use Rattle.report_text.specs.declared.report.RaisePiece.{RaisePiece}
 use Rattle.report_text.specs.declared.report.ReplyLine.{ReplyLine}
 use Rattle.report_text.specs.declared.report.SyncPiece.{SyncPiece}
 use Rattle.object_fold.specs.Nodes.{shard_of}
-use Rattle.lawful_run.proofs.CallerLemmas.{kept_after_hidden, before_is, behind_is, one_shard, points_leave}
+use Rattle.lawful_run.proofs.CallerLemmas.{kept_after_hidden, before_is, behind_is, not_several, points_leave}
 use Rattle.lawful_run.specs.Callers.{Caller, node_of}
 use Rattle.lawful_run.specs.Asks.{shards, object_colours, kind_asked, Manner, Appending, Guarding, Stopping, Syncing, Moving, Getting, Reading, Committing, Dequeuing, Deciding, rising}
 use Rattle.lawful_run.specs.Deeds.{Reach, NoColours, Named, One, ShardsOf, Saying, says_change, saying_of, found_by, Reaches, SaysNode, AsksToAppend, colours_synced, manner_of}
@@ -79,28 +79,6 @@ reaches_several _ = true
 
 two_or_more : (n : ℕ) → 2 ≤ n → nat_lt 1 n ≡ true
 two_or_more n two = grind (arith, two)
-
--- a number beyond a range is none of it
-beyond : (c a n : ℕ) → a + n ≤ c → filter (λ x. (c == x) || false) (range_with_len a n) ≡ []
-beyond c a zero le = refl
-beyond c a (suc n) le =
-    step c a n le (filter (λ x. (c == x) || false) (range_with_len (a + 1) n)) (beyond c (a + 1) n (omega (arith, le))) (c == a) refl where
-      step : (c a n : ℕ) → a + suc n ≤ c → (rest : List ℕ) → rest ≡ [] → (b : Bool) → (c == a) ≡ b
-          → cond (b || false) (a ∷ rest) rest ≡ []
-      step c a n le rest none true t = let e = eqb-true c a t in absurd (let f : ⊥ = omega (arith, le, e) in f)
-      step c a n le rest none false f = none
-
--- one key has no two shards
-not_several : (colours key several : List ℕ) → several ≡ shards colours (key ∷ []) → 2 ≤ length several → ⊥
-not_several colours key several is two = at (cases_lt (shard_of colours key) MAX_COLOURS) where
-  long : length several ≡ length (shards colours (key ∷ []))
-  long = ap length is
-
-  at : (shard_of colours key < MAX_COLOURS) ⊎ (MAX_COLOURS ≤ shard_of colours key) → ⊥
-  at (inl low) = let e = ap length (one_shard colours key low) in let f : ⊥ = omega (arith, two, long, e) in f
-  at (inr high) =
-      let e = ap length (beyond (shard_of colours key) 0 MAX_COLOURS (omega (arith, high))) in
-      let f : ⊥ = omega (arith, two, long, e) in f
 
 -- a node with several colours is of a reach that may have them
 reached : (own : List ℕ) (reach : Reach) (colours : Colours) → Reaches own reach colours → 2 ≤ length (members colours)

@@ -27,7 +27,9 @@ mod ReadOrder
 mod Folds
 mod CausalGets
 mod ReadsKept
+mod Shards
 mod ObjectAnswers
+mod PartAnswers
 mod TreeAsks
 mod Places
 pub mod CallerLemmas

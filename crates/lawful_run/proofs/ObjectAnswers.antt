@@ -1,5 +1,5 @@
 -- How the answers to commands of objects are explained, put together from their parts: appends, syncs and folds.
-use Rattle.std.proofs.Common.{◌≡◌, ◌≢◌, ◌⊎◌, inl, inr, Bool, ℕ, ◌<◌, List, [], ◌∷◌, Option, Some, None, slice_get, refl, sym, subst, ap, ◌∙◌}
+use Rattle.std.proofs.Common.{◌≡◌, ◌≢◌, ◌⊎◌, inl, inr, ℕ, ◌<◌, List, [], ◌∷◌, Option, Some, None, refl, sym, subst}
 use Rattle.std.specs.List.{AllZip, Contains}
 use Rattle.std.proofs.lemmas.List.Elements.{All-cons, All-nil}
 use Rattle.log_node.specs.declared.ids.Colours.{Colours}
@@ -10,16 +10,12 @@ use Rattle.log_node.specs.declared.limits.TheConstants.{MAX_COLOURS}
 use Rattle.log_node.specs.declared.node.At.TheVariants.{Event}
 use Rattle.log_node.specs.Sets.{members}
 use Rattle.log_node.specs.Vectors.{at}
-use Rattle.log_node.proofs.CallerLemmas.{members-one, members-set_of}
 use Rattle.object_form.specs.declared.tree_why.TreeWhy.{TreeWhy}
 use Rattle.object_fold.specs.Causal.{ChainNode, IsCausalAnswer}
 use Rattle.object_fold.specs.Folds.{told_of}
 use Rattle.object_fold.specs.Maps.{Value, shard_value}
 use Rattle.object_fold.specs.Nodes.{ObjectNode, shard_of}
 use Rattle.object_fold.specs.Transactions.{values_after, versions_after, verdict_of}
-use Rattle.part_fold.specs.Agreement.{part_at}
-use Rattle.part_fold.specs.Decisions.{decision_text}
-use Rattle.part_fold.specs.Parts.{part_value, undecided_after}
 use Rattle.tree_fold.specs.Paths.{Path}
 use Rattle.tree_fold.specs.Readings.{path_of}
 use Rattle.tree_fold.specs.Trees.{tree_after, telling, told_under, IsNamesAnswer}
@@ -27,54 +23,23 @@ use Rattle.col_core.specs.History.{entry_key}
 use Rattle.col_core.specs.Cuts.{chain}
 use Rattle.col_core.specs.Log.{Log, first}
 use Rattle.col_core.specs.Keeping.{Kept, kept_after_look, with_read}
-use Rattle.script_text.specs.declared.script.Kind.{Kind}
 use Rattle.script_text.specs.declared.script.Kind.TheVariants as kinds
 use Rattle.script_text.specs.declared.commands.What.{What}
 use Rattle.script_text.specs.declared.commands.What.TheVariants as whats
-use Rattle.script_text.specs.declared.uses.Use.{Use}
 use Rattle.report_text.specs.declared.report.Answer.TheVariants as answers
-use Rattle.report_text.specs.declared.report.Ended.{Ended}
 use Rattle.report_text.specs.declared.report.KeyAnswer.{KeyAnswer}
 use Rattle.report_text.specs.declared.report.PointPiece.{PointPiece}
 use Rattle.report_text.specs.declared.report.RaisePiece.{RaisePiece}
 use Rattle.report_text.specs.declared.report.SyncPiece.{SyncPiece}
 use Rattle.lawful_run.specs.Callers.{Caller, node_of}
-use Rattle.lawful_run.specs.Asks.{kind_of_object, object_colours, colours_of_object, home_of_object, home_asked, kind_asked, kind_used, rising, shards, Appending, Getting, Committing, Dequeuing, Manner}
-use Rattle.lawful_run.specs.Deeds.{AsksForKey, Deed, colours_reached, colours_synced, AsksToAppend, manner_of}
+use Rattle.lawful_run.specs.Asks.{kind_of_object, colours_of_object, home_of_object, home_asked, rising, Appending, Getting, Committing, Dequeuing, Manner}
+use Rattle.lawful_run.specs.Deeds.{AsksForKey, colours_synced, AsksToAppend, manner_of}
 use Rattle.lawful_run.specs.Appends.{Appends, AppendsUnshown, IsSoLong, WasNext}
 use Rattle.lawful_run.specs.Reads.{Syncs, IsTrimmed, HidesSyncs, kept_after_piece, ReadsAt, AreKeysRead, HidesRead, RefusesRead}
 use Rattle.lawful_run.specs.Objects.{AreObjectNodes, AreAnswers, IsChainNode, TakesFront, own_played, places_within, shown_verdict}
-use Rattle.lawful_run.specs.Parts.{EndsAs, IsRuledAs}
-use Rattle.lawful_run.specs.Refusals.{Hides, HidesDecide, Refuses, RefusesDecide, hidden}
+use Rattle.lawful_run.specs.Refusals.{Hides, Refuses, hidden}
 use Rattle.lawful_run.specs.Explains.{Explains}
-
--- one key has one shard
-pub one_shard : (colours key : List ℕ) → shard_of colours key < MAX_COLOURS
-    → shards colours (key ∷ []) ≡ shard_of colours key ∷ []
-one_shard colours key low =
-    sym (members-set_of (shard_of colours key ∷ [])) ∙ members-one (shard_of colours key) low
-
--- what asks for a key gets, and syncs the key's shard
-pub key_gets : (what : What) (object : ℕ) (key : List ℕ) → AsksForKey what object key → manner_of what ≡ Getting
-key_gets what object key asks = ap (λ (d : Deed). d.manner) asks.gets
-
-pub key_synced : (caller : Caller) (what : What) (object : ℕ) (key : List ℕ) (kind : Option Kind)
-    → AsksForKey what object key → kind_of_object caller object ≡ kind
-    → colours_synced caller what ≡ shards (object_colours kind) (key ∷ [])
-key_synced caller what object key kind asks at =
-    ap (λ (d : Deed). colours_reached (object_colours (kind_asked caller what)) d.syncs) asks.gets
-    ∙ (ap (λ (u : Use). shards (object_colours (kind_used caller u)) (key ∷ [])) asks.uses
-    ∙ ap (λ (k : Option Kind). shards (object_colours k) (key ∷ [])) at)
-
--- what asks for a key of an object with these colours syncs its shard alone
-shard_synced : (caller : Caller) (what : What) (object : ℕ) (key colours : List ℕ) (kind : Option Kind) (sync : SyncPiece)
-    → AsksForKey what object key → kind_of_object caller object ≡ kind → object_colours kind ≡ colours
-    → shard_of colours key < MAX_COLOURS → sync.colour ≡ shard_of colours key
-    → colours_synced caller what ≡ sync.colour ∷ []
-shard_synced caller what object key colours kind sync asks at own low shard =
-    key_synced caller what object key kind asks at
-    ∙ (ap (λ (cs : List ℕ). shards cs (key ∷ [])) own
-    ∙ (one_shard colours key low ∙ ap (λ (c : ℕ). c ∷ []) (sym shard)))
+use Rattle.lawful_run.proofs.Shards.{shard_synced}
 
 module _ (log : Log) (caller : Caller) (kept : Kept) where
   -- A put, a deletion, several puts at once and an enqueue are explained by their append.
@@ -138,128 +103,6 @@ module _ (log : Log) (caller : Caller) (kept : Kept) where
     syncs,
     refl,
   )
-
-  -- A peek is explained by a sync of the key's shard, and the part after the own nodes that its snapshot counts.
-  pub explains_peek : (what : What) (object home : ℕ) (colours key : List ℕ) (place : ℕ) (sync : SyncPiece)
-      (value : Value) (nodes : List ObjectNode) → AsksForKey what object key
-      → kind_of_object caller object ≡ Some (kinds.Parts home colours) → shard_of colours key < MAX_COLOURS
-      → sync.colour ≡ shard_of colours key → slice_get colours place ≡ Some sync.colour
-      → Syncs log caller kept sync.colour sync.events sync.counts
-      → AreObjectNodes log (own_played log caller sync) nodes
-      → undecided_after (part_at colours place) nodes ≡ None → value ≡ part_value (part_at colours place) nodes key
-      → Explains log caller kept what (answers.Got value sync) [] (kept_after_piece log caller kept sync)
-  explains_peek what object home colours key place sync value nodes asks kind low shard here syncs played decided is = (
-    refl,
-    (
-      nodes,
-      played,
-      inl (
-        Some (kinds.Parts home colours),
-        key,
-        (
-          object,
-          asks,
-          kind,
-          shard_synced caller what object key colours (Some (kinds.Parts home colours)) sync asks kind refl low shard,
-        ),
-        (place, here, (decided, is)),
-      ),
-    ),
-    syncs,
-    refl,
-  )
-
-  -- One that finds no value yet: the part waits for a decision.
-  pub explains_undecided : (what : What) (object home : ℕ) (colours key : List ℕ) (place : ℕ) (sync : SyncPiece)
-      (waits : Key) (nodes : List ObjectNode) → AsksForKey what object key
-      → kind_of_object caller object ≡ Some (kinds.Parts home colours) → shard_of colours key < MAX_COLOURS
-      → sync.colour ≡ shard_of colours key → slice_get colours place ≡ Some sync.colour
-      → Syncs log caller kept sync.colour sync.events sync.counts
-      → AreObjectNodes log (own_played log caller sync) nodes
-      → undecided_after (part_at colours place) nodes ≡ Some waits
-      → Explains log caller kept what (answers.Undecided waits.stamp sync) [] (kept_after_piece log caller kept sync)
-  explains_undecided what object home colours key place sync waits nodes asks kind low shard here syncs played waiting = (
-    refl,
-    (
-      nodes,
-      played,
-      (
-        home,
-        colours,
-        key,
-        (
-          object,
-          asks,
-          kind,
-          shard_synced caller what object key colours (Some (kinds.Parts home colours)) sync asks kind refl low shard,
-        ),
-        waits,
-        refl,
-        (place, here, waiting),
-      ),
-    ),
-    syncs,
-    refl,
-  )
-
-  -- A decide that finds nothing to decide.
-  pub explains_settled : (object home : ℕ) (colours key : List ℕ) (place : ℕ) (sync : SyncPiece)
-      (nodes : List ObjectNode) → kind_of_object caller object ≡ Some (kinds.Parts home colours)
-      → sync.colour ≡ shard_of colours key → slice_get colours place ≡ Some sync.colour
-      → Syncs log caller kept sync.colour sync.events sync.counts
-      → AreObjectNodes log (own_played log caller sync) nodes
-      → undecided_after (part_at colours place) nodes ≡ None
-      → Explains log caller kept (whats.Decide object key) (answers.Got None sync) []
-      (kept_after_piece log caller kept sync)
-  explains_settled object home colours key place sync nodes kind shard here syncs played decided = (
-    refl,
-    (nodes, played, inr (colours, (object, key, refl, home, kind, shard), refl, (place, here, decided))),
-    syncs,
-    refl,
-  )
-
-  -- A decision is explained by a sync of the key's shard, a stamped read of all colours, the verdict among what was read,
-  -- and how the append of its node ended.
-  pub explains_decided : (object home : ℕ) (colours key : List ℕ) (place : ℕ) (sync : SyncPiece)
-      (played : List ObjectNode) (waits : Key) (commits : Bool) (read_stamp : ℕ) (raises : List RaisePiece)
-      (syncs : List SyncPiece) (read : Kept) (keys : List Key) (objects : List ObjectNode) (ended : Ended) (after : Kept)
-      → kind_of_object caller object ≡ Some (kinds.Parts home colours)
-      → sync.colour ≡ shard_of colours key → slice_get colours place ≡ Some sync.colour
-      → Syncs log caller kept sync.colour sync.events sync.counts
-      → AreObjectNodes log (own_played log caller sync) played
-      → undecided_after (part_at colours place) played ≡ Some waits
-      → ReadsAt log caller (kept_after_piece log caller kept sync) (rising colours) read_stamp raises syncs read
-      → AreKeysRead log caller read_stamp syncs keys → AreObjectNodes log keys objects → IsRuledAs waits commits objects
-      → EndsAs log caller read (whats.Decide object key) (decision_text (record { key = waits; commits = commits }))
-      ended after
-      → Explains log caller kept (whats.Decide object key)
-      (answers.Decided commits waits.stamp sync read_stamp raises syncs ended) [] after
-  explains_decided object home colours key place sync played waits commits read_stamp raises syncs read keys objects ended
-      after kind shard here synced are_played waiting reads are_read nodes rules ends = (
-        refl,
-        colours,
-        (object, key, refl, home, kind, shard),
-        record {
-          synced = synced;
-          waits = waits;
-          stamp_is = refl;
-          waiting = (played, are_played, (place, here, waiting));
-          read = read;
-          tells = (reads, keys, are_read, objects, nodes, rules);
-          ends = ends;
-        },
-      )
-
-  -- A decide that is refused, or finds no memory before its decision.
-  pub explains_decide_refused : (object : ℕ) (key : List ℕ) (colour : ℕ) (base : Counts) (after : Kept)
-      → RefusesDecide log caller kept (colours_synced caller (whats.Decide object key)) colour base after
-      → Explains log caller kept (whats.Decide object key) (answers.Trimmed colour base) [] after
-  explains_decide_refused object key colour base after refused = (refl, inr (inr (inr refl)), refused)
-
-  pub explains_decide_hidden : (object : ℕ) (key : List ℕ) (after : Kept)
-      → HidesDecide log caller kept (colours_synced caller (whats.Decide object key)) after
-      → Explains log caller kept (whats.Decide object key) answers.NoMemory [] after
-  explains_decide_hidden object key after hides = (refl, hidden after hides)
 
   -- A get of a causal map is explained by a sync of its colour, and the answer over all nodes that its snapshot counts.
   pub explains_values : (what : What) (object : ℕ) (key : List ℕ) (sync : SyncPiece) (nodes : List ChainNode)
