@@ -16,7 +16,6 @@ use Rattle.col_core.specs.Cuts.{chain}
 use Rattle.col_core.specs.Log.{first}
 use Rattle.lawful_run.specs.Objects.{IsChainNode, AreObjectNodes}
 use Rattle.lawful_run.specs.Parts.{HasValue}
-use Rattle.lawful_run.proofs.CallerLemmas.{asked_kind}
 use Rattle.script_text.specs.declared.script.Kind.{Kind}
 use Rattle.wrong_reports.specs.Cases.{IsUnlawful, x, counts, look}
 use Rattle.wrong_reports.specs.Objects.{map, one_pair, refused_at_home, answered_away_from_home, another_home, a_value_of_nothing}
@@ -24,7 +23,7 @@ use Rattle.wrong_reports.specs.Objects.{a_value_of_another_key, a_causal_value_o
 use Rattle.wrong_reports.specs.Objects.{a_dequeue_answered_as_an_append, a_dequeue_of_nothing}
 use Rattle.wrong_reports.specs.Objects.{a_read_that_is_forgotten, a_commit_that_keeps_its_read}
 use Rattle.lawful_run.specs.Callers.{caller_of}
-use Rattle.wrong_reports.proofs.Tools.{only, ends_with, versions_named}
+use Rattle.wrong_reports.proofs.Tools.{only, ends_with, versions_named, asked_kind}
 use Rattle.wrong_reports.proofs.Told.{two}
 
 pub at_home : IsUnlawful refused_at_home

@@ -29,13 +29,12 @@ use Rattle.lawful_run.specs.Explains.{Explained, Answers}
 use Rattle.lawful_run.specs.Lawful.{LawfulRun}
 use Rattle.lawful_run.specs.Objects.{AreObjectNodes}
 use Rattle.lawful_run.specs.Parts.{HasValue, OfPart, WaitsFor}
-use Rattle.lawful_run.proofs.CallerLemmas.{asked_kind, decide_kind}
 use Rattle.wrong_reports.specs.Cases.{IsUnlawful, a, x, y, asks, counts, look, replies}
 use Rattle.wrong_reports.specs.Parts.{parts, reads, commits, finds_none, committed, a_pair, waiting}
 use Rattle.wrong_reports.specs.Parts.{undecided_where_nothing_waits, a_value_where_a_transaction_waits}
 use Rattle.wrong_reports.specs.Parts.{nothing_to_decide_where_a_transaction_waits, a_decision_that_says_the_opposite}
 use Rattle.wrong_reports.specs.Rows.{complete}
-use Rattle.wrong_reports.proofs.Tools.{EndsWith, only, ends_with, column_at, some_same, versions_named}
+use Rattle.wrong_reports.proofs.Tools.{EndsWith, only, ends_with, column_at, some_same, versions_named, asked_kind, decide_kind}
 use Rattle.wrong_reports.proofs.Told.{two}
 use Rattle.wrong_reports.proofs.WrongObjects.{no_nodes}
 use Rattle.wrong_reports.proofs.WrongVerdict.{the_key, read_nothing, read_alone, in_none, in_alone, one_object, node_is, first_there, same_read}
