@@ -14,5 +14,5 @@ pub use Rattle.lawful_run.proofs.ObjectAnswers.{explains_change, explains_names}
 pub use Rattle.lawful_run.proofs.PartAnswers.{explains_peek, explains_undecided, explains_settled, explains_decided, explains_decide_refused, explains_decide_hidden}
 pub use Rattle.lawful_run.proofs.Places.{more_places, range_more, same_places}
 pub use Rattle.lawful_run.proofs.ReadsKept.{explained_ids, explained_keeps, reads_keep}
-pub use Rattle.lawful_run.proofs.Shards.{key_gets, key_synced, not_several, one_shard}
+pub use Rattle.lawful_run.proofs.Shards.{asked_kind, decide_kind, key_gets, key_synced, not_several, one_shard}
 pub use Rattle.lawful_run.proofs.TreeAsks.{make_asks, remove_asks, move_asks, path_of_field, below_of_field, make_said, remove_said, move_said, list_said}
