@@ -9,7 +9,7 @@ use Rattle.report_text.specs.declared.report.RaisePiece.{RaisePiece}
 use Rattle.report_text.specs.declared.report.SyncPiece.{SyncPiece}
 use Rattle.report_text.specs.declared.report.KeyAnswer.{KeyAnswer}
 use Rattle.report_text.specs.declared.report.Answer.{Answer}
-use Rattle.report_text.specs.declared.report.Answer.TheVariants.{Stood, StampEnd, Full, Stopped, Synced, Scanned, Pulled, SameRegion, Based, Got, GotMany, GotKeys, Ruled, Changed, Listed, Moved, NoTx, Took, UnreadTrimmed, UnreadNoMemory, Trimmed, NotHome, NoMemory}
+use Rattle.report_text.specs.declared.report.Answer.TheVariants.{Stood, StampEnd, Full, Stopped, Synced, Scanned, Pulled, SameRegion, Based, Got, GotMany, GotKeys, Ruled, Changed, Listed, Undecided, Decided, Moved, NoTx, Took, UnreadTrimmed, UnreadNoMemory, Trimmed, NotHome, NoMemory}
 use Rattle.report_text.specs.declared.report.ReplyLine.{ReplyLine}
 use Rattle.report_text.specs.declared.report.ClientReport.{ClientReport}
 use Rattle.report_text.specs.declared.report.Report.{Report}
@@ -92,6 +92,8 @@ answer_text report (Changed failed stamp row points read_stamp raises syncs) =
     change_text failed stamp ++ row_text row ++ spaced (point_text report) points
     ++ codes " at " ++ decimal read_stamp ++ read_text report raises syncs
 answer_text report (Listed names stamp raises syncs) = names_text names stamp ++ read_text report raises syncs
+answer_text report (Undecided stamp sync) = []
+answer_text report (Decided commits stamp sync read_stamp raises syncs ended) = []
 answer_text report (Moved lined waiting colour events) =
     codes "moved " ++ decimal lined ++ 32 ∷ decimal waiting ++ 32 ∷ look_text report colour events
 answer_text report NoTx = codes "notx"

@@ -256,6 +256,7 @@ impl Printed for Answer {
                 print_names(found, *stamp, names, out);
                 print_read(raises, syncs, names, out);
             }
+            Answer::Undecided { .. } | Answer::Decided { .. } => {}
             Answer::Moved {
                 length,
                 waiting,

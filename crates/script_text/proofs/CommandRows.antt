@@ -5,7 +5,7 @@ use Rattle.script_text.specs.declared.script.Object.{Object}
 use Rattle.script_text.specs.declared.commands.Word.{Word}
 use Rattle.script_text.specs.declared.commands.Word.TheVariants as words
 use Rattle.script_text.specs.declared.table.Kinds.{Kinds}
-use Rattle.script_text.specs.declared.table.TheConstants.{MAP, ANY_MAP, TX, QUEUE, TREE}
+use Rattle.script_text.specs.declared.table.TheConstants.{MAP, ANY_MAP, TX, QUEUE, TREE, PARTS}
 use Rattle.script_text.specs.declared.given.Given.{Given}
 use Rattle.script_text.specs.declared.item.Item.{Item}
 use Rattle.script_text.specs.Commands.{what_of}
@@ -80,4 +80,12 @@ uses_of before args words.Ls given s =
     let whole = s.2.2.1 ∙ (s.2.1.3 ∙ ap (λ (g : Given). record g { path = s.2.1.0 }) s.1.3) in
     subst (λ (g : Given). UsesObject (objects before) (what_of words.Ls g)) (sym whole)
     (has_object TREE (objects before) s.1.0 s.1.2, s.2.1.2)
+uses_of before args words.Peek given s =
+    let whole = s.2.2.1 ∙ (s.2.1.3 ∙ ap (λ (g : Given). record g { key = s.2.1.0 }) s.1.3) in
+    subst (λ (g : Given). UsesObject (objects before) (what_of words.Peek g)) (sym whole)
+    (has_object PARTS (objects before) s.1.0 s.1.2, s.2.1.2)
+uses_of before args words.Decide given s =
+    let whole = s.2.2.1 ∙ (s.2.1.3 ∙ ap (λ (g : Given). record g { key = s.2.1.0 }) s.1.3) in
+    subst (λ (g : Given). UsesObject (objects before) (what_of words.Decide g)) (sym whole)
+    (has_object PARTS (objects before) s.1.0 s.1.2, s.2.1.2)
 uses_of before args _ given s = tt

@@ -4,7 +4,7 @@ use Rattle.script_text.specs.declared.commands.What.{What}
 use Rattle.script_text.specs.declared.commands.What.TheVariants as whats
 use Rattle.script_text.specs.declared.commands.Word.{Word}
 use Rattle.script_text.specs.declared.commands.Word.TheVariants as words
-use Rattle.script_text.specs.declared.commands.TheConstants.{APPEND, STOP, SYNC, SCAN, PULL, TRIM, PUT, GET, DEL, PUTALL, GETALL, READ, COMMIT, ENQ, DEQ, ONLY, MK, RM, MV, LS}
+use Rattle.script_text.specs.declared.commands.TheConstants.{APPEND, STOP, SYNC, SCAN, PULL, TRIM, PUT, GET, DEL, PUTALL, GETALL, READ, COMMIT, ENQ, DEQ, ONLY, MK, RM, MV, LS, PEEK, DECIDE}
 use Rattle.script_text.specs.declared.given.Given.{Given}
 use Rattle.script_text.specs.declared.table.Field.{Field}
 use Rattle.script_text.specs.declared.table.Last.{Last}
@@ -41,6 +41,8 @@ row_of words.Mk = MK
 row_of words.Rm = RM
 row_of words.Mv = MV
 row_of words.Ls = LS
+row_of words.Peek = PEEK
+row_of words.Decide = DECIDE
 
 -- the word of what a command asks for
 abbrev pub word_of : What → Word
@@ -64,6 +66,8 @@ word_of (whats.Mk _ _ _) = words.Mk
 word_of (whats.Rm _ _) = words.Rm
 word_of (whats.Mv _ _ _) = words.Mv
 word_of (whats.Ls _ _) = words.Ls
+word_of (whats.Peek _ _) = words.Peek
+word_of (whats.Decide _ _) = words.Decide
 
 -- what a command asks for, by what its fields give
 abbrev pub what_of : Word → Given → What
@@ -87,6 +91,8 @@ what_of words.Mk g = whats.Mk g.object g.path g.value
 what_of words.Rm g = whats.Rm g.object g.path
 what_of words.Mv g = whats.Mv g.object g.path g.target
 what_of words.Ls g = whats.Ls g.object g.path
+what_of words.Peek g = whats.Peek g.object g.key
+what_of words.Decide g = whats.Decide g.object g.key
 
 -- what it has to do with an object, and with the reads that commits may use up
 abbrev pub use_of : What → Use
@@ -110,6 +116,8 @@ use_of (whats.Mk object path value) = OfObject object Leaves
 use_of (whats.Rm object path) = OfObject object Leaves
 use_of (whats.Mv object source target) = OfObject object Leaves
 use_of (whats.Ls object path) = OfObject object Leaves
+use_of (whats.Peek object key) = OfObject object Leaves
+use_of (whats.Decide object key) = OfObject object Leaves
 
 -- which node it appends
 abbrev pub node_of : What → NodeOf
@@ -133,6 +141,8 @@ node_of (whats.Mk object path value) = OneColour
 node_of (whats.Rm object path) = OneColour
 node_of (whats.Mv object source target) = Several
 node_of (whats.Ls object path) = NoNode
+node_of (whats.Peek object key) = NoNode
+node_of (whats.Decide object key) = OneColour
 
 -- what it says, beside what it is about
 abbrev pub content_of : What → Said
@@ -156,3 +166,5 @@ content_of (whats.Mk object path value) = SaysPathValue path value
 content_of (whats.Rm object path) = SaysPath path
 content_of (whats.Mv object source target) = SaysPaths source target
 content_of (whats.Ls object path) = SaysFolder path
+content_of (whats.Peek object key) = SaysKey key
+content_of (whats.Decide object key) = SaysKey key

@@ -8,7 +8,7 @@ ghost use Rattle.script_text.specs.Words.{word_text};
 ghost use Rattle.script_text.specs.Table.{row_fields, last_of, since_of};
 
 use crate::given::Given;
-use crate::table::{ANY_MAP, Field, Last, MAP, QUEUE, Row, TREE, TX};
+use crate::table::{ANY_MAP, Field, Last, MAP, PARTS, QUEUE, Row, TREE, TX};
 use crate::uses::{Content, NodeOf, ReadUse, Use};
 use log_node::{Colours, Keys, Pairs, Text};
 
@@ -95,6 +95,14 @@ pub enum What {
         object: u8,
         path: Text,
     },
+    Peek {
+        object: u8,
+        key: Text,
+    },
+    Decide {
+        object: u8,
+        key: Text,
+    },
 }
 
 /// A command's word.
@@ -120,6 +128,8 @@ pub enum Word {
     Rm,
     Mv,
     Ls,
+    Peek,
+    Decide,
 }
 
 const OF_ANY_MAP: Field = Field::Object { kinds: ANY_MAP };
@@ -131,6 +141,8 @@ const OF_TX: Field = Field::Object { kinds: TX };
 const OF_QUEUE: Field = Field::Object { kinds: QUEUE };
 
 const OF_TREE: Field = Field::Object { kinds: TREE };
+
+const OF_PARTS: Field = Field::Object { kinds: PARTS };
 
 const BELOW_ROOT: Field = Field::Path { root: false };
 
@@ -258,8 +270,24 @@ pub const LS: Row = (
     2,
 );
 
+pub const PEEK: Row = (
+    Word::Peek,
+    b"peek",
+    &[OF_PARTS, Field::Key],
+    Last::Nothing,
+    2,
+);
+
+pub const DECIDE: Row = (
+    Word::Decide,
+    b"decide",
+    &[OF_PARTS, Field::Key],
+    Last::Nothing,
+    2,
+);
+
 /// All words.
-pub const WORDS: [Word; 20] = [
+pub const WORDS: [Word; 22] = [
     Word::Append,
     Word::Stop,
     Word::Sync,
@@ -280,6 +308,8 @@ pub const WORDS: [Word; 20] = [
     Word::Rm,
     Word::Mv,
     Word::Ls,
+    Word::Peek,
+    Word::Decide,
 ];
 
 impl Word {
@@ -311,6 +341,8 @@ impl Word {
             Word::Rm => RM,
             Word::Mv => MV,
             Word::Ls => LS,
+            Word::Peek => PEEK,
+            Word::Decide => DECIDE,
         }
     }
 }
@@ -341,6 +373,8 @@ impl What {
             What::Rm { .. } => Word::Rm,
             What::Mv { .. } => Word::Mv,
             What::Ls { .. } => Word::Ls,
+            What::Peek { .. } => Word::Peek,
+            What::Decide { .. } => Word::Decide,
         }
     }
 
@@ -366,7 +400,9 @@ impl What {
             | What::Mk { object, .. }
             | What::Rm { object, .. }
             | What::Mv { object, .. }
-            | What::Ls { object, .. } => Use::OfObject {
+            | What::Ls { object, .. }
+            | What::Peek { object, .. }
+            | What::Decide { object, .. } => Use::OfObject {
                 object: *object,
                 read: ReadUse::Leaves,
             },
@@ -389,11 +425,12 @@ impl What {
             What::Append { colours, .. } => NodeOf::Named { colours: *colours },
             What::Put { .. } | What::Del { .. } => NodeOf::OneColour,
             What::Only { .. } | What::Mk { .. } | What::Rm { .. } => NodeOf::OneColour,
+            What::Decide { .. } => NodeOf::OneColour,
             What::Stop { .. } | What::PutAll { .. } | What::Commit { .. } => NodeOf::Several,
             What::Enq { .. } | What::Deq { .. } | What::Mv { .. } => NodeOf::Several,
             What::Sync { .. } | What::Scan { .. } | What::Pull { .. } => NodeOf::NoNode,
             What::Trim { .. } | What::Get { .. } | What::GetAll { .. } => NodeOf::NoNode,
-            What::Read { .. } | What::Ls { .. } => NodeOf::NoNode,
+            What::Read { .. } | What::Ls { .. } | What::Peek { .. } => NodeOf::NoNode,
         }
     }
 
@@ -418,6 +455,7 @@ impl What {
             What::Rm { path, .. } => Content::Path(path.as_bytes()),
             What::Mv { source, target, .. } => Content::Paths(source.as_bytes(), target.as_bytes()),
             What::Ls { path, .. } => Content::Folder(path.as_bytes()),
+            What::Peek { key, .. } | What::Decide { key, .. } => Content::Key(key.as_bytes()),
         }
     }
 }
@@ -508,6 +546,14 @@ impl Given {
             Word::Ls => What::Ls {
                 object,
                 path: given.path,
+            },
+            Word::Peek => What::Peek {
+                object,
+                key: given.key,
+            },
+            Word::Decide => What::Decide {
+                object,
+                key: given.key,
             },
         }
     }
