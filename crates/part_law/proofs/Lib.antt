@@ -1,1 +1,9 @@
 mod KeptApart
+mod Rising
+mod Texts
+mod Asking
+mod Reading
+mod Words
+mod Lists
+mod Colours
+mod Deciding
