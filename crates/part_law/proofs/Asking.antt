@@ -87,7 +87,7 @@ change_says (Make path value) = refl
 change_says (Remove path) = refl
 change_says (Move source target) = refl
 
-pub IsOne : Caller → Kept → What → Colours → List ℕ → Type 0
+abbrev pub IsOne : Caller → Kept → What → Colours → List ℕ → Type 0
 IsOne caller kept what colours text =
     (is_transactional text ≡ false) ⊎ (Commits caller kept what colours text ⊎ DecidesBy caller what colours text)
 
@@ -95,7 +95,6 @@ IsOne caller kept what colours text =
 pub which : (caller : Caller) (kept : Kept) (what : What) (colours : Colours) (text : List ℕ)
     → has_parts caller.objects ≡ true → IsFree caller.objects (content_of what)
     → AsksToAppend caller kept what colours text → IsOne caller kept what colours text
-unfolding IsOne
 which caller kept what colours text parts = by what where
   other : (said : List ℕ) → text ≡ said → is_transactional said ≡ false → is_transactional text ≡ false
   other said e non = subst (λ (t : List ℕ). is_transactional t ≡ false) (sym e) non

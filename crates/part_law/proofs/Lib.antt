@@ -7,3 +7,4 @@ mod Words
 mod Lists
 mod Colours
 mod Deciding
+mod Standing
