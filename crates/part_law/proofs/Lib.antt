@@ -8,3 +8,4 @@ mod Lists
 mod Colours
 mod Deciding
 mod Standing
+mod Peeks

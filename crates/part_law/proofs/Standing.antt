@@ -1,6 +1,6 @@
 -- The nodes of an object that keeps its colours to itself: what each of its closing lines has.
-use Rattle.std.proofs.Common.{◌≡◌, ◌⊎◌, inl, inr, ℕ, ◌<◌, ◌≤◌, Bool, true, false, List, [], ◌∷◌, ◌++◌, length, map, Option, Some, None, slice_get, refl, ap, sym, subst, ◌∙◌, arith}
-use Rattle.std.specs.Prelude.{◌≢◌, ◌==◌, IsTrue, slice_index, take}
+use Rattle.std.proofs.Common.{◌≡◌, ◌⊎◌, inl, inr, ℕ, ◌<◌, ◌≤◌, Bool, true, false, cond, List, [], ◌∷◌, ◌++◌, length, map, Option, Some, None, slice_get, refl, ap, sym, subst, ◌∙◌, arith}
+use Rattle.std.specs.Prelude.{◌≢◌, ◌==◌, IsTrue, slice_index, slice_index_or, take}
 use Rattle.std.specs.List.{All, AllPairs, AllZip, Contains, filter}
 use Rattle.std.specs.Option.{option_map}
 use Rattle.std.proofs.lemmas.Bool.{eq-eqb}
@@ -27,7 +27,8 @@ use Rattle.object_fold.specs.Transactions.{value_of, verdict_of, writes_after}
 use Rattle.part_fold.specs.declared.decision.Decision.{Decision}
 use Rattle.part_fold.specs.Agreement.{AreAllNodes, HasItsShards, PartsAgree, PartsAreShards, SaysTheVerdict, outcome, part_at, shard_line, touches}
 use Rattle.part_fold.specs.Decisions.{decision_of, decision_text}
-use Rattle.part_fold.specs.Parts.{is_in_shard, known_of, part_value, transaction_by, transactions, decisions, undecided_after}
+use Rattle.part_fold.specs.declared.transaction.Transaction.{Transaction}
+use Rattle.part_fold.specs.Parts.{Known, Part, is_in_shard, known_after, known_of, part_value, transaction_by, transactions, decisions, undecided_after}
 use Rattle.part_fold.specs.Laws.{DecisionsArePlain, DecisionsDiffer, ReadsDecisions}
 use Rattle.col_core.specs.History.{entry_key}
 use Rattle.col_core.specs.RegionOrder.{IsRegionOrder}
@@ -497,3 +498,114 @@ module _ (script : Script) (report : Report) (fits : IsFitting script) (apart : 
               sym ruled_here
               ∙ (ap outcome (same_verdict nodes said.nodes said.waits on.0 rises rises_there
               (subst (λ (m : ObjectNode). In m nodes) one_node here.1) on.1 on.2 forth back) ∙ said.ruled)
+
+    pub says_verdict : (node : ObjectNode) → In node nodes → SaysTheVerdict nodes node
+    says_verdict node i = by (sort_in node i) where
+      by : IsSort node → SaysTheVerdict nodes node
+      by (inl other) = λ decision is.
+          let e : None ≡ Some decision = sym (no_decision node.text other) ∙ is in absurd (let f : ⊥ = cc (e) in f)
+      by (inr (inl t)) = λ decision is.
+          let e : None ≡ Some decision = ap decision_of (sym t.says) ∙ is in absurd (let f : ⊥ = cc (e) in f)
+      by (inr (inr d)) = decides_so node i d
+
+    -- all of them
+    all_nodes : AreAllNodes colours (nodes ++ [])
+    all_nodes = subst (AreAllNodes colours) (sym (append-nil nodes)) (record {
+      rising = rises_to nodes rises;
+      shards = λ node i. has_its_shards node (sort_in node (in_contains nodes node i));
+      decisions = λ node i. says_verdict node (in_contains nodes node i);
+    })
+
+    -- THE SHARD'S LINE
+    module _ (c : ℕ) (among : In c colours) (line : List Key) (closes : IsClosing report own c line) (count : ℕ)
+        (first : take count line ≡ played) (mine : List ObjectNode) (theirs : AreObjectNodes run.log played mine) where
+      line_rises : AllPairs (λ (a b : Key). IsTrue (key_below a b)) line
+      line_rises = subst (λ (ks : List Key). AllPairs (λ (a b : Key). IsTrue (key_below a b)) ks) closes.4
+          (λ i j d lt inside. cited.rise script report run closes.0 closes.1 i j (slice_index_or closes.0.line i d)
+          (slice_index_or closes.0.line j d) (slice_get-get_or closes.0.line i d (omega (arith, lt, inside)))
+          (slice_get-get_or closes.0.line j d inside) lt)
+
+      mine_rises : Rises mine
+      mine_rises = rises_from mine (subst (λ (ks : List Key). AllPairs (λ (a b : Key). IsTrue (key_below a b)) ks)
+          (sym (zip_map (IsObjectNode run.log) (λ (n : ObjectNode). n.key) (λ k n o. o.key_is) played mine theirs))
+          (subst (λ (ks : List Key). AllPairs (λ (a b : Key). IsTrue (key_below a b)) ks) first
+          (pairs_take (λ (a b : Key). IsTrue (key_below a b)) count line line_rises)))
+
+      in_played : (key : Key) → In key line → IsUpTo played key → In key played
+      in_played key i u = subst (λ (ks : List Key). In key ks) first
+          (in_first count line key u.0 line_rises i
+          (subst (λ (ks : List Key). In u.0 ks) (sym first) (in_contains played u.0 u.1)) u.2)
+
+      into : (node : ObjectNode) → In node (filter is_said (nodes_of c nodes)) → In node (filter is_said mine)
+      into node i = in_filter-back is_said node mine (by (sort_in node u.0)) t.1 where
+        t : In node (nodes_of c nodes) × (is_said node ≡ true)
+        t = in_filter is_said node (nodes_of c nodes) i
+
+        u : In node nodes × (has node.colours c ≡ true)
+        u = in_filter (λ (n : ObjectNode). has n.colours c) node nodes t.0
+
+        stood : In node.key line → In node mine
+        stood inside =
+            let n = is_node node u.0 in
+            let z = zip_to (IsObjectNode run.log) played mine theirs node.key
+            (in_played node.key inside (are.no_other node.key (contains_in upto node.key n.0)).0) in
+            subst (λ (x : ObjectNode). In x mine) (same_node run node.key z.0 node z.2 n.1) z.1
+
+        by : IsSort node → In node mine
+        by (inl other) = absurd (both_ways (is_transactional node.text) t.1 other)
+        by (inr (inl tx)) = stood (tx.stands c among u.1 line closes)
+        by (inr (inr d)) = stood (d.stands c among u.1 line closes)
+
+      out : (node : ObjectNode) → In node (filter is_said mine) → In node (filter is_said (nodes_of c nodes))
+      out node i =
+          let t = in_filter is_said node mine i in
+          let z = zip_of (IsObjectNode run.log) played mine theirs node t.0 in
+          let inside : In z.0 line = in_take count line z.0 (subst (λ (ks : List Key). In z.0 ks) (sym first) z.1) in
+          let other = line_at c among in
+          let listed : In line lines = subst (λ (ks : List Key). In ks lines) (reading.one own c other.0 line other.2 closes) other.1 in
+          let up : In z.0 upto = in_contains upto z.0 (are.all line z.0 (contains_in lines line listed) (contains_in line z.0 inside)
+          (z.0, contains_in played z.0 z.1, inl refl)) in
+          let l = reading.nodes own c line closes z.0 inside in
+          let same : l.node ≡ node = same_node run z.0 l.node node l.is z.2 in
+          let coloured : has node.colours c ≡ true =
+          subst (λ (n : ObjectNode). has n.colours c ≡ true) same (set_has l.node.colours c l.among) in
+          in_filter-back is_said node (nodes_of c nodes)
+          (in_filter-back (λ (n : ObjectNode). has n.colours c) node nodes (has_node z.0 node up z.2) coloured) t.1
+
+      same_line : filter is_said (nodes_of c nodes) ≡ filter is_said mine
+      same_line = same_lists (filter is_said (nodes_of c nodes)) (filter is_said mine)
+          (rises_filter is_said (nodes_of c nodes) (rises_filter (λ (n : ObjectNode). has n.colours c) nodes rises))
+          (rises_filter is_said mine mine_rises) into out
+
+      -- where the part waits for nothing, it has what all nodes leave
+      pub agreeing : (place : ℕ) → slice_get colours place ≡ Some c → AllPairs (λ (a b : ℕ). a ≢ b) colours
+          → (key : List ℕ) → c ≡ shard_of colours key → undecided_after (part_at colours place) mine ≡ None
+          → part_value (part_at colours place) mine key ≡ value_of (writes_after nodes) key
+      agreeing place at differ key shard waits =
+          ap (λ (k : Known). cond (is_in_shard part key) (value_of k.writes key) None) (sym same_known)
+          ∙ (cited.agree colours place nodes [] lt all_nodes).values (ap (λ (k : Known). k.undecided) same_known ∙ waits) key
+          mine_key where
+            part : Part
+            part = part_at colours place
+
+            lt : place < length colours
+            lt = slice_get_within colours place c at
+
+            colour_is : slice_index colours place ≡ c
+            colour_is = get_or_from_slice_get colours place c 0 at
+
+            mine_key : is_in_shard part key ≡ true
+            mine_key = cited.parts colours place key lt differ
+                ∙ eq-eqb (shard_of colours key) (slice_index colours place) (sym shard ∙ sym colour_is)
+
+            same_txs : transactions (nodes_of c nodes) ≡ transactions mine
+            same_txs = same_transactions (nodes_of c nodes) ∙ (ap transactions same_line ∙ sym (same_transactions mine))
+
+            same_said : decisions (nodes_of c nodes) ≡ decisions mine
+            same_said = same_decisions (nodes_of c nodes) ∙ (ap decisions same_line ∙ sym (same_decisions mine))
+
+            same_known : known_after part (shard_line colours place nodes) ≡ known_after part mine
+            same_known =
+                ap (λ (x : ℕ). known_after part (nodes_of x nodes)) colour_is
+                ∙ (ap (λ (ds : List Decision). known_of part ds (transactions (nodes_of c nodes))) same_said
+                ∙ ap (λ (ts : List Transaction). known_of part (decisions mine) ts) same_txs)
