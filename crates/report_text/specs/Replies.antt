@@ -1,5 +1,5 @@
 -- The lines of a client: its name, and for each command the answer and the nodes that it shows.
-use Rattle.std.specs.Prelude.{ℕ, List, [], ◌∷◌, ◌++◌, Option, Some, None, decimal, codes}
+use Rattle.std.specs.Prelude.{ℕ, Bool, true, false, List, [], ◌∷◌, ◌++◌, Option, Some, None, decimal, codes}
 use Rattle.std.specs.List.{flat_map}
 use Rattle.log_node.specs.Seen.{PlacedNode}
 use Rattle.object_form.specs.declared.tree_why.TreeWhy.{TreeWhy}
@@ -10,6 +10,8 @@ use Rattle.report_text.specs.declared.report.SyncPiece.{SyncPiece}
 use Rattle.report_text.specs.declared.report.KeyAnswer.{KeyAnswer}
 use Rattle.report_text.specs.declared.report.Answer.{Answer}
 use Rattle.report_text.specs.declared.report.Answer.TheVariants.{Stood, StampEnd, Full, Stopped, Synced, Scanned, Pulled, SameRegion, Based, Got, GotMany, GotKeys, Ruled, Changed, Listed, Undecided, Decided, Moved, NoTx, Took, UnreadTrimmed, UnreadNoMemory, Trimmed, NotHome, NoMemory}
+use Rattle.report_text.specs.declared.report.Ended.{Ended}
+use Rattle.report_text.specs.declared.report.Ended.TheVariants as endings
 use Rattle.report_text.specs.declared.report.ReplyLine.{ReplyLine}
 use Rattle.report_text.specs.declared.report.ClientReport.{ClientReport}
 use Rattle.report_text.specs.declared.report.Report.{Report}
@@ -64,6 +66,17 @@ names_text (Some names) stamp = codes "ok " ++ decimal stamp ++ 32 ∷ listed_or
 abbrev pub read_text : Report → List RaisePiece → List SyncPiece → List ℕ
 read_text report raises syncs = spaced (raise_text report) raises ++ spaced (sync_text report) syncs
 
+-- `committed` or `conflict`, and the stamp of the transaction that is decided
+abbrev pub decision_text : Bool → ℕ → List ℕ
+decision_text true stamp = codes "committed " ++ decimal stamp
+decision_text false stamp = codes "conflict " ++ decimal stamp
+
+-- how the append of a decision ended: where it stands, or why there is none
+abbrev pub ended_text : Report → Ended → List ℕ
+ended_text report (endings.Stood stamp point) = codes "ok " ++ decimal stamp ++ 32 ∷ point_text report point
+ended_text report (endings.StampEnd colour) = codes "stampend " ++ colour_name report colour
+ended_text report endings.NoMemory = codes "nomemory"
+
 -- a colour, and after how many events it was looked at
 abbrev pub look_text : Report → ℕ → ℕ → List ℕ
 look_text report colour events = colour_name report colour ++ 63 ∷ decimal events
@@ -92,8 +105,10 @@ answer_text report (Changed failed stamp row points read_stamp raises syncs) =
     change_text failed stamp ++ row_text row ++ spaced (point_text report) points
     ++ codes " at " ++ decimal read_stamp ++ read_text report raises syncs
 answer_text report (Listed names stamp raises syncs) = names_text names stamp ++ read_text report raises syncs
-answer_text report (Undecided stamp sync) = []
-answer_text report (Decided commits stamp sync read_stamp raises syncs ended) = []
+answer_text report (Undecided stamp sync) = codes "undecided " ++ decimal stamp ++ 32 ∷ sync_text report sync
+answer_text report (Decided commits stamp sync read_stamp raises syncs ended) =
+    decision_text commits stamp ++ 32 ∷ sync_text report sync
+    ++ codes " at " ++ decimal read_stamp ++ read_text report raises syncs ++ 32 ∷ ended_text report ended
 answer_text report (Moved lined waiting colour events) =
     codes "moved " ++ decimal lined ++ 32 ∷ decimal waiting ++ 32 ∷ look_text report colour events
 answer_text report NoTx = codes "notx"

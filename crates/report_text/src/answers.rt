@@ -1,11 +1,11 @@
 // What a command was answered.
 ghost use Rattle.report_text.specs.Output.{Adds};
-ghost use Rattle.report_text.specs.Replies.{row_text, value_text, values_text, key_answer_text, verdict_text, change_text, listed_or_dash, look_text, names_text, read_text, answer_text};
+ghost use Rattle.report_text.specs.Replies.{row_text, value_text, values_text, key_answer_text, verdict_text, change_text, listed_or_dash, look_text, names_text, read_text, decision_text, ended_text, answer_text};
 
 use crate::names::NameIndex;
 use crate::output::Output;
 use crate::printed::{Printed, print_listed, print_spaced};
-use crate::report::{Answer, KeyAnswer, PointPiece, RaisePiece, SyncPiece};
+use crate::report::{Answer, Ended, KeyAnswer, PointPiece, RaisePiece, SyncPiece};
 use log_node::{ListOf, Names, Text};
 use object_form::TreeWhy;
 
@@ -127,6 +127,38 @@ fn print_read<O: Output>(
 {
     print_spaced(raises, names, out);
     print_spaced(syncs, names, out);
+}
+
+/// `committed` or `conflict`, and the stamp of the transaction that is decided.
+fn print_decision<O: Output>(commits: bool, stamp: u64, out: &mut O)
+    ensures { Adds (O.state out.old) (O.state out.new) (decision_text commits stamp) }
+{
+    if commits {
+        out.put(b"committed ");
+    } else {
+        out.put(b"conflict ");
+    }
+    out.put_number(stamp);
+}
+
+impl Printed for Ended {
+    ghost text = { ended_text };
+
+    fn print<O: Output>(&self, names: &NameIndex<'_>, out: &mut O) {
+        match self {
+            Ended::Stood { stamp, point } => {
+                out.put(b"ok ");
+                out.put_number(*stamp);
+                out.put(b" ");
+                point.print(names, out);
+            }
+            Ended::StampEnd { colour } => {
+                out.put(b"stampend ");
+                names.put_colour(*colour, out);
+            }
+            Ended::NoMemory => out.put(b"nomemory"),
+        }
+    }
 }
 
 /// A colour, and after how many events it was looked at.
@@ -256,7 +288,30 @@ impl Printed for Answer {
                 print_names(found, *stamp, names, out);
                 print_read(raises, syncs, names, out);
             }
-            Answer::Undecided { .. } | Answer::Decided { .. } => {}
+            Answer::Undecided { stamp, sync } => {
+                out.put(b"undecided ");
+                out.put_number(*stamp);
+                out.put(b" ");
+                sync.print(names, out);
+            }
+            Answer::Decided {
+                commits,
+                stamp,
+                sync,
+                read_stamp,
+                raises,
+                syncs,
+                ended,
+            } => {
+                print_decision(*commits, *stamp, out);
+                out.put(b" ");
+                sync.print(names, out);
+                out.put(b" at ");
+                out.put_number(*read_stamp);
+                print_read(raises, syncs, names, out);
+                out.put(b" ");
+                ended.print(names, out);
+            }
             Answer::Moved {
                 length,
                 waiting,
