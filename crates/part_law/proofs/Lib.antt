@@ -9,3 +9,4 @@ mod Colours
 mod Deciding
 mod Standing
 mod Peeks
+mod LogReading

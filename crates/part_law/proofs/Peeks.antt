@@ -33,7 +33,7 @@ use Rattle.lawful_run.specs.Asks.{kind_of_object, object_colours, rising, shards
 use Rattle.lawful_run.specs.Deeds.{Deed, Reach, ShardsOf}
 use Rattle.lawful_run.specs.Explains.{Explains}
 use Rattle.lawful_run.specs.Lawful.{LawfulRun}
-use Rattle.lawful_run.specs.Objects.{AreObjectNodes, IsObjectNode, own_played}
+use Rattle.lawful_run.specs.Objects.{AreObjectNodes, own_played}
 use Rattle.lawful_run.specs.ObjectReadings.{AreNodesOf, Commands, IsClosing, IsNodeOf}
 use Rattle.lawful_run.specs.Parts.{AnswersGet, HasPartValue, HasValue, OfPart}
 use Rattle.lawful_run.specs.Readings.{HasReply}
@@ -42,7 +42,7 @@ use Rattle.part_law.specs.UpTo.{AreUpTo}
 use Rattle.part_law.specs.Laws.{PeeksAgree}
 use Rattle.part_law.proofs.Colours.{object_of, shard_is}
 use Rattle.part_law.proofs.Lists.{zip_made, zip_map, zip_of}
-use Rattle.part_law.proofs.Reading.{LineNode, Reading, Reason}
+use Rattle.part_law.proofs.Reading.{AreLogged, IsLogged, Reading, Reason, all_logged}
 use Rattle.part_law.proofs.Standing.{Cited, InLines, agreeing, in_lines, same_node}
 
 -- What a peek is answered by, of a key of an object that keeps its colours to itself.
@@ -105,9 +105,9 @@ peeks_by cited readings script report fits apart texts differ run client n reply
       played : List Key
       played = take (at sync.counts own) line
 
-      theirs : AreObjectNodes run.log played mine
-      theirs = subst (λ (ks : List Key). AreObjectNodes run.log ks mine)
-          (sym (reading.played client why.kept sync explained.2 line closes)) explained.1.1
+      theirs : AreLogged run.log played mine
+      theirs = all_logged run.log played mine (subst (λ (ks : List Key). AreObjectNodes run.log ks mine)
+          (sym (reading.played client why.kept sync explained.2 line closes)) explained.1.1)
 
       held : (o : Object) × (slice_get script.objects object ≡ Some o) × (o.kind ≡ kinds.Parts home colours)
       held = object_of script.objects object (kinds.Parts home colours) kind
@@ -118,25 +118,25 @@ peeks_by cited readings script report fits apart texts differ run client n reply
           (contains_in script.objects held.0 (slice_in script.objects object held.0 held.1)))
 
       -- the node of a key
-      node_at : (k : Key) → In k upto → (node : ObjectNode) × IsObjectNode run.log k node × IsNodeOf run node
+      node_at : (k : Key) → In k upto → (node : ObjectNode) × IsLogged run.log k node × IsNodeOf run node
       node_at k i =
           let o = are.no_other k (contains_in upto k i) in
           let l = in_lines script report fits apart texts run reading cited own object held.0 held.1 home colours held.2 lines closing
           o.1 k (in_contains lines o.1 o.2) (in_contains o.1 k o.3) in
           let x = reading.nodes own l.colour l.line l.is k l.inside in (x.node, x.is, x.appended)
 
-      made : (ns : List ObjectNode) × AllZip (IsObjectNode run.log) upto ns
-      made = zip_made (IsObjectNode run.log) upto (λ k i. let x = node_at k i in (x.0, x.1))
+      made : (ns : List ObjectNode) × AllZip (IsLogged run.log) upto ns
+      made = zip_made (IsLogged run.log) upto (λ k i. let x = node_at k i in (x.0, x.1))
 
       nodes : List ObjectNode
       nodes = made.0
 
       keys_are : map (λ (x : ObjectNode). x.key) nodes ≡ upto
-      keys_are = zip_map (IsObjectNode run.log) (λ (x : ObjectNode). x.key) (λ k x o. o.key_is) upto nodes made.1
+      keys_are = zip_map (IsLogged run.log) (λ (x : ObjectNode). x.key) (λ k x o. o.key_is) upto nodes made.1
 
       each : All (IsNodeOf run) nodes
       each = all_in (IsNodeOf run) nodes (λ x i.
-          let z = zip_of (IsObjectNode run.log) upto nodes made.1 x i in
+          let z = zip_of (IsLogged run.log) upto nodes made.1 x i in
           let y = node_at z.0 z.1 in
           subst (IsNodeOf run) (same_node run z.0 y.0 x y.1 z.2) y.2)
 

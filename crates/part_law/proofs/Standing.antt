@@ -56,7 +56,6 @@ use Rattle.lawful_run.specs.Asks.{colours_of_object, keys_of_pairs, object_colou
 use Rattle.lawful_run.specs.Deeds.{AsksToAppend}
 use Rattle.lawful_run.specs.Explains.{Explains}
 use Rattle.lawful_run.specs.Lawful.{LawfulRun}
-use Rattle.lawful_run.specs.Objects.{AreObjectNodes, IsObjectNode}
 use Rattle.lawful_run.specs.ObjectReadings.{AreClosing, IsClosing, IsNodeOf}
 use Rattle.lawful_run.specs.Readings.{ClosingLinesRise, IsAppend, NodeTold, Nowhere, OneKey, Perhaps, ReturnedAppendsStand, StandsAs, StandsAtEnd, StandsAtPoints, StoodAt, Under, UnderAt, kept_of, told}
 use Rattle.part_law.specs.Premises.{AreApart, AreTextsFree, IsFree}
@@ -64,7 +63,7 @@ use Rattle.part_law.proofs.Asking.{Commits, DecidesBy, IsOne, same_colours, whic
 use Rattle.part_law.proofs.Colours.{has_in, in_rising, in_set, kind_some, rising_in, same_object, set_has, shards_in, shards_touch}
 use Rattle.part_law.proofs.Deciding.{SaysDecided, decided, no_stop}
 use Rattle.part_law.proofs.Lists.{in_first, pairs_take, zip_images, zip_map, zip_of, zip_to}
-use Rattle.part_law.proofs.Reading.{LineNode, Reading, Reason}
+use Rattle.part_law.proofs.Reading.{AreLogged, IsLogged, LineNode, Reading, Reason, all_logged}
 use Rattle.part_law.proofs.Rising.{Rises, rises_filter, rises_from, rises_to, same_lists, same_verdict, stands_among}
 use Rattle.part_law.proofs.Texts.{is_said, no_decision, no_transaction, same_decisions, same_transactions}
 use Rattle.part_law.proofs.Words.{pairs_are}
@@ -84,7 +83,7 @@ pub record Cited : Type 0 where
 
 -- one node in a log has a key
 pub same_node : {script : Script} {report : Report} (run : LawfulRun script report) (key : Key) (a b : ObjectNode)
-    → IsObjectNode run.log key a → IsObjectNode run.log key b → a ≡ b
+    → IsLogged run.log key a → IsLogged run.log key b → a ≡ b
 same_node run key a b x y =
     let e : Some x.appended ≡ Some y.appended = sym x.there ∙ y.there in
     let same : x.appended ≡ y.appended = cc (e) in
@@ -278,7 +277,7 @@ module _ (script : Script) (report : Report) (fits : IsFitting script) (apart : 
             record {
               versions = c.versions;
               pairs = c.pairs;
-              form = (reading.versions client n.k c.object c.versions c.found, pairs_are 2 c.pairs u.1);
+              form = (reading.versions client n.k n.reply n.append.replied c.object c.versions c.found, pairs_are 2 c.pairs u.1);
               says = c.says;
               on = c.on ∙ ap (λ (cs : List ℕ). shards cs (map (λ (v : Version). v.key) c.versions ++ keys_of_pairs c.pairs))
                   (colours_are client c.object same);
@@ -332,21 +331,21 @@ module _ (script : Script) (report : Report) (fits : IsFitting script) (apart : 
 
   -- the nodes up to some point
   module _ (played upto : List Key) (are : AreUpTo lines played upto) (nodes : List ObjectNode)
-      (read : AreObjectNodes run.log upto nodes) where
+      (read : AreLogged run.log upto nodes) where
     pub rises : Rises nodes
     rises = rises_from nodes (subst (λ (ks : List Key). AllPairs (λ (a b : Key). IsTrue (key_below a b)) ks)
-        (sym (zip_map (IsObjectNode run.log) (λ (n : ObjectNode). n.key) (λ k n o. o.key_is) upto nodes read)) are.rising)
+        (sym (zip_map (IsLogged run.log) (λ (n : ObjectNode). n.key) (λ k n o. o.key_is) upto nodes read)) are.rising)
 
     -- a node of them, by its key
-    pub is_node : (node : ObjectNode) → In node nodes → In node.key upto × IsObjectNode run.log node.key node
+    pub is_node : (node : ObjectNode) → In node nodes → In node.key upto × IsLogged run.log node.key node
     is_node node i =
-        let z = zip_of (IsObjectNode run.log) upto nodes read node i in
+        let z = zip_of (IsLogged run.log) upto nodes read node i in
         let same = sym z.2.key_is in
-        (subst (λ (k : Key). In k upto) same z.1, subst (λ (k : Key). IsObjectNode run.log k node) same z.2)
+        (subst (λ (k : Key). In k upto) same z.1, subst (λ (k : Key). IsLogged run.log k node) same z.2)
 
-    pub has_node : (key : Key) (node : ObjectNode) → In key upto → IsObjectNode run.log key node → In node nodes
+    pub has_node : (key : Key) (node : ObjectNode) → In key upto → IsLogged run.log key node → In node nodes
     has_node key node i is =
-        let z = zip_to (IsObjectNode run.log) upto nodes read key i in
+        let z = zip_to (IsLogged run.log) upto nodes read key i in
         subst (λ (n : ObjectNode). In n nodes) (same_node run key z.0 node z.2 is) z.1
 
     pub lines_of : (key : Key) → In key upto → InLines key
@@ -390,7 +389,7 @@ module _ (script : Script) (report : Report) (fits : IsFitting script) (apart : 
 
           -- its text
 
-          object_node : IsObjectNode run.log node.key node
+          object_node : IsLogged run.log node.key node
           object_node = (is_node node i).1
 
           counted : node.key.id.count ≡ said.read.ids
@@ -421,20 +420,23 @@ module _ (script : Script) (report : Report) (fits : IsFitting script) (apart : 
               (subst (λ (x : List ℕ). AllZip (λ (c : ℕ) (l : List Key). IsClosing report (caller_of script client).own c l) x lines)
               cs at_home))
 
+          there_are : AreLogged run.log said.keys said.nodes
+          there_are = all_logged run.log said.keys said.nodes said.are_nodes
+
           rises_there : Rises said.nodes
           rises_there = rises_from said.nodes (subst (λ (ks : List Key). AllPairs (λ (a b : Key). IsTrue (key_below a b)) ks)
-              (sym (zip_map (IsObjectNode run.log) (λ (n : ObjectNode). n.key) (λ k n o. o.key_is) said.keys said.nodes said.are_nodes))
+              (sym (zip_map (IsLogged run.log) (λ (n : ObjectNode). n.key) (λ k n o. o.key_is) said.keys said.nodes there_are))
               order.rising)
 
-          there_is : (x : ObjectNode) → In x said.nodes → In x.key said.keys × IsObjectNode run.log x.key x
+          there_is : (x : ObjectNode) → In x said.nodes → In x.key said.keys × IsLogged run.log x.key x
           there_is x j =
-              let z = zip_of (IsObjectNode run.log) said.keys said.nodes said.are_nodes x j in
+              let z = zip_of (IsLogged run.log) said.keys said.nodes there_are x j in
               let e = sym z.2.key_is in
-              (subst (λ (k : Key). In k said.keys) e z.1, subst (λ (k : Key). IsObjectNode run.log k x) e z.2)
+              (subst (λ (k : Key). In k said.keys) e z.1, subst (λ (k : Key). IsLogged run.log k x) e z.2)
 
-          there_has : (key : Key) (x : ObjectNode) → In key said.keys → IsObjectNode run.log key x → In x said.nodes
+          there_has : (key : Key) (x : ObjectNode) → In key said.keys → IsLogged run.log key x → In x said.nodes
           there_has key x j o =
-              let z = zip_to (IsObjectNode run.log) said.keys said.nodes said.are_nodes key j in
+              let z = zip_to (IsLogged run.log) said.keys said.nodes there_are key j in
               subst (λ (n : ObjectNode). In n said.nodes) (same_node run key z.0 x z.2 o) z.1
 
           -- what it is on
@@ -468,8 +470,8 @@ module _ (script : Script) (report : Report) (fits : IsFitting script) (apart : 
 
           one_node : here.0 ≡ on.0
           one_node = same_node run said.waits here.0 on.0
-              (subst (λ (k : Key). IsObjectNode run.log k here.0) here.2 (is_node here.0 here.1).1)
-              (subst (λ (k : Key). IsObjectNode run.log k on.0) on.2 (there_is on.0 on.1).1)
+              (subst (λ (k : Key). IsLogged run.log k here.0) here.2 (is_node here.0 here.1).1)
+              (subst (λ (k : Key). IsLogged run.log k on.0) on.2 (there_is on.0 on.1).1)
 
           forth : (x : ObjectNode) → In x nodes → key_below x.key said.waits ≡ true → In x said.nodes
           forth x j below =
@@ -518,7 +520,7 @@ module _ (script : Script) (report : Report) (fits : IsFitting script) (apart : 
 
     -- THE SHARD'S LINE
     module _ (c : ℕ) (among : In c colours) (line : List Key) (closes : IsClosing report own c line) (count : ℕ)
-        (first : take count line ≡ played) (mine : List ObjectNode) (theirs : AreObjectNodes run.log played mine) where
+        (first : take count line ≡ played) (mine : List ObjectNode) (theirs : AreLogged run.log played mine) where
       line_rises : AllPairs (λ (a b : Key). IsTrue (key_below a b)) line
       line_rises = subst (λ (ks : List Key). AllPairs (λ (a b : Key). IsTrue (key_below a b)) ks) closes.4
           (λ i j d lt inside. cited.rise script report run closes.0 closes.1 i j (slice_index_or closes.0.line i d)
@@ -527,7 +529,7 @@ module _ (script : Script) (report : Report) (fits : IsFitting script) (apart : 
 
       mine_rises : Rises mine
       mine_rises = rises_from mine (subst (λ (ks : List Key). AllPairs (λ (a b : Key). IsTrue (key_below a b)) ks)
-          (sym (zip_map (IsObjectNode run.log) (λ (n : ObjectNode). n.key) (λ k n o. o.key_is) played mine theirs))
+          (sym (zip_map (IsLogged run.log) (λ (n : ObjectNode). n.key) (λ k n o. o.key_is) played mine theirs))
           (subst (λ (ks : List Key). AllPairs (λ (a b : Key). IsTrue (key_below a b)) ks) first
           (pairs_take (λ (a b : Key). IsTrue (key_below a b)) count line line_rises)))
 
@@ -547,7 +549,7 @@ module _ (script : Script) (report : Report) (fits : IsFitting script) (apart : 
         stood : In node.key line → In node mine
         stood inside =
             let n = is_node node u.0 in
-            let z = zip_to (IsObjectNode run.log) played mine theirs node.key
+            let z = zip_to (IsLogged run.log) played mine theirs node.key
             (in_played node.key inside (are.no_other node.key (contains_in upto node.key n.0)).0) in
             subst (λ (x : ObjectNode). In x mine) (same_node run node.key z.0 node z.2 n.1) z.1
 
@@ -559,7 +561,7 @@ module _ (script : Script) (report : Report) (fits : IsFitting script) (apart : 
       out : (node : ObjectNode) → In node (filter is_said mine) → In node (filter is_said (nodes_of c nodes))
       out node i =
           let t = in_filter is_said node mine i in
-          let z = zip_of (IsObjectNode run.log) played mine theirs node t.0 in
+          let z = zip_of (IsLogged run.log) played mine theirs node t.0 in
           let inside : In z.0 line = in_take count line z.0 (subst (λ (ks : List Key). In z.0 ks) (sym first) z.1) in
           let other = line_at c among in
           let listed : In line lines = subst (λ (ks : List Key). In ks lines) (reading.one own c other.0 line other.2 closes) other.1 in

@@ -1,6 +1,6 @@
-//! A peek's value is the whole transactional map's.
+//! What a transactional map is for that is played by its parts: a peek tells what the whole map has.
 #![tactic(auto)]
 
 mod laws;
 
-pub use laws::scripts_keep_apart;
+pub use laws::{peeks_agree, scripts_keep_apart};
