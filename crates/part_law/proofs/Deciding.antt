@@ -1,5 +1,5 @@
 -- What the reply to a decide says of the node that it appended; and which answers tell nothing of where a node stands.
-use Rattle.std.proofs.Common.{◌≡◌, ◌⊎◌, inl, inr, ℕ, Bool, List, [], ◌∷◌, Option, Some, None, slice_get, refl, ap, sym, subst, ◌∙◌}
+use Rattle.std.proofs.Common.{◌≡◌, inl, inr, ℕ, Bool, List, Some, slice_get, refl, sym, subst}
 use Rattle.std.specs.Prelude.{◌≢◌}
 use Rattle.log_node.specs.declared.ids.Colours.{Colours}
 use Rattle.log_node.specs.declared.ids.Key.{Key}
@@ -18,7 +18,7 @@ use Rattle.report_text.specs.declared.report.Ended.TheVariants as ends
 use Rattle.report_text.specs.declared.report.RaisePiece.{RaisePiece}
 use Rattle.report_text.specs.declared.report.SyncPiece.{SyncPiece}
 use Rattle.lawful_run.specs.Callers.{Caller}
-use Rattle.lawful_run.specs.Asks.{Manner, Appending, Committing, Deciding, Dequeuing, Guarding, kind_of_object, rising}
+use Rattle.lawful_run.specs.Asks.{Appending, Committing, Deciding, Dequeuing, Guarding, kind_of_object, rising}
 use Rattle.lawful_run.specs.Explains.{Explains}
 use Rattle.lawful_run.specs.Objects.{AreObjectNodes}
 use Rattle.lawful_run.specs.Parts.{IsRuledAs}
@@ -95,16 +95,16 @@ decided log caller kept object key (answers.Decided commits stamp sync read_stam
 decided log caller kept object key (answers.Decided commits stamp sync read_stamp raises syncs ends.NoMemory) nodes after x t =
     absurd (t refl)
 decided log caller kept object key (answers.Stood stamp row points) nodes after x t =
-    absurd (elim x.1 [ | inl e ↦ appending e | inr e ↦ guarding e.0 ])
+    absurd (elim x.1 [ inl e ↦ appending e | inr e ↦ guarding e.0 ])
 decided log caller kept object key (answers.Ruled conflict stamp row points read_stamp raises syncs) nodes after x t =
     absurd (committing x.1.0)
 decided log caller kept object key (answers.Changed failed stamp row points read_stamp raises syncs) nodes after x t =
     absurd (committing x.1.0)
 decided log caller kept object key (answers.Took value point sync) nodes after x t = absurd (dequeuing x.1)
 decided log caller kept object key (answers.UnreadTrimmed stamp colour base) nodes after x t =
-    absurd (elim x.1 [ | inl e ↦ committing e | inr e ↦ dequeuing e ])
+    absurd (elim x.1 [ inl e ↦ committing e | inr e ↦ dequeuing e ])
 decided log caller kept object key (answers.UnreadNoMemory stamp) nodes after x t =
-    absurd (elim x.1 [ | inl e ↦ committing e | inr e ↦ dequeuing e ])
+    absurd (elim x.1 [ inl e ↦ committing e | inr e ↦ dequeuing e ])
 decided log caller kept object key (answers.Stopped steps) nodes after x t =
     absurd (let e = x.3 in let f : ⊥ = cc (e) in f)
 decided log caller kept object key _ nodes after x t = absurd (t refl)

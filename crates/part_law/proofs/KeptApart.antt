@@ -26,7 +26,7 @@ use Rattle.script_text.specs.Commands.{what_of, word_of, content_of}
 use Rattle.script_text.specs.Items.{objects, objects_in, commands, commands_in, is_begun, stage_of, stage_after, may_begin, may_come, version_of}
 use Rattle.script_text.specs.Pieces.{lines_of, fields_of, is_text}
 use Rattle.script_text.specs.Table.{row_fields, sort_fields, sort_of, kind_of, sort_text, nothing}
-use Rattle.script_text.specs.Grammar.{is_free, are_colours, are_new_numbers, may_follow, Say, Says, SpellAll, SpellsWhat, SpellsKind, said_lines, IsScript}
+use Rattle.script_text.specs.Grammar.{is_free, are_colours, are_new_numbers, may_follow, Say, Says, SpellAll, SpellsWhat, SpellsKind, said_lines}
 use Rattle.part_law.specs.Premises.{ShareNone, AreApart, AreTextsFree, IsFree, ColoursDiffer}
 use Rattle.part_law.specs.Laws.{ScriptsKeepApart}
 

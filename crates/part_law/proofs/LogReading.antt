@@ -1,18 +1,16 @@
 -- What is told of a lawful run's log.
-use Rattle.std.proofs.Common.{◌≡◌, ◌⊎◌, inl, inr, ℕ, ◌+◌, ◌-◌, ◌^◌, ◌<◌, ◌≤◌, Bool, true, false, List, [], ◌∷◌, ◌++◌, length, map, get_or, Option, Some, None, slice_get, refl, ap, sym, subst, ◌∙◌, arith, reverse, length-append}
-use Rattle.std.specs.Prelude.{◌≢◌, ◌==◌, ◌&&◌, nat_le, IsTrue, take}
+use Rattle.std.proofs.Common.{◌≡◌, inl, inr, ℕ, ◌+◌, ◌-◌, ◌^◌, ◌<◌, ◌≤◌, true, false, List, [], ◌∷◌, ◌++◌, length, map, get_or, Option, Some, None, refl, ap, sym, subst, ◌∙◌, arith, reverse}
+use Rattle.std.specs.Prelude.{◌==◌, ◌&&◌, nat_le, take}
 use Rattle.std.specs.List.{All, filter}
 use Rattle.std.specs.Option.{option_map}
-use Rattle.std.proofs.lemmas.Bool.{and_from, eqb-true, le-leb, leb-true}
+use Rattle.std.proofs.lemmas.Bool.{and_from, le-leb, leb-true}
 use Rattle.std.proofs.lemmas.List.{length-map}
 use Rattle.std.proofs.lemmas.List.Elements.{All-contains, Contains-get_or}
 use Rattle.std.proofs.lemmas.Option.{slice_get_within}
 use Rattle.log_node.specs.declared.ids.Id.{Id}
 use Rattle.log_node.specs.declared.ids.Key.{Key}
 use Rattle.log_node.specs.declared.forms.Version.{Version}
-use Rattle.log_node.specs.declared.limits.TheConstants.{MAX_CLIENTS}
 use Rattle.log_node.specs.declared.marks.Outcome.TheVariants.{Open, Gone, Final}
-use Rattle.log_node.specs.declared.node.Node.{Node}
 use Rattle.log_node.specs.Order.{same_id}
 use Rattle.log_node.specs.Seen.{PlacedNode}
 use Rattle.log_node.specs.Standings.{Standing}
@@ -42,8 +40,6 @@ use Rattle.script_text.proofs.CallerLemmas.{clients_few}
 use Rattle.report_text.specs.declared.report.Answer.{Answer}
 use Rattle.report_text.specs.declared.report.Answer.TheVariants as answers
 use Rattle.report_text.specs.declared.report.ClientReport.{ClientReport}
-use Rattle.report_text.specs.declared.report.KeyAnswer.{KeyAnswer}
-use Rattle.report_text.specs.declared.report.RaisePiece.{RaisePiece}
 use Rattle.report_text.specs.declared.report.ReplyLine.{ReplyLine}
 use Rattle.report_text.specs.declared.report.SyncPiece.{SyncPiece}
 use Rattle.report_text.specs.declared.report.Report.{Report}
@@ -53,14 +49,14 @@ use Rattle.lawful_run.specs.Deeds.{colours_synced}
 use Rattle.lawful_run.specs.Explains.{Answers, Explained, Explains, next, start}
 use Rattle.lawful_run.specs.Lawful.{LawfulRun}
 use Rattle.lawful_run.specs.Objects.{AreObjectNodes, IsObjectNode}
-use Rattle.lawful_run.specs.ObjectReadings.{IsClosing, IsNodeOf}
+use Rattle.lawful_run.specs.ObjectReadings.{IsClosing}
 use Rattle.lawful_run.specs.Readings.{HasReply, kept_at, kept_of}
-use Rattle.lawful_run.specs.Reads.{AreKeysRead, ReadsAt, lines_read}
-use Rattle.lawful_run.specs.Refusals.{kept_before, kept_behind}
-use Rattle.lawful_run.proofs.CallerLemmas.{Stands, append_of, at_updated, before_is, behind_is, closing_line, explained_ids, explained_keeps, legal_at, line_prefix, node_there, played_first, prefix_get, read_order, read_quiet, reads_keep, reason, shown_there, stands_in}
+use Rattle.lawful_run.specs.Reads.{AreKeysRead, lines_read}
+use Rattle.lawful_run.specs.Refusals.{kept_before}
+use Rattle.lawful_run.proofs.CallerLemmas.{append_of, at_updated, before_is, behind_is, closing_line, explained_ids, explained_keeps, legal_at, line_prefix, node_there, played_first, read_order, read_quiet, reads_keep, reason, shown_there, stands_in}
 use Rattle.part_law.proofs.Colours.{in_rising}
 use Rattle.part_law.proofs.Lists.{zip_of}
-use Rattle.part_law.proofs.Reading.{LineNode, Reading, Reason}
+use Rattle.part_law.proofs.Reading.{LineNode, Reading}
 use Rattle.part_law.proofs.Words.{keys_are_words, keys_distinct}
 
 -- STAMPS

@@ -1,5 +1,5 @@
 -- A peek's value is that of the whole transactional map.
-use Rattle.std.proofs.Common.{◌≡◌, ◌⊎◌, inl, inr, ℕ, List, [], ◌∷◌, map, Option, Some, None, slice_get, refl, ap, sym, subst, ◌∙◌}
+use Rattle.std.proofs.Common.{◌≡◌, inl, inr, ℕ, List, [], ◌∷◌, map, Option, Some, slice_get, refl, ap, sym, subst, ◌∙◌}
 use Rattle.std.specs.Prelude.{◌≢◌, take}
 use Rattle.std.specs.List.{All, AllPairs, AllZip}
 use Rattle.std.proofs.lemmas.List.Elements.{All-contains}
@@ -8,8 +8,6 @@ use Rattle.log_node.specs.Vectors.{at}
 use Rattle.object_fold.specs.Maps.{Value}
 use Rattle.object_fold.specs.Nodes.{ObjectNode, shard_of}
 use Rattle.object_fold.specs.Transactions.{value_of, writes_after}
-use Rattle.part_fold.specs.Agreement.{part_at}
-use Rattle.part_fold.specs.Parts.{part_value}
 use Rattle.col_core.proofs.CallerLemmas.{all_in, contains_in, In, in_contains, slice_in}
 use Rattle.script_text.specs.declared.script.Command.{Command}
 use Rattle.script_text.specs.declared.script.Kind.{Kind}
@@ -18,7 +16,6 @@ use Rattle.script_text.specs.declared.script.Object.{Object}
 use Rattle.script_text.specs.declared.script.Script.{Script}
 use Rattle.script_text.specs.declared.commands.What.{What}
 use Rattle.script_text.specs.declared.commands.What.TheVariants as whats
-use Rattle.script_text.specs.declared.uses.Use.{Use}
 use Rattle.script_text.specs.declared.uses.ReadUse.TheVariants.{Leaves}
 use Rattle.script_text.specs.declared.uses.Use.TheVariants.{OfObject}
 use Rattle.script_text.specs.Apart.{colours_of}
@@ -26,24 +23,20 @@ use Rattle.script_text.specs.Fitting.{IsFitting}
 use Rattle.report_text.specs.declared.report.Answer.{Answer}
 use Rattle.report_text.specs.declared.report.Answer.TheVariants as answers
 use Rattle.report_text.specs.declared.report.SyncPiece.{SyncPiece}
-use Rattle.report_text.specs.declared.report.ReplyLine.{ReplyLine}
 use Rattle.report_text.specs.declared.report.Report.{Report}
 use Rattle.lawful_run.specs.Callers.{Caller, caller_of}
-use Rattle.lawful_run.specs.Asks.{kind_of_object, object_colours, rising, shards}
-use Rattle.lawful_run.specs.Deeds.{Deed, Reach, ShardsOf}
+use Rattle.lawful_run.specs.Asks.{kind_of_object, object_colours, shards}
+use Rattle.lawful_run.specs.Deeds.{Deed, ShardsOf}
 use Rattle.lawful_run.specs.Explains.{Explains}
 use Rattle.lawful_run.specs.Lawful.{LawfulRun}
-use Rattle.lawful_run.specs.Objects.{AreObjectNodes, own_played}
-use Rattle.lawful_run.specs.ObjectReadings.{AreNodesOf, Commands, IsClosing, IsNodeOf}
+use Rattle.lawful_run.specs.Objects.{AreObjectNodes}
+use Rattle.lawful_run.specs.ObjectReadings.{IsNodeOf}
 use Rattle.lawful_run.specs.Parts.{AnswersGet, HasPartValue, HasValue, OfPart}
-use Rattle.lawful_run.specs.Readings.{HasReply}
-use Rattle.part_law.specs.Premises.{AreApart, AreTextsFree, ColoursDiffer}
-use Rattle.part_law.specs.UpTo.{AreUpTo}
 use Rattle.part_law.specs.Laws.{PeeksAgree}
 use Rattle.part_law.proofs.Colours.{object_of, shard_is}
 use Rattle.part_law.proofs.Lists.{zip_made, zip_map, zip_of}
 use Rattle.part_law.proofs.Reading.{AreLogged, IsLogged, Reading, Reason, all_logged}
-use Rattle.part_law.proofs.Standing.{Cited, InLines, agreeing, in_lines, same_node}
+use Rattle.part_law.proofs.Standing.{Cited, agreeing, in_lines, same_node}
 
 -- What a peek is answered by, of a key of an object that keeps its colours to itself.
 record Peeked (caller : Caller) (colours key : List ℕ) (sync : SyncPiece) (value : Value) (nodes : List ObjectNode)

@@ -1,5 +1,5 @@
 -- What a run's log tells of its report, as the laws of peeks need it.
-use Rattle.std.specs.Prelude.{◌≡◌, true, ℕ, List, [], ◌∷◌, Option, Some, take, slice_get}
+use Rattle.std.specs.Prelude.{◌≡◌, true, ℕ, List, [], ◌∷◌, Some, take, slice_get}
 use Rattle.std.specs.List.{AllZip}
 use Rattle.log_node.specs.declared.node.Node.{Node}
 use Rattle.col_core.specs.Log.{Log}

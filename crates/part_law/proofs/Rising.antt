@@ -1,7 +1,7 @@
 -- Nodes in rising key: two lists with the same nodes are one, and the verdict on a node is by the nodes below it.
-use Rattle.std.proofs.Common.{◌≡◌, ◌⊎◌, inl, inr, ℕ, zero, suc, ◌<◌, Bool, true, false, not, cond, List, [], ◌∷◌, length, map, Option, Some, None, refl, ap, sym, subst, ◌∙◌, arith}
+use Rattle.std.proofs.Common.{◌≡◌, inl, inr, suc, Bool, true, false, not, List, [], ◌∷◌, map, Option, Some, None, refl, ap, sym, subst, ◌∙◌, arith}
 use Rattle.std.specs.Prelude.{IsTrue}
-use Rattle.std.specs.List.{AllPairs, Contains, filter, find, take_while}
+use Rattle.std.specs.List.{AllPairs, filter, find, take_while}
 use Rattle.std.proofs.lemmas.Bool.{and_from, eq-eqb}
 use Rattle.std.proofs.lemmas.List.Kept.{AllPairs-cons}
 use Rattle.std.proofs.lemmas.List.Sums.{take_while-cons}
@@ -9,7 +9,6 @@ use Rattle.log_node.specs.declared.ids.Key.{Key}
 use Rattle.log_node.specs.Order.{key_below, same_key}
 use Rattle.log_node.proofs.CallerLemmas.{key-irrefl, key-trans, same_id-refl, same_key-is}
 use Rattle.object_form.specs.Readings.{form_of}
-use Rattle.object_fold.specs.declared.verdict.Verdict.{Verdict}
 use Rattle.object_fold.specs.Nodes.{ObjectNode, nodes_before}
 use Rattle.object_fold.specs.Transactions.{form_verdict, verdict_among, verdict_of, writes_after}
 use Rattle.col_core.proofs.CallerLemmas.{all_in, by_test, choice, contains_in, if_false, if_true, In, in_filter, in_filter-back, in_map-back}

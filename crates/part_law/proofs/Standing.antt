@@ -1,7 +1,7 @@
 -- The nodes of an object that keeps its colours to itself: what each of its closing lines has.
-use Rattle.std.proofs.Common.{◌≡◌, ◌⊎◌, inl, inr, ℕ, ◌<◌, ◌≤◌, Bool, true, false, cond, List, [], ◌∷◌, ◌++◌, length, map, Option, Some, None, slice_get, refl, ap, sym, subst, ◌∙◌, arith}
+use Rattle.std.proofs.Common.{◌≡◌, ◌⊎◌, inl, inr, ℕ, ◌<◌, ◌≤◌, true, false, cond, List, [], ◌∷◌, ◌++◌, length, map, Option, Some, None, slice_get, refl, ap, sym, subst, ◌∙◌, arith}
 use Rattle.std.specs.Prelude.{◌≢◌, ◌==◌, IsTrue, slice_index, slice_index_or, take}
-use Rattle.std.specs.List.{All, AllPairs, AllZip, Contains, filter}
+use Rattle.std.specs.List.{AllPairs, AllZip, Contains, filter}
 use Rattle.std.specs.Option.{option_map}
 use Rattle.std.proofs.lemmas.Bool.{eq-eqb}
 use Rattle.std.proofs.lemmas.List.{append-nil}
@@ -45,19 +45,16 @@ use Rattle.script_text.specs.Commands.{content_of}
 use Rattle.script_text.specs.Fitting.{AreObjectColours, IsFitting, IsKindWithin, UsesObject}
 use Rattle.script_text.specs.Pieces.{is_transactional}
 use Rattle.script_text.proofs.CallerLemmas.{colours_few}
-use Rattle.report_text.specs.declared.report.Answer.{Answer}
-use Rattle.report_text.specs.declared.report.ColumnReport.{ColumnReport}
 use Rattle.report_text.specs.declared.report.PointPiece.{PointPiece}
-use Rattle.report_text.specs.declared.report.ReplyLine.{ReplyLine}
 use Rattle.report_text.specs.declared.report.SyncPiece.{SyncPiece}
 use Rattle.report_text.specs.declared.report.Report.{Report}
-use Rattle.lawful_run.specs.Callers.{Caller, caller_of, commands_of}
+use Rattle.lawful_run.specs.Callers.{caller_of, commands_of}
 use Rattle.lawful_run.specs.Asks.{colours_of_object, keys_of_pairs, object_colours, rising, shards}
 use Rattle.lawful_run.specs.Deeds.{AsksToAppend}
 use Rattle.lawful_run.specs.Explains.{Explains}
 use Rattle.lawful_run.specs.Lawful.{LawfulRun}
-use Rattle.lawful_run.specs.ObjectReadings.{AreClosing, IsClosing, IsNodeOf}
-use Rattle.lawful_run.specs.Readings.{ClosingLinesRise, IsAppend, NodeTold, Nowhere, OneKey, Perhaps, ReturnedAppendsStand, StandsAs, StandsAtEnd, StandsAtPoints, StoodAt, Under, UnderAt, kept_of, told}
+use Rattle.lawful_run.specs.ObjectReadings.{IsClosing, IsNodeOf}
+use Rattle.lawful_run.specs.Readings.{ClosingLinesRise, NodeTold, Nowhere, OneKey, Perhaps, ReturnedAppendsStand, StandsAs, StandsAtEnd, StandsAtPoints, StoodAt, Under, UnderAt, kept_of, told}
 use Rattle.part_law.specs.Premises.{AreApart, AreTextsFree, IsFree}
 use Rattle.part_law.proofs.Asking.{Commits, DecidesBy, IsOne, same_colours, which}
 use Rattle.part_law.proofs.Colours.{has_in, in_rising, in_set, kind_some, rising_in, same_object, set_has, shards_in, shards_touch}
@@ -97,9 +94,11 @@ point_of : (report : Report) (region : ℕ) (id : Id) (colours : Colours) (stamp
     → StandsAtPoints report region id colours stamp points → (c : ℕ) → In c (members colours)
     → (position : ℕ) × StandsAtEnd report region c position (entry_key stamp id)
 point_of report region id colours stamp points s c i =
-    let m = in_map (λ (p : PointPiece). p.colour) points c (subst (λ (l : List ℕ). In c l) (sym s.all) i) in
-    (m.0.position, subst (λ (d : ℕ). StandsAtEnd report region d m.0.position (entry_key stamp id)) m.2
-    (s.each m.0 (contains_in points m.0 m.1)))
+    let m = in_map (λ (p : PointPiece). p.colour) points c (subst (λ (l : List ℕ). In c l) (sym s.all) i) in (
+      m.0.position,
+      subst (λ (d : ℕ). StandsAtEnd report region d m.0.position (entry_key stamp id)) m.2
+          (s.each m.0 (contains_in points m.0 m.1)),
+    )
 
 at_some : (report : Report) (region : ℕ) (id : Id) (colours : Colours) (tells : NodeTold)
     → StandsAs report region id colours tells → (tells ≡ Perhaps → ⊥) → (c : ℕ) → In c (members colours)
@@ -118,7 +117,6 @@ module _ (script : Script) (report : Report) (fits : IsFitting script) (apart : 
     (held : Object) (there : slice_get script.objects object ≡ Some held) (home : ℕ) (colours : List ℕ)
     (kind : held.kind ≡ kinds.Parts home colours) (lines : List (List Key))
     (closing : AllZip (λ (colour : ℕ) (line : List Key). IsClosing report own colour line) (rising colours) lines) where
-
   -- THE OBJECT
 
   object_within : (o : ℕ) (found : Object) → slice_get script.objects o ≡ Some found

@@ -1,5 +1,5 @@
 -- Texts that are neither a transaction's nor a decision's say nothing to a part.
-use Rattle.std.proofs.Common.{◌≡◌, ◌⊎◌, inl, inr, ℕ, Bool, true, false, cond, ◌&&◌, ◌||◌, List, [], ◌∷◌, length, map, Option, Some, None, refl, ap, sym, subst, ◌∙◌}
+use Rattle.std.proofs.Common.{◌≡◌, ℕ, Bool, true, false, cond, ◌&&◌, ◌||◌, List, [], ◌∷◌, length, map, Option, None, refl, ap, sym, subst, ◌∙◌}
 use Rattle.std.specs.Prelude.{◌==◌}
 use Rattle.std.specs.List.{cons_option, filter, filter_map}
 use Rattle.log_node.specs.declared.ids.Key.{Key}
@@ -11,9 +11,8 @@ use Rattle.object_fold.specs.Nodes.{ObjectNode}
 use Rattle.part_fold.specs.declared.decision.Decision.{Decision}
 use Rattle.part_fold.specs.Decisions.{decision_of, decision_after}
 use Rattle.part_fold.specs.Parts.{transaction_by, transactions, decisions}
-use Rattle.part_fold.specs.declared.transaction.Transaction.{Transaction}
 use Rattle.script_text.specs.Pieces.{is_transactional}
-use Rattle.col_core.proofs.CallerLemmas.{apart, by_test, choice, if_false, if_true}
+use Rattle.col_core.proofs.CallerLemmas.{apart, choice, if_false}
 
 -- the form is no transaction
 abbrev IsOther : Form → Type 0

@@ -8,10 +8,9 @@ use Rattle.std.proofs.lemmas.Slice.Eq.{bytes_eq-Decides}
 use Rattle.std.proofs.lemmas.List.{length-map}
 use Rattle.log_node.specs.declared.forms.Pair.{Pair}
 use Rattle.object_form.specs.Forms.{is_word, are_distinct, ArePairs}
-use Rattle.object_fold.specs.Transactions.{CanRead}
 use Rattle.col_core.proofs.CallerLemmas.{both, by_test, not_true, apart}
-use Rattle.script_text.specs.Pieces.{is_key, is_among}
-use Rattle.script_text.specs.Grammar.{are_new_keys, are_keys, are_pairs}
+use Rattle.script_text.specs.Pieces.{is_among}
+use Rattle.script_text.specs.Grammar.{are_new_keys, are_pairs}
 
 or_no : (a b : Bool) → (a || b) ≡ false → (a ≡ false) × (b ≡ false)
 or_no true b e = absurd (let f : ⊥ = cc in f)
