@@ -10,3 +10,4 @@ mod Deciding
 mod Standing
 mod Peeks
 mod LogReading
+mod Decisions

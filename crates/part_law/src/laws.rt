@@ -1,5 +1,5 @@
 // Laws of objects that keep their colours to themselves. Each function does nothing, and its contract is the law.
-ghost use Rattle.part_law.specs.Laws.{PeeksAgree, ScriptsKeepApart};
+ghost use Rattle.part_law.specs.Laws.{DecisionsAreTrue, PeeksAgree, ScriptsKeepApart};
 
 use lawful_run::{closing_lines_rise, one_key, returned_appends_stand};
 use object_form::reads_back;
@@ -27,3 +27,8 @@ pub fn peeks_agree()
     parts_agree();
     parts_are_shards();
 }
+
+/// What a decision says of its transaction is the verdict over all nodes, however many come later.
+pub fn decisions_are_true()
+    ensures { DecisionsAreTrue }
+{}
