@@ -116,7 +116,7 @@ module _ (script : Script) (report : Report) (fits : IsFitting script) (run : La
       )
 
   -- the line of the first events begins the line
-  line_prefix : (own colour : ℕ) → own < regions → colour < script.shape.colours → (events : ℕ)
+  pub line_prefix : (own colour : ℕ) → own < regions → colour < script.shape.colours → (events : ℕ)
       → IsPrefix (line (take events (run.log.histories own colour))) (line (run.log.histories own colour))
   line_prefix own colour lo lc events =
       let h = run.log.histories own colour in
@@ -209,7 +209,7 @@ module _ (script : Script) (report : Report) (fits : IsFitting script) (run : La
       })
 
   -- the order of a stamped read is that of the closing lines
-  read_order : (client : ℕ) (kept : Kept) (colours : List ℕ) (stamp : ℕ) (raises : List RaisePiece)
+  pub read_order : (client : ℕ) (kept : Kept) (colours : List ℕ) (stamp : ℕ) (raises : List RaisePiece)
       (syncs : List SyncPiece) (after : Kept) (keys : List Key)
       → ReadsAt run.log (caller_of script client) kept colours stamp raises syncs after → AreKeysRead run.log
       (caller_of script client) stamp syncs keys
@@ -264,7 +264,7 @@ module _ (script : Script) (report : Report) (fits : IsFitting script) (run : La
       )
 
   -- what a sync's snapshot counts of the own line are the first keys of the closing line
-  played_first : (client : ℕ) (kept : Kept) (sync : SyncPiece) → Syncs run.log
+  pub played_first : (client : ℕ) (kept : Kept) (sync : SyncPiece) → Syncs run.log
       (caller_of script client) kept sync.colour sync.events sync.counts
       → (l : List Key) → IsClosing report (caller_of script client).own sync.colour l
       → take (at sync.counts (caller_of script client).own) l ≡ own_played run.log (caller_of script client) sync
