@@ -31,7 +31,7 @@ players_later law s c d on ps is of = record {
 }
 
 -- of the same players the same is so
-players_as : (c : Client) (ps qs : PartPlayers) → AreSamePlayers ps qs → ArePlayersOf c ps
+pub players_as : (c : Client) (ps qs : PartPlayers) → AreSamePlayers ps qs → ArePlayersOf c ps
     → ((n : ℕ) (p : PartPlayer) → slice_get qs.players.items n ≡ Some p → IsPlayerOf c p × IsOfMap ps.home ps.colours p)
     → ArePlayersOf c qs
 players_as c ps qs same of each = record {

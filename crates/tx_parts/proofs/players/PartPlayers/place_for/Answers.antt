@@ -21,7 +21,7 @@ returns-clause-players c client of =
 pub returns-clause-there : goal.returns-clause-there
 returns-clause-there c = (
   c.open-player.result,
-  subst (λ (k : ℕ). slice_get c.push.new.self.items k ≡ Some c.open-player.result) (sym c.len-place.ensures)
+  subst (λ (k : ℕ). slice_get c.push.new.self.items k ≡ Some c.open-player.result) (sym (c.len-place.ensures ∙ c.args.self.now.players.ok.0))
       (ap (λ (l : List PartPlayer). slice_get l (length c.args.self.now.players.items)) c.in_ok-push.ensures.items
       ∙ last_there c.args.self.now.players.items c.open-player.result),
   c.open-player.ensures.of.2,
