@@ -19,9 +19,11 @@ EVENT = re.compile(
 )
 ROW = re.compile(rf"row {NAME} {ID} {ID}(?: {NAME}=(?:-|\d+|memory|stampend))+ (?:open|final \d+|gone memory|gone stampend)")
 # The commands that append, those that read at a stamp, and those whose own node stands before they read.
-APPENDS = ("append", "only", "stop", "put", "del", "putall", "enq", "deq", "commit", "mk", "rm", "mv")
-STAMPED = ("scan", "getall", "read", "commit", "mk", "rm", "mv", "ls")
+APPENDS = ("append", "only", "stop", "put", "del", "putall", "enq", "deq", "commit", "mk", "rm", "mv", "decide")
+STAMPED = ("scan", "getall", "read", "commit", "mk", "rm", "mv", "ls", "decide")
 UNREAD = ("deq", "commit", "mk", "rm", "mv")
+# Those that answer by what they read alone, before a node of theirs stands.
+READS = ("scan", "get", "getall", "read", "ls", "peek", "decide")
 # Those that may complete what another client has left open.
 HELPS = [word for word in APPENDS + STAMPED if word not in ("only", "stop")]
 
@@ -33,6 +35,7 @@ PUT = re.compile(rf"[pm]:({PAIR}(?:,{PAIR}){{0,3}})")
 TRANSACTION = re.compile(rf"t:({WORD}@(?:-|\d+\.\d+\.\d+)(?:,{WORD}@(?:-|\d+\.\d+\.\d+))?)\|({PAIR}(?:,{PAIR})?)")
 PATH = r"(?:/[a-z0-9]{1,8}){1,4}"
 CHANGE = re.compile(rf"k:({PATH})={WORD}|x:({PATH})|v:({PATH})>({PATH})")
+DECISION = re.compile(r"z:(0|[1-9]\d*)\.(0|[1-9]\d*)\.(0|[1-9]\d*)=([01])")
 
 
 class Fault(Exception):
@@ -199,6 +202,10 @@ def changed(paths, made, removed, source, target):
     return why, paths - moves | after
 
 
+def shard_of(colours, key):
+    return colours[sum(key.encode("ascii")) % len(colours)]
+
+
 def pairs_of(text):
     return [pair.split("=") for pair in text.split(",")]
 
@@ -210,6 +217,8 @@ class Folds:
         self.judge, self.script, self.known = judge, judge.script, {}
         # Of each commit: its object, and the keys and the stamp of the read that it uses up.
         self.read_of = {}
+        # Of each decision: its object, the colour, how much of its line was synced, and whether it says that the transaction commits.
+        self.decision_of = {}
 
     def text(self, id):
         if id not in self.known:
@@ -221,6 +230,9 @@ class Folds:
                 _, writers, _ = self.transactions(name, stamp)
                 versions = [f"{key}@{self.version(writers.get(key))}" for key in keys]
                 text = f"t:{','.join(versions)}|{','.join(command.fields[1:])}"
+            elif command.word == "decide":
+                name, colour, count, commits = self.decision_of[command.number]
+                text = f"z:{self.version(self.part(name, colour, count)[1])}={int(commits)}"
             else:
                 text = reports.TEXT_OF[command.word, self.script.objects[command.fields[0]][0]](command.fields)
             self.known[id] = text
@@ -292,16 +304,24 @@ class Folds:
         history = self.judge.histories[home, colours[0]]
         return {history.key(id, of): id for colour in colours for id, of, _ in self.line(home, colour) if of <= stamp}
 
+    def transaction(self, id):
+        """The keys with their versions that a transaction read, and the pairs that it writes, or None where the node is none."""
+        found = TRANSACTION.fullmatch(self.text(id))
+        reads = [read.split("@") for read in found[1].split(",")] if found else []
+        writes = pairs_of(found[2]) if found else []
+        if not found or any(len({name for name, _ in some}) < len(some) for some in (reads, writes)):
+            return None
+        return reads, writes
+
     def transactions(self, name, stamp):
         """Values, last committed writers, and each transaction's verdict, over the nodes up to a stamp."""
         nodes = self.nodes_of(name, stamp)
         values, writers, verdicts = {}, {}, {}
         for key in sorted(nodes):
-            found = TRANSACTION.fullmatch(self.text(nodes[key]))
-            reads = [read.split("@") for read in found[1].split(",")] if found else []
-            writes = pairs_of(found[2]) if found else []
-            if not found or any(len({name for name, _ in some}) < len(some) for some in (reads, writes)):
+            found = self.transaction(nodes[key])
+            if not found:
                 continue
+            reads, writes = found
             differs = [name for name, version in reads if self.version(writers.get(name)) != version]
             if differs:
                 verdicts[nodes[key]] = f"conflict {differs[0]} {writers.get(differs[0], (0,))[0]}"
@@ -310,6 +330,47 @@ class Folds:
                 values.update(writes)
                 writers.update({name: key for name, _ in writes})
         return values, writers, verdicts
+
+    def part(self, name, colour, count):
+        """What the first nodes of one colour's line tell of that shard: its values, and the key of the first transaction of which they do
+        not tell whether it commits, or None. Such a one, and all behind it, write nothing yet."""
+        _, home, colours = self.script.objects[name]
+        history = self.judge.histories[home, colour]
+        nodes = [(history.key(id, stamp), id) for id, stamp, *_ in self.line(home, colour)[:count]]
+        decisions, values, writers = {}, {}, {}
+        for _, id in nodes:
+            said = DECISION.fullmatch(self.text(id))
+            if said:
+                decisions.setdefault(tuple(map(int, said.groups()[:3])), said[4] == "1")
+        for key, id in nodes:
+            found = self.transaction(id)
+            if not found:
+                continue
+            reads, writes = found
+            if all(shard_of(colours, read) == colour for read, _ in reads):
+                commits = all(self.version(writers.get(read)) == version for read, version in reads)
+            elif key in decisions:
+                commits = decisions[key]
+            else:
+                return values, key
+            if commits:
+                values.update((written, value) for written, value in writes if shard_of(colours, written) == colour)
+                writers.update((written, key) for written, _ in writes if shard_of(colours, written) == colour)
+        return values, None
+
+    def peeked(self, name, colour, count, key):
+        """What these nodes tell of a key: its value, that it has none, or the stamp of the transaction that has to be decided before."""
+        values, waits = self.part(name, colour, count)
+        return f"undecided {waits[0]}" if waits else values.get(key, "none")
+
+    def decided(self, name, colour, count, stamp):
+        """The verdict on the first transaction of which these nodes do not tell it, by the nodes of all colours up to a stamp; none where
+        there is no such transaction."""
+        waits = self.part(name, colour, count)[1]
+        if not waits:
+            return "none"
+        verdict = self.transactions(name, stamp)[2].get(self.nodes_of(name, stamp).get(waits), "none")
+        return f"{verdict.split(' ')[0]} {waits[0]}"
 
     def tree(self, name, stamp):
         """The paths that are there, and what each change is told, over the nodes up to a stamp."""
@@ -569,8 +630,7 @@ class Walk:
         return self.script.objects.get(command.fields[0]) if command.word not in of_the_log else None
 
     def shard(self, key):
-        colours = self.object_of()[2]
-        return colours[sum(key.encode("ascii")) % len(colours)]
+        return shard_of(self.object_of()[2], key)
 
     def append_colours(self):
         word, fields = self.command.word, self.command.fields
@@ -580,7 +640,7 @@ class Walk:
         if word in ("enq", "deq") or kind == "causal":
             return colours
         keys = [field.split("=")[0] for field in fields[1:]]
-        if word in ("put", "del"):
+        if word in ("put", "del", "decide"):
             keys = [fields[1]]
         if word == "commit":
             keys = keys + self.last_read[0]
@@ -599,6 +659,8 @@ class Walk:
             return colours
         if word == "get":
             return [self.shard(fields[1])] if kind == "map" else colours
+        if word == "peek":
+            return [self.shard(fields[1])]
         if word == "getall":
             return self.judge.in_order(map(self.shard, fields[1:]))
         return self.judge.in_order(colours)
@@ -763,14 +825,14 @@ class Walk:
                 self.make(row.id)
                 for colour in row.marks:
                     self.need(row.id not in self.own[colour].entries, f"{row.id} is gone, and is in {colour}")
-        if word in ("scan", "get", "getall", "read", "ls"):
+        if word in READS:
             self.hide_reading(self.read_colours())
         if word == "pull":
             self.hide({("give", *self.command.fields)})
 
     def look_at_stampend(self):
         self.answer.next("stampend")
-        self.need(self.command.word in APPENDS, "no append")
+        self.need(self.command.word in APPENDS and self.command.word != "decide", "it can't end so")
         colours = self.append_colours()
         colour = self.answer.next(NAME)
         self.need(colour in colours, f"colour {colour}")
@@ -781,7 +843,10 @@ class Walk:
             self.need(row.outcome == "gone stampend" and ended[0] == colour, f"row {row.name}")
             self.make(row.id)
         else:
-            self.need(max([self.own[colour].clocks[-1], *self.floors()]) == END, f"the stamps of {colour} have not ended")
+            self.need_end(colour)
+
+    def need_end(self, colour):
+        self.need(max([self.own[colour].clocks[-1], *self.floors()]) == END, f"the stamps of {colour} have not ended")
 
     def look_at_full(self):
         used = self.answer.number_behind("full")
@@ -791,7 +856,7 @@ class Walk:
 
     def look_at_trimmed(self):
         self.answer.next("trimmed")
-        self.need(self.command.word in ("sync", "scan", "get", "getall", "read", "ls"), "it can't be trimmed")
+        self.need(self.command.word in ("sync", *READS), "it can't be trimmed")
         self.take_trimmed()
         if self.command.word != "sync":
             self.hide_reading(self.read_colours())
@@ -964,6 +1029,44 @@ class Walk:
         self.take_stamped(read_stamp, self.read_colours())
         name, id = self.command.fields[0], self.own[colours[0]].stamped(stamp, self.client)
         self.compare(verdict, lambda: self.judge.folds.transactions(name, read_stamp)[2].get(id))
+
+    def look_at_peek(self):
+        name, key = self.command.fields
+        found = self.answer.next("ok|none|undecided")
+        if found == "ok":
+            found = self.answer.next(WORD)
+        elif found == "undecided":
+            found += " " + self.answer.next(r"\d+")
+        colour, count = self.take_part()
+        self.compare(found, lambda: self.judge.folds.peeked(name, colour, count, key))
+
+    def look_at_decide(self):
+        """A sync of the key's colour; and where a transaction is not decided there, a stamped read of all colours, and then the append."""
+        name, folds = self.command.fields[0], self.judge.folds
+        found = self.answer.next("none|committed|conflict")
+        if found == "none":
+            colour, count = self.take_part()
+            self.compare(None, lambda: folds.part(name, colour, count)[1])
+            return
+        verdict = f"{found} {self.answer.next('[0-9]+')}"
+        colour, count = self.take_part()
+        stamp = self.answer.number_behind("at")
+        self.take_stamped(stamp, self.read_colours())
+        ended = self.answer.next("ok|stampend|nomemory")
+        if ended == "ok":
+            folds.decision_of[self.command.number] = name, colour, count, found == "committed"
+            self.take_points([colour], int(self.answer.next(r"\d+")), None)
+        elif ended == "stampend":
+            self.need(self.answer.next(NAME) == colour, f"an append to {colour}")
+            self.need_end(colour)
+        self.compare(verdict, lambda: folds.decided(name, colour, count, stamp))
+
+    def take_part(self):
+        """The sync of the one colour of a command's key: that colour, and how much of its own line was synced."""
+        (colour,) = [self.shard(self.command.fields[1])]
+        self.take_syncs([colour])
+        (counts,) = self.starts[colour]
+        return colour, counts[self.own[colour].own]
 
     def look_at_mk(self):
         told = self.answer.next("done|failed")

@@ -9,6 +9,7 @@ use std::thread::Threads;
 
 mod causal;
 mod colours_apart;
+mod decisions;
 mod edges;
 mod in_turn;
 mod large;

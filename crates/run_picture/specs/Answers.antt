@@ -1,5 +1,5 @@
 -- What a command was answered, as a drawing has it.
-use Rattle.std.specs.Prelude.{Bool, ℕ, ◌==◌, min, ◌&&◌, List, [], ◌∷◌, ◌++◌, Option, Some, None, option_map, slice_get, slice_index, decimal, codes}
+use Rattle.std.specs.Prelude.{Bool, true, false, ℕ, ◌==◌, min, ◌&&◌, List, [], ◌∷◌, ◌++◌, Option, Some, None, option_map, slice_get, slice_index, decimal, codes}
 use Rattle.std.specs.List.{flat_map, find, enumerate_from}
 use Rattle.log_node.specs.declared.ids.Id.{Id}
 use Rattle.log_node.specs.declared.ids.Counts.{Counts}
@@ -10,7 +10,9 @@ use Rattle.script_text.specs.declared.script.Script.{Script}
 use Rattle.report_text.specs.declared.report.PointPiece.{PointPiece}
 use Rattle.report_text.specs.declared.report.KeyAnswer.{KeyAnswer}
 use Rattle.report_text.specs.declared.report.Answer.{Answer}
-use Rattle.report_text.specs.declared.report.Answer.TheVariants.{Stood, StampEnd, Full, Stopped, Synced, Scanned, Pulled, SameRegion, Based, Got, GotMany, GotKeys, Ruled, Changed, Listed, Moved, NoTx, Took, UnreadTrimmed, UnreadNoMemory, Trimmed, NotHome, NoMemory}
+use Rattle.report_text.specs.declared.report.Answer.TheVariants.{Stood, StampEnd, Full, Stopped, Synced, Scanned, Pulled, SameRegion, Based, Got, GotMany, GotKeys, Ruled, Changed, Listed, Undecided, Decided, Moved, NoTx, Took, UnreadTrimmed, UnreadNoMemory, Trimmed, NotHome, NoMemory}
+use Rattle.report_text.specs.declared.report.Ended.{Ended}
+use Rattle.report_text.specs.declared.report.Ended.TheVariants as endings
 use Rattle.report_text.specs.declared.report.ColumnReport.{ColumnReport}
 use Rattle.report_text.specs.declared.report.Report.{Report}
 use Rattle.report_text.specs.Names.{client_name}
@@ -113,6 +115,25 @@ abbrev pub listed_label : Option (List (List ℕ)) → List ℕ
 listed_label None = texts_joined (codes "missing" ∷ [])
 listed_label (Some names) = values_label names
 
+-- a transaction whose verdict is not known yet
+abbrev pub undecided_label : ℕ → List ℕ
+undecided_label stamp = texts_joined (codes "undecided " ∷ decimal stamp ∷ [])
+
+-- the verdict that is decided on the transaction under this stamp
+abbrev pub decision_label : Bool → ℕ → List ℕ
+decision_label true stamp = texts_joined (codes "committed " ∷ decimal stamp ∷ [])
+decision_label false stamp = texts_joined (codes "conflict " ∷ decimal stamp ∷ [])
+
+-- the id of the node of a decision whose append in this region ended so
+abbrev pub ended_id : Report → ℕ → Ended → Option Id
+ended_id report region (endings.Stood stamp point) = id_at report region point
+ended_id report region (endings.StampEnd _) = None
+ended_id report region endings.NoMemory = None
+
+-- a decision's node, and the verdict
+abbrev pub decided_label : Report → Option Id → Bool → ℕ → List ℕ
+decided_label report id commits stamp = id_label report id ++ decision_label commits stamp
+
 -- what a command of a client of this region was answered
 abbrev pub answer_label : Script → Report → ℕ → Answer → List ℕ
 answer_label script report region (Stood stamp _ points) = stood_label report (first_id report region points) stamp
@@ -121,6 +142,9 @@ answer_label script report region (Ruled conflict stamp _ points _ _ _) =
 answer_label script report region (Changed failed stamp _ points _ _ _) =
     changed_label report (first_id report region points) failed stamp
 answer_label script report region (Listed names _ _ _) = listed_label names
+answer_label script report region (Undecided stamp _) = undecided_label stamp
+answer_label script report region (Decided commits stamp _ _ _ _ ended) =
+    decided_label report (ended_id report region ended) commits stamp
 answer_label script report region (Moved lined _ _ _) = texts_joined (codes "moved " ∷ decimal lined ∷ [])
 answer_label script report region (Took value point _) = took_label report (id_at report region point) value
 answer_label script report region (Got value _) = value_label value

@@ -10,7 +10,9 @@ use Rattle.script_text.specs.declared.script.Script.{Script}
 use Rattle.report_text.specs.declared.report.SyncPiece.{SyncPiece}
 use Rattle.report_text.specs.declared.report.PointPiece.{PointPiece}
 use Rattle.report_text.specs.declared.report.Answer.{Answer}
-use Rattle.report_text.specs.declared.report.Answer.TheVariants.{Stood, StampEnd, Full, Stopped, Synced, Scanned, Pulled, SameRegion, Based, Got, GotMany, GotKeys, Ruled, Changed, Listed, Moved, NoTx, Took, UnreadTrimmed, UnreadNoMemory, Trimmed, NotHome, NoMemory}
+use Rattle.report_text.specs.declared.report.Answer.TheVariants.{Stood, StampEnd, Full, Stopped, Synced, Scanned, Pulled, SameRegion, Based, Got, GotMany, GotKeys, Ruled, Changed, Listed, Undecided, Decided, Moved, NoTx, Took, UnreadTrimmed, UnreadNoMemory, Trimmed, NotHome, NoMemory}
+use Rattle.report_text.specs.declared.report.Ended.{Ended}
+use Rattle.report_text.specs.declared.report.Ended.TheVariants as endings
 use Rattle.report_text.specs.declared.report.ClientReport.{ClientReport}
 use Rattle.report_text.specs.declared.report.ColumnReport.{ColumnReport}
 use Rattle.report_text.specs.declared.report.Report.{Report}
@@ -38,11 +40,13 @@ plays (Synced sync _) region colour position = is_in region colour position sync
 plays (Got _ sync) region colour position = is_in region colour position sync
 plays (GotMany _ sync) region colour position = is_in region colour position sync
 plays (Took _ _ sync) region colour position = is_in region colour position sync
+plays (Undecided _ sync) region colour position = is_in region colour position sync
 plays (Scanned _ _ _ syncs) region colour position = is_in_any region colour position syncs
 plays (GotKeys _ _ _ syncs) region colour position = is_in_any region colour position syncs
 plays (Ruled _ _ _ _ _ _ syncs) region colour position = is_in_any region colour position syncs
 plays (Changed _ _ _ _ _ _ syncs) region colour position = is_in_any region colour position syncs
 plays (Listed _ _ _ syncs) region colour position = is_in_any region colour position syncs
+plays (Decided _ _ _ _ _ syncs _) region colour position = is_in_any region colour position syncs
 plays (Moved _ _ _ _) region colour position = false
 plays (Stood _ _ _) region colour position = false
 plays (StampEnd _) region colour position = false
@@ -61,6 +65,12 @@ plays NoMemory region colour position = false
 -- it has played the node of an append of this region that stands there
 abbrev pub plays_point : Answer → ℕ → PointPiece → Bool
 plays_point answer region point = plays answer region point.colour point.position
+
+-- it has played the node of a decision whose append in this region ended so
+abbrev pub plays_end : Answer → ℕ → Ended → Bool
+plays_end answer region (endings.Stood stamp point) = plays_point answer region point
+plays_end answer region (endings.StampEnd _) = false
+plays_end answer region endings.NoMemory = false
 
 -- the position of the id in a line
 abbrev pub place_in : Id → List Key → Option ℕ
@@ -90,6 +100,8 @@ plays_made report answer region client (Stood _ _ points) = list_any (plays_poin
 plays_made report answer region client (Ruled _ _ _ points _ _ _) = list_any (plays_point answer region) points
 plays_made report answer region client (Changed _ _ _ points _ _ _) = list_any (plays_point answer region) points
 plays_made report answer region client (Took _ point _) = plays_point answer region point
+plays_made report answer region client (Undecided _ _) = false
+plays_made report answer region client (Decided _ _ _ _ _ _ ended) = plays_end answer region ended
 plays_made report answer region client (Listed _ _ _ _) = false
 plays_made report answer region client (Moved _ _ _ _) = false
 plays_made report answer region client (Stopped steps) = nat_lt 0 steps && plays_stop report answer region client

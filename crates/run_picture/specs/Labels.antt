@@ -1,5 +1,5 @@
 -- What a command says, as a drawing has it. Each field has a space before it; those at an end of a line are not seen.
-use Rattle.std.specs.Prelude.{ℕ, List, [], ◌∷◌, ◌++◌, Option, Some, None, slice_get, codes}
+use Rattle.std.specs.Prelude.{Bool, true, false, ℕ, List, [], ◌∷◌, ◌++◌, Option, Some, None, slice_get, decimal, codes}
 use Rattle.std.specs.List.{flat_map}
 use Rattle.log_node.specs.declared.ids.Colours.{Colours}
 use Rattle.log_node.specs.declared.forms.Pair.{Pair}
@@ -16,7 +16,7 @@ use Rattle.script_text.specs.Contents.{Said, Nothing, SaysText, SaysKey, SaysVal
 use Rattle.script_text.specs.Commands.{content_of, use_of, word_of}
 use Rattle.script_text.specs.Words.{word_text}
 use Rattle.report_text.specs.declared.report.Answer.{Answer}
-use Rattle.report_text.specs.declared.report.Answer.TheVariants.{Stood, StampEnd, Full, Stopped, Synced, Scanned, Pulled, SameRegion, Based, Got, GotMany, GotKeys, Ruled, Changed, Listed, Moved, NoTx, Took, UnreadTrimmed, UnreadNoMemory, Trimmed, NotHome, NoMemory}
+use Rattle.report_text.specs.declared.report.Answer.TheVariants.{Stood, StampEnd, Full, Stopped, Synced, Scanned, Pulled, SameRegion, Based, Got, GotMany, GotKeys, Ruled, Changed, Listed, Undecided, Decided, Moved, NoTx, Took, UnreadTrimmed, UnreadNoMemory, Trimmed, NotHome, NoMemory}
 use Rattle.run_picture.specs.Pieces.{text_shown, texts_joined}
 
 -- a name, and no bytes where there is none
@@ -135,8 +135,13 @@ unread_label what = texts_joined (text_shown (word_text (word_of what)) ∷ code
 abbrev pub failed_label : What → TreeWhy → List ℕ
 failed_label what why = texts_joined (text_shown (word_text (word_of what)) ∷ codes ": " ∷ text_shown (why_text why) ∷ [])
 
--- What the node says that a command made: what the command says, or what was answered to a `deq`, to a `commit` in a
--- conflict, to a change of a tree that failed, and to one of these that could not read its object.
+-- what a decision says of the transaction under this stamp
+abbrev pub decides_label : Bool → ℕ → List ℕ
+decides_label true stamp = texts_joined (codes "decide: committed " ∷ decimal stamp ∷ [])
+decides_label false stamp = texts_joined (codes "decide: conflict " ∷ decimal stamp ∷ [])
+
+-- What the node says that a command made: what the command says, or what was answered to a `deq`, to a `decide`, to a
+-- `commit` in a conflict, to a change of a tree that failed, and to one of these that could not read its object.
 abbrev pub node_label : What → Answer → List ℕ
 node_label what (Took (Some value) _ _) = texts_joined (codes "deq: " ∷ text_shown value ∷ [])
 node_label what (Took None _ _) = texts_joined (codes "deq: none" ∷ [])
@@ -145,6 +150,8 @@ node_label what (Ruled None _ _ _ _ _ _) = saying_label what
 node_label what (Changed (Some why) _ _ _ _ _ _) = failed_label what why
 node_label what (Changed None _ _ _ _ _ _) = saying_label what
 node_label what (Listed _ _ _ _) = saying_label what
+node_label what (Undecided _ _) = saying_label what
+node_label what (Decided commits stamp _ _ _ _ _) = decides_label commits stamp
 node_label what (Moved _ _ _ _) = saying_label what
 node_label what (UnreadTrimmed _ _ _) = unread_label what
 node_label what (UnreadNoMemory _) = unread_label what

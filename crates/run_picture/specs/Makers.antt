@@ -7,7 +7,9 @@ use Rattle.log_node.specs.Order.{same_id}
 use Rattle.script_text.specs.declared.script.Command.{Command}
 use Rattle.report_text.specs.declared.report.PointPiece.{PointPiece}
 use Rattle.report_text.specs.declared.report.Answer.{Answer}
-use Rattle.report_text.specs.declared.report.Answer.TheVariants.{Stood, StampEnd, Full, Stopped, Synced, Scanned, Pulled, SameRegion, Based, Got, GotMany, GotKeys, Ruled, Changed, Listed, Moved, NoTx, Took, UnreadTrimmed, UnreadNoMemory, Trimmed, NotHome, NoMemory}
+use Rattle.report_text.specs.declared.report.Answer.TheVariants.{Stood, StampEnd, Full, Stopped, Synced, Scanned, Pulled, SameRegion, Based, Got, GotMany, GotKeys, Ruled, Changed, Listed, Undecided, Decided, Moved, NoTx, Took, UnreadTrimmed, UnreadNoMemory, Trimmed, NotHome, NoMemory}
+use Rattle.report_text.specs.declared.report.Ended.{Ended}
+use Rattle.report_text.specs.declared.report.Ended.TheVariants as endings
 use Rattle.report_text.specs.declared.report.ReplyLine.{ReplyLine}
 use Rattle.report_text.specs.declared.report.RowReport.{RowReport}
 use Rattle.report_text.specs.declared.report.ClientReport.{ClientReport}
@@ -16,6 +18,12 @@ use Rattle.report_text.specs.declared.report.Report.{Report}
 -- an append stands at this position of this colour
 abbrev pub is_at : ℕ → ℕ → PointPiece → Bool
 is_at colour position point = (point.colour == colour) && (point.position == position)
+
+-- the append of a decision ended so: it stands at this position of this colour
+abbrev pub ends_at : ℕ → ℕ → Ended → Bool
+ends_at colour position (endings.Stood stamp point) = is_at colour position point
+ends_at colour position (endings.StampEnd _) = false
+ends_at colour position endings.NoMemory = false
 
 -- the id of the later of two rows, where it is the client's
 abbrev pub later_row : ℕ → Option Id → RowReport → Option Id
@@ -42,6 +50,8 @@ makes report colour position key (Stood _ _ points) = list_any (is_at colour pos
 makes report colour position key (Ruled _ _ _ points _ _ _) = list_any (is_at colour position) points
 makes report colour position key (Changed _ _ _ points _ _ _) = list_any (is_at colour position) points
 makes report colour position key (Took _ point _) = is_at colour position point
+makes report colour position key (Undecided _ _) = false
+makes report colour position key (Decided _ _ _ _ _ _ ended) = ends_at colour position ended
 makes report colour position key (Listed _ _ _ _) = false
 makes report colour position key (Moved _ _ _ _) = false
 makes report colour position key (Stopped steps) = nat_lt 0 steps && is_last_row report key.id

@@ -3,7 +3,7 @@ ghost use Rattle.std.specs.Prelude.{◌≡◌};
 ghost use Rattle.std.specs.List.{flat_map, find, enumerate_from};
 ghost use Rattle.std.specs.Option.{option_copied};
 ghost use Rattle.report_text.specs.Output.{Adds};
-ghost use Rattle.run_picture.specs.Answers.{home_of, column_of, id_at, first_id, id_label, value_label, values_label, found_label, verdict_label, count_label, region_label, based_label, stood_label, ruled_label, told_label, changed_label, listed_label, took_label, answer_label};
+ghost use Rattle.run_picture.specs.Answers.{home_of, column_of, id_at, first_id, id_label, value_label, values_label, found_label, verdict_label, count_label, region_label, based_label, stood_label, ruled_label, told_label, changed_label, listed_label, took_label, undecided_label, decision_label, ended_id, decided_label, answer_label};
 
 use crate::boxes::client_name;
 use crate::labels::put_fields;
@@ -11,7 +11,7 @@ use crate::marks::count_of;
 use crate::pieces::{Piece, put_all};
 use log_node::{Counts, Id, Names, Text};
 use object_form::TreeWhy;
-use report_text::{Answer, ColumnReport, KeyAnswer, Output, PointPiece, Report};
+use report_text::{Answer, ColumnReport, Ended, KeyAnswer, Output, PointPiece, Report};
 use script_text::Script;
 
 /// The region of a client; 0 where the number names no client.
@@ -228,6 +228,42 @@ fn put_listed<O: Output>(names: &Option<Names>, out: &mut O)
     }
 }
 
+// A transaction whose verdict is not known yet.
+fn put_undecided<O: Output>(stamp: u64, out: &mut O)
+    ensures { Adds (O.state out.old) (O.state out.new) (undecided_label stamp) }
+{
+    put_all(&[Piece::Mark("undecided "), Piece::Number(stamp)], out);
+}
+
+// The verdict that is decided on a transaction.
+fn put_decision<O: Output>(commits: bool, stamp: u64, out: &mut O)
+    ensures { Adds (O.state out.old) (O.state out.new) (decision_label commits stamp) }
+{
+    match commits {
+        true => put_all(&[Piece::Mark("committed "), Piece::Number(stamp)], out),
+        false => put_all(&[Piece::Mark("conflict "), Piece::Number(stamp)], out),
+    }
+}
+
+// The id of the node of a decision whose append in this region ended so.
+fn ended_id(report: &Report, region: u8, ended: &Ended) -> Option<Id>
+    ensures { result ≡ ended_id report.now region ended.now }
+{
+    match ended {
+        Ended::Stood { point, .. } => id_at(report, region, point),
+        Ended::StampEnd { .. } => None,
+        Ended::NoMemory => None,
+    }
+}
+
+// A decision's node, and the verdict.
+fn put_decided<O: Output>(report: &Report, id: Option<Id>, commits: bool, stamp: u64, out: &mut O)
+    ensures { Adds (O.state out.old) (O.state out.new) (decided_label report.now id commits stamp) }
+{
+    put_id(report, id, out);
+    put_decision(commits, stamp, out);
+}
+
 /// What a command of a client of this region was answered.
 pub fn put_answer<O: Output>(
     script: &Script,
@@ -272,6 +308,19 @@ pub fn put_answer<O: Output>(
             out,
         ),
         Answer::Listed { names, .. } => put_listed(names, out),
+        Answer::Undecided { stamp, .. } => put_undecided(*stamp, out),
+        Answer::Decided {
+            commits,
+            stamp,
+            ended,
+            ..
+        } => put_decided(
+            report,
+            ended_id(report, region, ended),
+            *commits,
+            *stamp,
+            out,
+        ),
         Answer::Moved { length, .. } => put_all(
             &[Piece::Mark("moved "), Piece::Number(*length)],
             out,

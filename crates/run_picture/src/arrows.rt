@@ -3,7 +3,7 @@ ghost use Rattle.std.specs.Prelude.{◌≡◌};
 ghost use Rattle.std.specs.List.{flat_map, list_any, position, enumerate_from};
 ghost use Rattle.std.specs.Option.{option_copied};
 ghost use Rattle.report_text.specs.Output.{Adds};
-ghost use Rattle.run_picture.specs.Arrows.{answer_to, is_in, is_in_any, plays, plays_point, place_in, plays_column, plays_stop, plays_made, has_read, read_place, side_of, arrow_label, arrow_to, reader_arrow, maker_arrow, maker_arrows, arrows};
+ghost use Rattle.run_picture.specs.Arrows.{answer_to, is_in, is_in_any, plays, plays_point, plays_end, place_in, plays_column, plays_stop, plays_made, has_read, read_place, side_of, arrow_label, arrow_to, reader_arrow, maker_arrow, maker_arrows, arrows};
 
 use crate::answers::home_of;
 use crate::makers::{last_row, replies_of};
@@ -11,7 +11,9 @@ use crate::marks::count_of;
 use crate::pieces::{Piece, put_all};
 use crate::places::{top_of, x_of};
 use log_node::{Id, Key};
-use report_text::{Answer, ClientReport, ColumnReport, Output, PointPiece, Report, SyncPiece};
+use report_text::{
+    Answer, ClientReport, ColumnReport, Ended, Output, PointPiece, Report, SyncPiece,
+};
 use script_text::{Command, Script};
 
 /// What a command was answered.
@@ -49,11 +51,13 @@ fn plays(answer: &Answer, region: u8, colour: u8, position: u64) -> bool
         Answer::Got { sync, .. } => is_in(sync, region, colour, position),
         Answer::GotMany { sync, .. } => is_in(sync, region, colour, position),
         Answer::Took { sync, .. } => is_in(sync, region, colour, position),
+        Answer::Undecided { sync, .. } => is_in(sync, region, colour, position),
         Answer::Scanned { syncs, .. } => is_in_any(syncs.as_slice(), region, colour, position),
         Answer::GotKeys { syncs, .. } => is_in_any(syncs.as_slice(), region, colour, position),
         Answer::Ruled { syncs, .. } => is_in_any(syncs.as_slice(), region, colour, position),
         Answer::Changed { syncs, .. } => is_in_any(syncs.as_slice(), region, colour, position),
         Answer::Listed { syncs, .. } => is_in_any(syncs.as_slice(), region, colour, position),
+        Answer::Decided { syncs, .. } => is_in_any(syncs.as_slice(), region, colour, position),
         Answer::Moved { .. } => false,
         Answer::Stood { .. } => false,
         Answer::StampEnd { .. } => false,
@@ -85,6 +89,17 @@ fn plays_points(answer: &Answer, region: u8, points: &[PointPiece]) -> bool
     points
         .iter()
         .any(|point| plays_point(answer, region, point))
+}
+
+// Whether it has played the node of a decision whose append in this region ended so.
+fn plays_end(answer: &Answer, region: u8, ended: &Ended) -> bool
+    ensures { result ≡ plays_end answer.now region ended.now }
+{
+    match ended {
+        Ended::Stood { point, .. } => plays_point(answer, region, point),
+        Ended::StampEnd { .. } => false,
+        Ended::NoMemory => false,
+    }
 }
 
 // The position of the id in a line.
@@ -134,6 +149,8 @@ fn plays_made(report: &Report, answer: &Answer, region: u8, client: u8, made: &A
         Answer::Ruled { points, .. } => plays_points(answer, region, points.as_slice()),
         Answer::Changed { points, .. } => plays_points(answer, region, points.as_slice()),
         Answer::Took { point, .. } => plays_point(answer, region, point),
+        Answer::Undecided { .. } => false,
+        Answer::Decided { ended, .. } => plays_end(answer, region, ended),
         Answer::Listed { .. } => false,
         Answer::Moved { .. } => false,
         Answer::Stopped { steps } => *steps > 0 && plays_stop(report, answer, region, client),

@@ -3,7 +3,7 @@ ghost use Rattle.std.specs.Prelude.{◌≡◌};
 ghost use Rattle.std.specs.List.{flat_map};
 ghost use Rattle.script_text.specs.Commands.{use_of};
 ghost use Rattle.report_text.specs.Output.{Adds};
-ghost use Rattle.run_picture.specs.Labels.{name_among, word_label, field_label, pair_label, paths_label, pairs_label, colours_label, object_label, source_label, IsOfLog, named_label, subject_label, heading_label, content_label, short_label, saying_label, unread_label, failed_label, node_label};
+ghost use Rattle.run_picture.specs.Labels.{name_among, word_label, field_label, pair_label, paths_label, pairs_label, colours_label, object_label, source_label, IsOfLog, named_label, subject_label, heading_label, content_label, short_label, saying_label, unread_label, failed_label, decides_label, node_label};
 
 use crate::pieces::{Piece, put_all};
 use log_node::{Colours, Pair, Text};
@@ -222,8 +222,24 @@ fn put_saying<O: Output>(what: &What, out: &mut O)
     }
 }
 
-/// What the node says that a command made: what the command says, or what was answered to a `deq`, to a `commit` in a
-/// conflict, to a change of a tree that failed, and to one of these that could not read its object.
+// What a decision says of a transaction.
+fn put_decides<O: Output>(commits: bool, stamp: u64, out: &mut O)
+    ensures { Adds (O.state out.old) (O.state out.new) (decides_label commits stamp) }
+{
+    match commits {
+        true => put_all(
+            &[Piece::Mark("decide: committed "), Piece::Number(stamp)],
+            out,
+        ),
+        false => put_all(
+            &[Piece::Mark("decide: conflict "), Piece::Number(stamp)],
+            out,
+        ),
+    }
+}
+
+/// What the node says that a command made: what the command says, or what was answered to a `deq`, to a `decide`, to a
+/// `commit` in a conflict, to a change of a tree that failed, and to one of these that could not read its object.
 pub fn put_node<O: Output>(what: &What, answer: &Answer, out: &mut O)
     ensures { Adds (O.state out.old) (O.state out.new) (node_label what.now answer.now) }
 {
@@ -250,6 +266,8 @@ pub fn put_node<O: Output>(what: &What, answer: &Answer, out: &mut O)
         } => put_failed(what, *why, out),
         Answer::Changed { failed: None, .. } => put_saying(what, out),
         Answer::Listed { .. } => put_saying(what, out),
+        Answer::Undecided { .. } => put_saying(what, out),
+        Answer::Decided { commits, stamp, .. } => put_decides(*commits, *stamp, out),
         Answer::Moved { .. } => put_saying(what, out),
         Answer::UnreadTrimmed { .. } => put_unread(what, out),
         Answer::UnreadNoMemory { .. } => put_unread(what, out),

@@ -2,10 +2,10 @@
 ghost use Rattle.std.specs.Prelude.{◌≡◌, Option};
 ghost use Rattle.std.specs.List.{list_any, find};
 ghost use Rattle.std.specs.Option.{option_copied};
-ghost use Rattle.run_picture.specs.Makers.{is_at, last_row, is_last_row, makes, replies_of, command_at};
+ghost use Rattle.run_picture.specs.Makers.{is_at, ends_at, last_row, is_last_row, makes, replies_of, command_at};
 
 use log_node::{Id, Key};
-use report_text::{Answer, PointPiece, ReplyLine, Report, RowReport};
+use report_text::{Answer, Ended, PointPiece, ReplyLine, Report, RowReport};
 use script_text::Command;
 
 // Whether an append stands at this position of this colour.
@@ -20,6 +20,17 @@ fn are_at(points: &[PointPiece], colour: u8, position: u64) -> bool
     ensures { result ≡ list_any (is_at colour position) points.now }
 {
     points.iter().any(|point| is_at(point, colour, position))
+}
+
+// Whether the append of a decision stands at this position of this colour.
+fn ends_at(ended: &Ended, colour: u8, position: u64) -> bool
+    ensures { result ≡ ends_at colour position ended.now }
+{
+    match ended {
+        Ended::Stood { point, .. } => is_at(point, colour, position),
+        Ended::StampEnd { .. } => false,
+        Ended::NoMemory => false,
+    }
 }
 
 /// The id of the last append to several colours that the client began.
@@ -55,6 +66,8 @@ pub fn makes(report: &Report, colour: u8, position: u64, key: Key, answer: &Answ
         Answer::Ruled { points, .. } => are_at(points.as_slice(), colour, position),
         Answer::Changed { points, .. } => are_at(points.as_slice(), colour, position),
         Answer::Took { point, .. } => is_at(point, colour, position),
+        Answer::Undecided { .. } => false,
+        Answer::Decided { ended, .. } => ends_at(ended, colour, position),
         Answer::Listed { .. } => false,
         Answer::Moved { .. } => false,
         Answer::Stopped { steps } => *steps > 0 && is_last_row(report, key.id),

@@ -22,4 +22,4 @@ module _ (log : Log) (caller : Caller) (kept after : Kept) (colour : ℕ) (text 
 
   pub only_ended : FindsNoStamp colour text log caller kept after
       → Explains log caller kept (whats.Only colour text) (answers.StampEnd colour) [] after
-  only_ended is = (refl, λ e. let f : ⊥ = cc (e) in f, (is.0, text, (is.1, refl), is.2))
+  only_ended is = (refl, refl, (is.0, text, (is.1, refl), is.2))

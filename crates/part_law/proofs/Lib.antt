@@ -1,0 +1,13 @@
+mod KeptApart
+mod Rising
+mod Texts
+mod Asking
+mod Reading
+mod Words
+mod Lists
+mod Colours
+mod Deciding
+mod Standing
+mod Peeks
+mod LogReading
+mod Decisions
