@@ -1,5 +1,5 @@
 // Players of a transactional map, one for each of its colours that is asked for.
-ghost use Rattle.std.specs.Prelude.{◌≡◌, ◌≤◌, List, length, Some, slice_get, IfOk, IfErr, IfSome, OnOk};
+ghost use Rattle.std.specs.Prelude.{◌≡◌, ◌≤◌, length, Some, slice_get, IfOk, IfErr, IfSome};
 ghost use Rattle.std.specs.List.{Contains};
 ghost use Rattle.log_node.specs.declared.limits.TheConstants.{MAX_COLOURS};
 ghost use Rattle.object_fold.specs.Nodes.{shard_of};
@@ -55,7 +55,7 @@ impl PartPlayers {
         requires few { length self.old.colours ≤ MAX_COLOURS }
         ensures same { AreSamePlayers self.old self.new }
         ensures players { (client : Client) → ArePlayersOf client self.old → ArePlayersOf client self.new }
-        ensures there { OnOk result (λ place. (p : PartPlayer)
+        ensures there { IfOk result (λ place. (p : PartPlayer)
             × (slice_get self.new.players.items place ≡ Some p) × (p.colour ≡ colour)) }
     {
         if let Some(place) = self
@@ -82,7 +82,7 @@ impl PartPlayers {
         requires players { ArePlayersOf client.now self.old }
         ensures same { AreSamePlayers self.old self.new }
         ensures players { ArePlayersOf client.now self.new }
-        ensures there { OnOk result (IsAtPlace self.new key.now) }
+        ensures there { IfOk result (IsAtPlace self.new key.now) }
         ensures away { RefusesAway self.old.home client.now result }
         ensures err { IfErr result (NotAsked self.old.home client.now client.now) }
     {

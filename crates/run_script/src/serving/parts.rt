@@ -1,5 +1,5 @@
 // Commands of one colour of a transactional map.
-ghost use Rattle.std.specs.Prelude.{◌<◌, IsTrue, IfOk, IfSome, length};
+ghost use Rattle.std.specs.Prelude.{◌≡◌, ◌<◌, IsTrue, IfOk, IfSome, length};
 ghost use Rattle.log_client.specs.Clients.{IsClient};
 ghost use Rattle.log_client.specs.Reading.{RestsOn};
 ghost use Rattle.run_script.specs.Opened.{kind_opened, is_parts, IsOpenedOf, StaysOpen};
@@ -25,14 +25,16 @@ fn peeked(call: Result<(Peek, Synced), ObjectFault>) -> Answer
     ensures { result ≡ peek_answer call }
 {
     match call {
-        Ok((Peek::Value(value), synced)) => Answer::Got {
-            value,
-            sync: sync_shown(synced),
-        },
-        Ok((Peek::Undecided { key }, synced)) => Answer::Undecided {
-            stamp: key.stamp,
-            sync: sync_shown(synced),
-        },
+        Ok((peek, synced)) => {
+            let sync = sync_shown(synced);
+            match peek {
+                Peek::Value(value) => Answer::Got { value, sync },
+                Peek::Undecided { key } => Answer::Undecided {
+                    stamp: key.stamp,
+                    sync,
+                },
+            }
+        }
         Err(fault) => refused(fault),
     }
 }
@@ -99,19 +101,21 @@ fn decide_shown(call: Result<(Synced, Option<Decided>), ObjectFault>, room: Read
     ensures { ShowsDecide call result }
 {
     match call {
-        Ok((synced, Some(decided))) => Answer::Decided {
-            commits: decided.commits,
-            stamp: decided.key.stamp,
-            sync: sync_shown(synced),
-            read_stamp: decided.read.stamp,
-            raises: raises_shown(decided.read.raises.as_slice(), room.raises),
-            syncs: syncs_shown(decided.read.syncs.as_slice(), room.syncs),
-            ended: ended_shown(decided.appended),
-        },
-        Ok((synced, None)) => Answer::Got {
-            value: None,
-            sync: sync_shown(synced),
-        },
+        Ok((synced, made)) => {
+            let sync = sync_shown(synced);
+            match made {
+                Some(decided) => Answer::Decided {
+                    commits: decided.commits,
+                    stamp: decided.key.stamp,
+                    sync,
+                    read_stamp: decided.read.stamp,
+                    raises: raises_shown(decided.read.raises.as_slice(), room.raises),
+                    syncs: syncs_shown(decided.read.syncs.as_slice(), room.syncs),
+                    ended: ended_shown(decided.appended),
+                },
+                None => Answer::Got { value: None, sync },
+            }
+        }
         Err(fault) => refused(fault),
     }
 }
