@@ -1,7 +1,8 @@
 -- Peeks and decides, by what their calls did.
-use Rattle.std.proofs.Common.{◌≡◌, ◌≢◌, ◌⊎◌, inl, inr, ℕ, ◌+◌, ◌<◌, zero, suc, Bool, true, false, cond, List, [], ◌∷◌, length, map, get_or, Option, Some, None, refl, ap, sym, subst, ◌∙◌, arith}
+use Rattle.std.proofs.Common.{◌≡◌, ◌≢◌, ◌⊎◌, inl, inr, ℕ, ◌+◌, ◌<◌, zero, suc, Bool, true, false, cond, List, [], ◌∷◌, length, map, set, get_or, Option, Some, None, refl, ap, sym, subst, ◌∙◌, arith}
 use Rattle.std.specs.Prelude.{IsTrue, slice_get, slice_index, if◌then◌else◌}
 use Rattle.std.specs.List.{AllPairs}
+use Rattle.std.specs.Option.{option_map}
 use Rattle.std.specs.Vec.{with_item}
 use Rattle.std.proofs.lemmas.Bool.{cases_Bool}
 use Rattle.log_node.specs.declared.ids.Counts.{Counts}
@@ -18,10 +19,14 @@ use Rattle.part_fold.specs.Agreement.{part_at}
 use Rattle.part_fold.specs.Parts.{Part, part_value, place_of, undecided_after}
 use Rattle.part_fold.specs.PartStates.{IsPart}
 use Rattle.part_fold.specs.Ruled.{AreApart}
-use Rattle.col_core.proofs.CallerLemmas.{In, contains_in, if_true, if_false}
+use Rattle.col_core.proofs.CallerLemmas.{In, choice, contains_in, if_true, if_false}
 use Rattle.world_laws.specs.declared.steps.Step.TheVariants.{Play}
+use Rattle.world_laws.specs.Laws.{IsReached}
 use Rattle.world_laws.specs.Worlds.{World, after, home_of, may_play, may_single, next_id, single_stamp}
+use Rattle.script_text.specs.declared.script.Kind.{Kind}
 use Rattle.script_text.specs.declared.script.Kind.TheVariants as kinds
+use Rattle.script_text.specs.Apart.{is_parts}
+use Rattle.script_text.specs.Fitting.{AreObjectColours, HasObject, is_tx}
 use Rattle.script_text.specs.declared.script.Object.{Object}
 use Rattle.script_text.specs.declared.script.Command.{Command}
 use Rattle.report_text.specs.declared.report.Answer.{Answer}
@@ -36,18 +41,68 @@ use Rattle.script_meaning.specs.States.{State, Grants, all_granted, answered, ki
 use Rattle.script_meaning.specs.Appends.{appended_one, point_in, with_single}
 use Rattle.script_meaning.specs.Dequeues.{base_now, object_node_at, sync_now}
 use Rattle.script_meaning.specs.Parts.{commits_among, decided, decided_by, decided_in, decision_ended, nodes_now, part_of, peek_answer, peeked}
-use Rattle.script_meaning.specs.Stamped.{ReadEnd, Whole, Refused, Unraised, StampedRead, ended_so, stamped_read}
-use Rattle.script_meaning.proofs.CallerLemmas.{single_same}
+use Rattle.script_meaning.specs.Stamped.{ReadEnd, Whole, Refused, Unraised, StampedRead, ended_so, keys_read, stamped_read}
+use Rattle.script_meaning.proofs.CallerLemmas.{RunsTo, keys_ordered, parts_of, shard_below, single_same, single_to, stays_there}
 use Rattle.script_in_order.specs.Deciding.{DecidesBehind, EndsDecision}
 use Rattle.script_in_order.specs.declared.tx_folds.TxFolds.{TxFolds}
 use Rattle.script_in_order.specs.Doing.{DoneBy, with_replies}
-use Rattle.script_in_order.specs.Folds.{IsKeptLine, IsPartFold, AreTxFolds, nodes_at}
+use Rattle.script_in_order.specs.declared.folds.Fold.{Fold}
+use Rattle.script_in_order.specs.declared.folds.Fold.TheVariants as folds
+use Rattle.script_in_order.specs.Folds.{IsKeptLine, IsPartFold, AreFolded, AreTxFolds, nodes_at}
 use Rattle.script_in_order.specs.Stamped.{ReadsStamped}
-use Rattle.script_in_order.proofs.DequeueSteps.{Entered, entered, ended, entered_of, first_point, stood_so}
-use Rattle.script_in_order.proofs.FoldsKept.{parts_with}
+use Rattle.script_in_order.proofs.DequeueSteps.{Entered, entered, ended, entered_of, first_point, stood_so, unanswered}
+use Rattle.script_in_order.proofs.FoldsKept.{none_else, parts_with, tx_of, tx_put}
 use Rattle.script_in_order.proofs.GetSteps.{played_nodes}
 use Rattle.script_in_order.proofs.HelpsAndClears.{found_with, finds_all}
+use Rattle.script_in_order.proofs.ObjectSteps.{has_kind}
 use Rattle.script_in_order.proofs.StampedWholes.{finds_same}
+
+-- THE SHARD OF A KEY
+
+pub shard_is : (colours slice key bytes : List ℕ) (colour : ℕ) → colour ≡ shard_of slice bytes → slice ≡ colours
+    → bytes ≡ key → colour ≡ shard_of colours key
+shard_is colours slice key bytes colour is same of =
+    is ∙ (ap (λ (l : List ℕ). shard_of l bytes) same ∙ ap (shard_of colours) of)
+
+pub shard_within : (count : ℕ) (colours key : List ℕ) (colour : ℕ) → AreObjectColours count colours
+    → colour ≡ shard_of colours key → colour < count
+shard_within count colours key colour own is =
+    subst (λ (c : ℕ). c < count) (sym is) (shard_below count colours own.some own.below key)
+
+-- THE FOLD OF A MAP THAT IS PLAYED BY ITS PARTS
+
+parts_tx : (kind : Kind) → is_parts kind ≡ true → is_tx kind ≡ true
+parts_tx (kinds.Parts home colours) t = refl
+parts_tx _ t = absurd (let f : ⊥ = cc in f)
+
+module _ (w : World) (objects : List Object) (all : List Fold) (object : ℕ) (f : AreFolded w objects all)
+    (has : HasObject objects object is_parts) where
+  abbrev has_tx : HasObject objects object is_tx
+  has_tx = record { found = has.found; there = has.there; kind = parts_tx has.found.kind has.kind }
+
+  pub no_other : (fold : Fold) → fold ≡ get_or all object fold → ((tx : TxFolds) → fold ≡ folds.Tx tx → ⊥) → ⊥
+  no_other = none_else w objects all object f has_tx
+
+  module _ (home : ℕ) (colours : List ℕ) (is : kind_in objects object ≡ Some (kinds.Parts home colours)) where
+    its_kind : has.found.kind ≡ kinds.Parts home colours
+    its_kind =
+        let e : Some has.found.kind ≡ Some (kinds.Parts home colours) =
+        sym (ap (option_map (λ (o : Object). o.kind)) has.there) ∙ is in cc (e)
+
+    pub parts_at : (fold : Fold) (tx : TxFolds) → fold ≡ get_or all object fold → fold ≡ folds.Tx tx
+        → AreTxFolds w (kinds.Parts home colours) tx
+    parts_at fold tx there same =
+        subst (λ (k : Kind). AreTxFolds w k tx) its_kind (tx_of w objects all object f has_tx fold tx there same)
+
+    pub parts_put : (tx : TxFolds) → AreTxFolds w (kinds.Parts home colours) tx
+        → AreFolded w objects (set all object (folds.Tx tx))
+    parts_put tx right = tx_put w objects all object f has_tx tx (subst (λ (k : Kind). AreTxFolds w k tx) (sym its_kind) right)
+
+-- no other kind is of such a map
+pub only_parts : (objects : List Object) (object : ℕ) (other : Object) → HasObject objects object is_parts
+    → ((home : ℕ) (colours : List ℕ) → (get_or objects object other).kind ≡ kinds.Parts home colours → ⊥) → ⊥
+only_parts objects object other has none =
+    let p = parts_of (get_or objects object other).kind (has_kind objects object other has) in none p.0 p.1 p.2
 
 -- A PEEK
 
@@ -81,21 +136,27 @@ module _ (command : Command) (w new : World) (colours key : List ℕ) (colour : 
             ∙ ap (λ (b : Counts). answered (with_replies w replies) command w (answers.Trimmed colour b) []) (sym same);
       }))
 
-  pub peek_done : (answer : Answer) → may_play w command.client colour ≡ true → new ≡ after w (Play command.client colour)
-      → answer ≡ peek_answer (undecided_after (part_of colours key) (nodes_now w command.client colour))
-      (part_value (part_of colours key) (nodes_now w command.client colour) key) (sync_now w command.client colour)
+  -- what the part of a key's shard answers
+  abbrev answer_in : List ℕ → ℕ → Answer
+  answer_in bytes c =
+      let nodes = nodes_now w command.client c in
+      peek_answer (undecided_after (part_of colours bytes) nodes) (part_value (part_of colours bytes) nodes bytes)
+      (sync_now w command.client c)
+
+  pub peek_done : (answer : Answer) (bytes : List ℕ) → may_play w command.client colour ≡ true
+      → new ≡ after w (Play command.client colour) → bytes ≡ key → answer ≡ answer_in bytes (shard_of colours bytes)
       → DoneBy (λ _ state. peeked state command colours key) command w new answer []
-  peek_done answer may there answer_is =
+  peek_done answer bytes may there same answer_is =
+      let its : answer ≡ answer_in key colour =
+      answer_is ∙ (ap (λ (k : List ℕ). answer_in k (shard_of colours k)) same ∙ ap (answer_in key) (sym is)) in
       subst (λ (c : ℕ). DoneBy (λ _ state. peeked_on state command colours key c) command w new answer []) is (record {
         grants = all_granted;
         begun = refl;
         is = λ replies.
             let shown : World → Answer → State = λ x a. answered (with_replies w replies) command x a [] in
-            let nodes = nodes_now w command.client colour in
-            let given = peek_answer (undecided_after (part_of colours key) nodes) (part_value (part_of colours key) nodes key)
-            (sync_now w command.client colour) in
+            let given = answer_in key colour in
             if_true (may_play w command.client colour) (shown (after w (Play command.client colour)) given) _ may
-            ∙ (ap (λ (x : World). shown x given) (sym there) ∙ ap (shown new) (sym answer_is));
+            ∙ (ap (λ (x : World). shown x given) (sym there) ∙ ap (shown new) (sym its));
       })
 
 -- THE PART OF A KEY'S SHARD
@@ -166,7 +227,7 @@ absent_behind w key (k ∷ keys) below = (
   absent_behind w key keys (λ x i. below x (inr i)),
 )
 
-pub apart_rising : (w : World) (keys : List Key) → AllPairs (λ a b. IsTrue (key_below a b)) keys
+apart_rising : (w : World) (keys : List Key) → AllPairs (λ a b. IsTrue (key_below a b)) keys
     → AreApart (map (object_node_at w) keys)
 apart_rising w [] rising = tt
 apart_rising w (key ∷ keys) rising = (
@@ -176,6 +237,12 @@ apart_rising w (key ∷ keys) rising = (
       (rising zero (suc c.0) k (omega arith) (let l = c.1 in omega (arith, l)))),
   apart_rising w keys (λ i j d lt there. rising (suc i) (suc j) d (omega (arith, lt)) (omega (arith, there))),
 )
+
+-- so what became of one of them is told
+pub told_apart : (w : World) → IsReached w → (client stamp : ℕ) (colours : List ℕ)
+    → AreApart (map (object_node_at w) (keys_read w client stamp colours))
+told_apart w reached client stamp colours =
+    apart_rising w (keys_read w client stamp colours) (keys_ordered w reached client stamp colours).rising
 
 -- THE APPEND OF A DECISION
 
@@ -254,6 +321,20 @@ module _ (command : Command) (text : List ℕ) (colour : ℕ) (w new : World) wh
         (none_in state told w)) (without_in state told w) own
         ∙ ap (without_in state told) (sym same);
   }
+
+  -- steps lead there
+  pub decision_to : (last : Ended) → Ends last → RunsTo w new
+  decision_to last d =
+      let g : Grants = record all_granted { helps = d.helps; own = d.own } in
+      let v = with_single g w client text colour in
+      let told : Ended → Answer = λ _. answers.NoMemory in
+      let yes = stood_in (unanswered w) told v (single_stamp w client colour) (point_of v) in
+      let no = none_in (unanswered w) told w in
+      subst (RunsTo w) (ap (λ (s : State). s.world) (d.is g refl refl (unanswered w) told))
+      (choice (λ (s : State). RunsTo w s.world) g.own (cond (may_single w client colour) yes no)
+      (without_in (unanswered w) told w)
+      (λ _. choice (λ (s : State). RunsTo w s.world) (may_single w client colour) yes no
+      (λ _. single_to g w command text colour) (λ _. stays_there w)) (λ _. stays_there w))
 
 -- BEHIND THE SYNC
 

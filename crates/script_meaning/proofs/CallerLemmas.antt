@@ -25,14 +25,14 @@ pub use Rattle.script_meaning.proofs.Run.HelpGrants.{single_same, all_cleared_sa
 pub use Rattle.script_meaning.proofs.Object.CausalAnswers.{causal_answer, one_answer}
 pub use Rattle.script_meaning.proofs.Object.CausalNodes.{AtPlace, at_place, causal_node_is, place_within}
 pub use Rattle.script_meaning.proofs.World.ChainNodes.{line_node}
-pub use Rattle.script_meaning.proofs.Read.StampedEnds.{rising_line, keys_listed, keys_stand}
+pub use Rattle.script_meaning.proofs.Read.StampedEnds.{rising_line, keys_ordered, keys_listed, keys_stand}
 pub use Rattle.script_meaning.proofs.Read.StampedReads.{stamp_low}
 pub use Rattle.script_meaning.proofs.Object.ShardSets.{keys_set, shard_members, set_has, shard_below, shards_below, shards_has, key_in, rising_some, rising_below, own_below}
 pub use Rattle.script_meaning.proofs.Run.GrantedSteps.{RunsTo, stays_there}
 pub use Rattle.script_meaning.proofs.Transaction.VersionsFit.{can_read}
 pub use Rattle.script_meaning.proofs.Run.GrantedReads.{read_runs}
 pub use Rattle.script_meaning.proofs.Object.LaterNodes.{line_longer, nodes_stay, new_behind, whole_stamp, read_behind}
-pub use Rattle.script_meaning.proofs.Object.ObjectKinds.{object_has, queue_colour, queue_one, some_of}
+pub use Rattle.script_meaning.proofs.Object.ObjectKinds.{object_has, parts_of, queue_colour, queue_one, some_of}
 pub use Rattle.script_meaning.proofs.World.Playing.{at_or}
 pub use Rattle.script_meaning.proofs.Object.ObjectForms.{key_is_word, key_some, pairs_are}
 
