@@ -90,17 +90,17 @@ stood_in_all old new rest caller kept what colours text stamp points a appending
     )
 
 pub ended_alone : EndedAlone
-ended_alone old new rest caller kept what colours text colour a not_stopping one ended = (
+ended_alone old new rest caller kept what colours text colour a tells one ended = (
   refl,
-  not_stopping,
+  tells,
   (colours, text, a.asks, none_for_one one (no_stamp_was_left old new rest caller kept colour a.on a.keeps ended)),
 )
 
 pub ended_in_colour : EndedInColour
-ended_in_colour old new rest caller kept what colours text colour a not_stopping b ends settled =
+ended_in_colour old new rest caller kept what colours text colour a tells b ends settled =
     let node = node_of caller kept colours text in (
       refl,
-      not_stopping,
+      tells,
       (
         colours,
         text,

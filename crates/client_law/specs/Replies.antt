@@ -1,5 +1,5 @@
 -- What explains each reply, and what is kept after it: the answers to appends, stops, syncs, pulls and trims.
-use Rattle.std.specs.Prelude.{◌≡◌, ◌≢◌, ◌⊎◌, IsFalse, ℕ, ◌+◌, ◌≤◌, List, [], ◌∷◌, length, take, Some, None, slice_get}
+use Rattle.std.specs.Prelude.{◌≡◌, ◌≢◌, ◌⊎◌, IsTrue, IsFalse, ℕ, ◌+◌, ◌≤◌, List, [], ◌∷◌, length, take, Some, None, slice_get}
 use Rattle.log_node.specs.declared.ids.Colours.{Colours}
 use Rattle.log_node.specs.declared.ids.Counts.{Counts}
 use Rattle.log_node.specs.declared.node.At.{At}
@@ -21,7 +21,7 @@ use Rattle.script_text.specs.declared.commands.What.TheVariants as whats
 use Rattle.report_text.specs.declared.report.Answer.TheVariants as answers
 use Rattle.report_text.specs.declared.report.PointPiece.{PointPiece}
 use Rattle.lawful_run.specs.Callers.{Caller, node_of}
-use Rattle.lawful_run.specs.Asks.{Appending, Stopping}
+use Rattle.lawful_run.specs.Asks.{Appending, tells_stamp_end}
 use Rattle.lawful_run.specs.Deeds.{AsksToAppend, manner_of}
 use Rattle.lawful_run.specs.Appends.{kept_after_points}
 use Rattle.lawful_run.specs.Reads.{greatest_stamp}
@@ -97,14 +97,14 @@ StoodInAll = (old new : Seen) (rest : Rest) (caller : Caller) (kept : Kept) (wha
 abbrev pub EndedAlone : Type 0
 EndedAlone = (old new : Seen) (rest : Rest) (caller : Caller) (kept : Kept) (what : What) (colours : Colours)
     (text : List ℕ) (colour : ℕ) → AppendIsAsked old new caller kept what colours text
-    → manner_of what ≢ Stopping → members colours ≡ colour ∷ [] → IsAtEnd (new caller.own colour) kept.floor
+    → IsTrue (tells_stamp_end (manner_of what)) → members colours ≡ colour ∷ [] → IsAtEnd (new caller.own colour) kept.floor
     → Explains (log_seen new rest) caller kept what (answers.StampEnd colour) [] kept
 
 -- The reply to an append to several colours that is gone at the stamps' end: the least colour that had none left.
 abbrev pub EndedInColour : Type 0
 EndedInColour = (old new : Seen) (rest : Rest) (caller : Caller) (kept : Kept) (what : What) (colours : Colours)
     (text : List ℕ) (colour : ℕ) → AppendIsAsked old new caller kept what colours text
-    → manner_of what ≢ Stopping → SeesBegun old new rest caller kept (node_of caller kept colours text)
+    → IsTrue (tells_stamp_end (manner_of what)) → SeesBegun old new rest caller kept (node_of caller kept colours text)
     → EndsAtColour (log_seen new rest) (node_of caller kept colours text) colour
     → SeesSettled new rest caller (node_of caller kept colours text)
     → Explains (log_seen new rest) caller kept what (answers.StampEnd colour) []

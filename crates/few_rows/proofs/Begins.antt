@@ -14,6 +14,7 @@ use Rattle.log_node.specs.declared.limits.TheConstants.{MAX_COLOURS}
 use Rattle.log_node.specs.Seen.{PlacedNode}
 use Rattle.log_node.specs.Sets.{members}
 use Rattle.object_form.specs.Forms.{is_word}
+use Rattle.part_fold.specs.Decisions.{decision_text}
 use Rattle.tree_fold.specs.declared.change.Change.TheVariants.{Make}
 use Rattle.tree_fold.specs.Paths.{Path}
 use Rattle.tree_fold.specs.Readings.{path_of, below_root, make_of, remove_of}
@@ -26,19 +27,22 @@ use Rattle.script_text.specs.declared.script.Command.{Command}
 use Rattle.script_text.specs.Commands.{use_of}
 use Rattle.report_text.specs.declared.report.Answer.{Answer}
 use Rattle.report_text.specs.declared.report.Answer.TheVariants as answers
+use Rattle.report_text.specs.declared.report.Ended.{Ended}
+use Rattle.report_text.specs.declared.report.Ended.TheVariants as ends
 use Rattle.report_text.specs.declared.report.PointPiece.{PointPiece}
 use Rattle.report_text.specs.declared.report.RaisePiece.{RaisePiece}
 use Rattle.report_text.specs.declared.report.ReplyLine.{ReplyLine}
 use Rattle.report_text.specs.declared.report.SyncPiece.{SyncPiece}
 use Rattle.object_fold.specs.Nodes.{shard_of}
-use Rattle.lawful_run.proofs.CallerLemmas.{kept_after_hidden, before_is, behind_is, one_shard, points_leave}
+use Rattle.lawful_run.proofs.CallerLemmas.{kept_after_hidden, before_is, behind_is, not_several, points_leave}
 use Rattle.lawful_run.specs.Callers.{Caller, node_of}
-use Rattle.lawful_run.specs.Asks.{shards, object_colours, kind_asked, Manner, Appending, Guarding, Stopping, Syncing, Moving, Getting, Reading, Committing, Dequeuing}
+use Rattle.lawful_run.specs.Asks.{shards, object_colours, kind_asked, Manner, Appending, Guarding, Stopping, Syncing, Moving, Getting, Reading, Committing, Dequeuing, Deciding, rising}
 use Rattle.lawful_run.specs.Deeds.{Reach, NoColours, Named, One, ShardsOf, Saying, says_change, saying_of, found_by, Reaches, SaysNode, AsksToAppend, colours_synced, manner_of}
 use Rattle.lawful_run.specs.Appends.{Appends, AppendsUnshown, one_unshown, several_unshown, HasNoStamp, none_for_one, none_for_several}
 use Rattle.lawful_run.specs.Moves.{with_places, kept_after_pull}
 use Rattle.lawful_run.specs.Reads.{kept_after_place, kept_after_piece, Raises, ClearSyncs, ReadsAt, HidesSyncs, HidesRead, RefusesRead}
-use Rattle.lawful_run.specs.Refusals.{Hides, Refuses, FindsNoMemory, nothing, gone, gave, hidden, kept_before, kept_behind}
+use Rattle.lawful_run.specs.Refusals.{Hides, HidesDecide, Refuses, RefusesDecide, FindsNoMemory, nothing, gone, gave, hidden, kept_before, kept_behind}
+use Rattle.lawful_run.specs.Parts.{EndsAs}
 use Rattle.lawful_run.specs.Stops.{Stops, stopped_at_once, stopped_after}
 use Rattle.lawful_run.specs.Explains.{Explains, Answers, Explained, start, next}
 use Rattle.script_beside.specs.Begins.{may_take_row, begins_in}
@@ -75,28 +79,6 @@ reaches_several _ = true
 
 two_or_more : (n : ℕ) → 2 ≤ n → nat_lt 1 n ≡ true
 two_or_more n two = grind (arith, two)
-
--- a number beyond a range is none of it
-beyond : (c a n : ℕ) → a + n ≤ c → filter (λ x. (c == x) || false) (range_with_len a n) ≡ []
-beyond c a zero le = refl
-beyond c a (suc n) le =
-    step c a n le (filter (λ x. (c == x) || false) (range_with_len (a + 1) n)) (beyond c (a + 1) n (omega (arith, le))) (c == a) refl where
-      step : (c a n : ℕ) → a + suc n ≤ c → (rest : List ℕ) → rest ≡ [] → (b : Bool) → (c == a) ≡ b
-          → cond (b || false) (a ∷ rest) rest ≡ []
-      step c a n le rest none true t = let e = eqb-true c a t in absurd (let f : ⊥ = omega (arith, le, e) in f)
-      step c a n le rest none false f = none
-
--- one key has no two shards
-not_several : (colours key several : List ℕ) → several ≡ shards colours (key ∷ []) → 2 ≤ length several → ⊥
-not_several colours key several is two = at (cases_lt (shard_of colours key) MAX_COLOURS) where
-  long : length several ≡ length (shards colours (key ∷ []))
-  long = ap length is
-
-  at : (shard_of colours key < MAX_COLOURS) ⊎ (MAX_COLOURS ≤ shard_of colours key) → ⊥
-  at (inl low) = let e = ap length (one_shard colours key low) in let f : ⊥ = omega (arith, two, long, e) in f
-  at (inr high) =
-      let e = ap length (beyond (shard_of colours key) 0 MAX_COLOURS (omega (arith, high))) in
-      let f : ⊥ = omega (arith, two, long, e) in f
 
 -- a node with several colours is of a reach that may have them
 reached : (own : List ℕ) (reach : Reach) (colours : Colours) → Reaches own reach colours → 2 ≤ length (members colours)
@@ -199,6 +181,16 @@ hidden_rows log caller kept colours after h =
       | inr e ↦ same_rows kept _ after e synced
     ]
 
+decides_rows : (log : Log) (caller : Caller) (kept : Kept) (colours : List ℕ) (after : Kept)
+    → HidesDecide log caller kept colours after → KeepsRows kept after
+decides_rows log caller kept [] after h = absurd h
+decides_rows log caller kept (first ∷ all) after h =
+    let synced = syncs_rows log caller kept (first ∷ []) h.0 h.1 in
+    elim h.2 [
+      | inl e ↦ same_rows kept h.0 after e synced
+      | inr r ↦ hidden_rows log caller h.0 all after r ∙ synced
+    ]
+
 hides_rows : (log : Log) (caller : Caller) (kept : Kept) (colours : List ℕ) (manner : Manner) (after : Kept)
     → Hides log caller kept colours manner after → KeepsRows kept after
 hides_rows log caller kept colours Appending after h = same_rows kept kept after h refl
@@ -210,12 +202,22 @@ hides_rows log caller kept colours Getting after h = syncs_rows log caller kept 
 hides_rows log caller kept colours Reading after h = hidden_rows log caller kept colours after h
 hides_rows log caller kept colours Committing after h = hidden_rows log caller kept colours after h
 hides_rows log caller kept colours Dequeuing after h = syncs_rows log caller kept colours after h
+hides_rows log caller kept colours Deciding after h = decides_rows log caller kept colours after h
 
 refused_rows : (log : Log) (caller : Caller) (kept : Kept) (colours : List ℕ) (colour : ℕ) (shown : Counts) (after : Kept)
     → RefusesRead log caller kept colours colour shown after → KeepsRows kept after
 refused_rows log caller kept colours colour shown after r =
     clears_rows log caller r.stamp r.raised r.syncs after r.syncing
     ∙ raises_rows log caller r.stamp kept r.raises r.raised r.raising
+
+refused_decide_rows : (log : Log) (caller : Caller) (kept : Kept) (colours : List ℕ) (colour : ℕ) (shown : Counts)
+    (after : Kept) → RefusesDecide log caller kept colours colour shown after → KeepsRows kept after
+refused_decide_rows log caller kept [] colour shown after r = absurd r
+refused_decide_rows log caller kept (first ∷ all) colour shown after r = elim r [
+  | inl at_once ↦ same_rows kept kept after at_once.2 refl
+  | inr behind ↦ refused_rows log caller behind.0 all colour shown after behind.2
+      ∙ syncs_rows log caller kept (first ∷ []) behind.0 behind.1
+]
 
 refuses_rows : (log : Log) (caller : Caller) (kept : Kept) (colours : List ℕ) (manner : Manner) (colour : ℕ)
     (shown : Counts) (after : Kept) → Refuses log caller kept colours manner colour shown after → KeepsRows kept after
@@ -230,6 +232,8 @@ refuses_rows log caller kept colours Reading colour shown after r =
 refuses_rows log caller kept colours Committing colour shown after r =
     refused_rows log caller kept colours colour shown after r
 refuses_rows log caller kept colours Dequeuing colour shown after r = syncs_rows log caller kept colours after r.2
+refuses_rows log caller kept colours Deciding colour shown after r =
+    refused_decide_rows log caller kept colours colour shown after r
 
 -- APPENDS
 module _ (log : Log) (caller : Caller) (kept : Kept) (what : What) (colours : Colours) (text : List ℕ)
@@ -263,6 +267,14 @@ module _ (log : Log) (caller : Caller) (kept : Kept) (what : What) (colours : Co
   stop_begins steps after (stopped_after n places s) =
       inr (several_may caller kept what colours text asks s.begins.several, refl)
 
+ended_begins : (log : Log) (caller : Caller) (kept : Kept) (what : What) (said : List ℕ) (ended : Ended) (after : Kept)
+    → EndsAs log caller kept what said ended after → BeginsOne what kept after
+ended_begins log caller kept what said (ends.Stood stamp point) after e =
+    appends_begin log caller kept what e.0 e.1 e.2 stamp None (point ∷ []) after e.3.1
+ended_begins log caller kept what said (ends.StampEnd colour) after e =
+    no_stamp_begins log caller kept what e.0 e.1 e.2 colour after e.3.1
+ended_begins log caller kept what said ends.NoMemory after e = inl (same_rows kept kept after e refl)
+
 module _ (log : Log) (caller : Caller) (kept : Kept) (what : What) where
   memory_begins : (after : Kept) → FindsNoMemory log caller kept what after → BeginsOne what kept after
   memory_begins after nothing = inl refl
@@ -293,7 +305,7 @@ module _ (log : Log) (caller : Caller) (kept : Kept) (what : What) where
       (place_rows (kept_after_event (with_places kept e.1 e.2 e.6) e.1 e.2 e.4) caller.own e.2 carry))
   explained_begins answers.SameRegion nodes after e = inl (same_rows kept kept after e.1 refl)
   explained_begins (answers.Based at base) nodes after e = inl (same_rows kept _ after e.6 refl)
-  explained_begins (answers.Got value sync) nodes after e = inl (same_rows kept _ after e.10 refl)
+  explained_begins (answers.Got value sync) nodes after e = inl (same_rows kept _ after e.3 refl)
   explained_begins (answers.GotMany values sync) nodes after e = inl (same_rows kept _ after e.7 refl)
   explained_begins (answers.GotKeys stamp shown raises syncs) nodes after e =
       let t = e.2 in
@@ -314,6 +326,12 @@ module _ (log : Log) (caller : Caller) (kept : Kept) (what : What) where
       (reads_rows log caller s.1 (colours_synced caller what) read_stamp raises syncs after s.3.0)
   explained_begins (answers.Listed names stamp raises syncs) nodes after e =
       inl (reads_rows log caller kept (colours_synced caller what) stamp raises syncs after e.4.0)
+  explained_begins (answers.Undecided stamp sync) nodes after e = inl (same_rows kept _ after e.3 refl)
+  explained_begins (answers.Decided commits stamp sync read_stamp raises syncs ended) nodes after e =
+      let d = e.3 in
+      keeps_then what kept d.read after
+      (reads_rows log caller (kept_after_piece log caller kept sync) (rising e.1) read_stamp raises syncs d.read d.tells.0)
+      (ended_begins log caller d.read what (decision_text (record { key = d.waits; commits = commits })) ended after d.ends)
   explained_begins (answers.Moved lined waiting colour events) nodes after e = inl (same_rows kept _ after e.5 refl)
   explained_begins answers.NoTx nodes after e = inl (same_rows kept kept after e.1 refl)
   explained_begins (answers.Took value point sync) nodes after e =

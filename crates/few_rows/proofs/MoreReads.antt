@@ -1,6 +1,6 @@
 -- What a sync or a stamped read says of a log to a client, shown or hidden, it says too where the client may begin more
 -- rows.
-use Rattle.std.proofs.Common.{ℕ, List, [], ◌∷◌}
+use Rattle.std.proofs.Common.{ℕ, List, [], ◌∷◌, inl, inr}
 use Rattle.std.specs.Prelude.{max}
 use Rattle.log_node.specs.declared.node.At.{At}
 use Rattle.log_node.specs.declared.node.At.TheVariants.{Event, Look}
@@ -12,9 +12,9 @@ use Rattle.col_core.specs.Keeping.{Kept, updated}
 use Rattle.report_text.specs.declared.report.RaisePiece.{RaisePiece}
 use Rattle.report_text.specs.declared.report.SyncPiece.{SyncPiece}
 use Rattle.lawful_run.specs.Callers.{Caller}
-use Rattle.lawful_run.specs.Asks.{Manner, Appending, Guarding, Stopping, Syncing, Moving, Getting, Reading, Committing, Dequeuing}
+use Rattle.lawful_run.specs.Asks.{Manner, Appending, Guarding, Stopping, Syncing, Moving, Getting, Reading, Committing, Dequeuing, Deciding}
 use Rattle.lawful_run.specs.Reads.{Syncs, ShowsNode, ShowsPlayed, kept_after_piece, IsTrimmed, RaisesClock, kept_after_place, Raises, ClearSyncs, ReadsAt, HidesSync, not_played, played, HidesSyncs, HidesRead, RefusesRead}
-use Rattle.lawful_run.specs.Refusals.{Hides, Refuses}
+use Rattle.lawful_run.specs.Refusals.{Hides, HidesDecide, Refuses, RefusesDecide}
 use Rattle.few_rows.proofs.MoreFacts.{limited}
 use Rattle.log_node.proofs.CallerLemmas.{all_zip_of}
 
@@ -128,6 +128,18 @@ module _ (log : Log) (caller : Caller) (rows : ℕ) where
     after_is = h.after_is;
   }
 
+  hides_decide_more : (kept : Kept) (colours : List ℕ) (after : Kept)
+      → HidesDecide log (limited caller rows) kept colours after → HidesDecide log caller kept colours after
+  hides_decide_more kept [] after h = absurd h
+  hides_decide_more kept (first ∷ all) after h = (
+    h.0,
+    hides_syncs_more kept (first ∷ []) h.0 h.1,
+    elim h.2 [
+      | inl e ↦ inl e
+      | inr r ↦ inr (hides_read_more h.0 all after r)
+    ],
+  )
+
   pub hides_more : (kept : Kept) (colours : List ℕ) (manner : Manner) (after : Kept)
       → Hides log (limited caller rows) kept colours manner after → Hides log caller kept colours manner after
   hides_more kept colours Appending after h = h
@@ -139,6 +151,7 @@ module _ (log : Log) (caller : Caller) (rows : ℕ) where
   hides_more kept colours Reading after h = hides_read_more kept colours after h
   hides_more kept colours Committing after h = hides_read_more kept colours after h
   hides_more kept colours Dequeuing after h = hides_syncs_more kept colours after h
+  hides_more kept colours Deciding after h = hides_decide_more kept colours after h
 
   refuses_read_more : (kept : Kept) (colours : List ℕ) (colour : ℕ) (shown : Counts) (after : Kept)
       → RefusesRead log (limited caller rows) kept colours colour shown after
@@ -159,6 +172,19 @@ module _ (log : Log) (caller : Caller) (rows : ℕ) where
     trimmed = trimmed_more after colour shown r.trimmed;
   }
 
+  refuses_decide_more : (kept : Kept) (colours : List ℕ) (colour : ℕ) (shown : Counts) (after : Kept)
+      → RefusesDecide log (limited caller rows) kept colours colour shown after
+      → RefusesDecide log caller kept colours colour shown after
+  refuses_decide_more kept [] colour shown after r = absurd r
+  refuses_decide_more kept (first ∷ all) colour shown after r = elim r [
+    | inl at_once ↦ inl (at_once.0, trimmed_more kept colour shown at_once.1, at_once.2)
+    | inr behind ↦ inr (
+      behind.0,
+      hides_syncs_more kept (first ∷ []) behind.0 behind.1,
+      refuses_read_more behind.0 all colour shown after behind.2,
+    )
+  ]
+
   pub refuses_more : (kept : Kept) (colours : List ℕ) (manner : Manner) (colour : ℕ) (shown : Counts) (after : Kept)
       → Refuses log (limited caller rows) kept colours manner colour shown after
       → Refuses log caller kept colours manner colour shown after
@@ -173,3 +199,4 @@ module _ (log : Log) (caller : Caller) (rows : ℕ) where
   refuses_more kept colours Committing colour shown after r = refuses_read_more kept colours colour shown after r
   refuses_more kept colours Dequeuing colour shown after r =
       (r.0, trimmed_more kept colour shown r.1, hides_syncs_more kept colours after r.2)
+  refuses_more kept colours Deciding colour shown after r = refuses_decide_more kept colours colour shown after r

@@ -1,6 +1,6 @@
 -- What a log explains to a client that may begin few rows, it explains too where the client may begin more, if a row
 -- was left for each command that may begin one.
-use Rattle.std.proofs.Common.{◌≡◌, true, ℕ, ◌<◌, ◌≤◌, List, [], ◌∷◌, Option, None, sym, subst, ◌∙◌, arith}
+use Rattle.std.proofs.Common.{◌≡◌, Bool, true, ℕ, ◌<◌, ◌≤◌, List, [], ◌∷◌, Option, Some, None, inl, inr, sym, subst, ◌∙◌, arith}
 use Rattle.log_node.specs.declared.ids.Colours.{Colours}
 use Rattle.log_node.specs.declared.ids.Counts.{Counts}
 use Rattle.log_node.specs.declared.ids.Key.{Key}
@@ -10,23 +10,30 @@ use Rattle.log_node.specs.Seen.{PlacedNode}
 use Rattle.log_node.specs.Sets.{members}
 use Rattle.object_fold.specs.Maps.{Value}
 use Rattle.object_fold.specs.Nodes.{ObjectNode}
+use Rattle.part_fold.specs.Decisions.{decision_text}
 use Rattle.col_core.specs.History.{entry_key}
 use Rattle.col_core.specs.Log.{Log}
 use Rattle.col_core.specs.Keeping.{Kept}
+use Rattle.script_text.specs.declared.script.Kind.{Kind}
+use Rattle.script_text.specs.declared.script.Kind.TheVariants as kinds
 use Rattle.script_text.specs.declared.commands.What.{What}
 use Rattle.script_text.specs.declared.script.Command.{Command}
 use Rattle.report_text.specs.declared.report.Answer.{Answer}
 use Rattle.report_text.specs.declared.report.Answer.TheVariants as answers
+use Rattle.report_text.specs.declared.report.Ended.{Ended}
+use Rattle.report_text.specs.declared.report.Ended.TheVariants as ends
 use Rattle.report_text.specs.declared.report.PointPiece.{PointPiece}
 use Rattle.report_text.specs.declared.report.RaisePiece.{RaisePiece}
 use Rattle.report_text.specs.declared.report.ReplyLine.{ReplyLine}
 use Rattle.report_text.specs.declared.report.SyncPiece.{SyncPiece}
 use Rattle.lawful_run.specs.Callers.{Caller, node_of}
+use Rattle.lawful_run.specs.Asks.{rising}
 use Rattle.lawful_run.specs.Deeds.{AsksToAppend, colours_synced, manner_of}
 use Rattle.lawful_run.specs.Appends.{HasNoRowLeft}
-use Rattle.lawful_run.specs.Reads.{ReadsAt}
+use Rattle.lawful_run.specs.Reads.{kept_after_piece}
 use Rattle.lawful_run.specs.Moves.{CarriesNodes, Pulls, OnlyGives, Trims}
-use Rattle.lawful_run.specs.Objects.{GetsValue, GetsValues, TakesFront}
+use Rattle.lawful_run.specs.Objects.{GetsValues, TakesFront}
+use Rattle.lawful_run.specs.Parts.{AnswersGet, AsksOf, Decides, EndsAs, IsRuledAs}
 use Rattle.lawful_run.specs.Shapes.{TellsBehind, TellsRead}
 use Rattle.lawful_run.specs.Refusals.{Hides, Refuses, FindsNoMemory, nothing, gone, gave, hidden, kept_before}
 use Rattle.lawful_run.specs.Explains.{Explains, Answers, Explained, AnswersKeys, ShowsVerdict, ShowsChange, ShowsNames, start, next}
@@ -74,9 +81,16 @@ module _ (log : Log) (caller : Caller) (rows : ℕ) (few : rows ≤ caller.rows)
   trims_more kept colour place shown t = record { unseen = t.unseen; trimmed = t.trimmed; is_base = t.is_base }
 
   -- OBJECTS
-  gets_more : (colours : List ℕ) (sync : SyncPiece) (key : List ℕ) (value : Value)
-      → GetsValue log (limited caller rows) colours sync key value → GetsValue log caller colours sync key value
-  gets_more colours sync key value g = record { nodes = g.nodes; played = g.played; value_is = g.value_is }
+  asks_of_more : (what : What) (sync : SyncPiece) (kind : Option Kind) (key : List ℕ)
+      → AsksOf (limited caller rows) what sync kind key → AsksOf caller what sync kind key
+  asks_of_more what sync kind key a = (a.0, a.1, a.2, sym (synced_same caller rows what) ∙ a.3)
+
+  gets_more : (what : What) (sync : SyncPiece) (value : Value) (nodes : List ObjectNode)
+      → AnswersGet (limited caller rows) what sync value nodes → AnswersGet caller what sync value nodes
+  gets_more what sync value nodes g = elim g [
+    | inl a ↦ inl (a.0, a.1, asks_of_more what sync a.0 a.1 a.2, a.3)
+    | inr a ↦ inr a
+  ]
 
   gets_values_more : (sync : SyncPiece) (key : List ℕ) (values : List (List ℕ))
       → GetsValues log (limited caller rows) sync key values → GetsValues log caller sync key values
@@ -122,19 +136,22 @@ module _ (log : Log) (caller : Caller) (rows : ℕ) (few : rows ≤ caller.rows)
   memory_more kept what after (hidden then h) = hidden then (hidden_more kept what then h)
 
   -- what a stamped read tells
-  tells_read_more : (kept : Kept) (what : What) (stamp : ℕ) (raises : List RaisePiece) (syncs : List SyncPiece)
+  tells_read_more : (kept : Kept) (colours : List ℕ) (stamp : ℕ) (raises : List RaisePiece) (syncs : List SyncPiece)
       (Says : List ObjectNode → Type 0) (after : Kept)
-      → TellsRead log (limited caller rows) kept what stamp raises syncs Says after
-      → TellsRead log caller kept what stamp raises syncs Says after
-  tells_read_more kept what stamp raises syncs Says after t = (
-    subst (λ (colours : List ℕ). ReadsAt log caller kept colours stamp raises syncs after) (synced_same caller rows what)
-        (read_more log caller rows kept (colours_synced (limited caller rows) what) stamp raises syncs after t.0),
-    t.1,
-    t.2,
-    t.3,
-    t.4,
-    t.5,
-  )
+      → TellsRead log (limited caller rows) kept colours stamp raises syncs Says after
+      → TellsRead log caller kept colours stamp raises syncs Says after
+  tells_read_more kept colours stamp raises syncs Says after t =
+      (read_more log caller rows kept colours stamp raises syncs after t.0, t.1, t.2, t.3, t.4, t.5)
+
+  -- of the colours that a command syncs
+  tells_synced_more : (kept : Kept) (what : What) (stamp : ℕ) (raises : List RaisePiece) (syncs : List SyncPiece)
+      (Says : List ObjectNode → Type 0) (after : Kept)
+      → TellsRead log (limited caller rows) kept (colours_synced (limited caller rows) what) stamp raises syncs Says after
+      → TellsRead log caller kept (colours_synced caller what) stamp raises syncs Says after
+  tells_synced_more kept what stamp raises syncs Says after t =
+      subst (λ (colours : List ℕ). TellsRead log caller kept colours stamp raises syncs Says after)
+      (synced_same caller rows what)
+      (tells_read_more kept (colours_synced (limited caller rows) what) stamp raises syncs Says after t)
 
   -- and one behind an append
   tells_behind_more : (kept : Kept) (what : What) (row : Option ℕ) (points : List PointPiece) (read_stamp : ℕ)
@@ -153,11 +170,46 @@ module _ (log : Log) (caller : Caller) (rows : ℕ) (few : rows ≤ caller.rows)
             s.0,
             s.1,
             append_more log caller rows few kept (node_of caller kept a.0 a.1) s.0 row points s.1 s.2,
-            tells_read_more s.1 what read_stamp raises syncs
+            tells_synced_more s.1 what read_stamp raises syncs
                 (Says (entry_key s.0 (node_of caller kept a.0 a.1).id)) after s.3,
           ),
         ),
       )
+
+  -- decisions
+  ends_more : (kept : Kept) (what : What) (said : List ℕ) (ended : Ended) (after : Kept)
+      → EndsAs log (limited caller rows) kept what said ended after → EndsAs log caller kept what said ended after
+  ends_more kept what said (ends.Stood stamp point) after e = (
+    e.0,
+    e.1,
+    asks_more caller rows kept what e.0 e.1 e.2,
+    (
+      e.3.0,
+      append_more log caller rows few kept (node_of caller kept e.0 e.1) stamp None (point ∷ []) after e.3.1,
+    ),
+  )
+  ends_more kept what said (ends.StampEnd colour) after e = (
+    e.0,
+    e.1,
+    asks_more caller rows kept what e.0 e.1 e.2,
+    (e.3.0, has_no_stamp_more log caller rows few kept (node_of caller kept e.0 e.1) colour after e.3.1),
+  )
+  ends_more kept what said ends.NoMemory after e = e
+
+  decides_more : (kept : Kept) (what : What) (colours : List ℕ) (commits : Bool) (stamp : ℕ) (sync : SyncPiece)
+      (read_stamp : ℕ) (raises : List RaisePiece) (syncs : List SyncPiece) (ended : Ended) (after : Kept)
+      → Decides log (limited caller rows) kept what colours commits stamp sync read_stamp raises syncs ended after
+      → Decides log caller kept what colours commits stamp sync read_stamp raises syncs ended after
+  decides_more kept what colours commits stamp sync read_stamp raises syncs ended after d = record {
+    synced = syncs_more log caller rows kept sync.colour sync.events sync.counts d.synced;
+    waits = d.waits;
+    stamp_is = d.stamp_is;
+    waiting = d.waiting;
+    read = d.read;
+    tells = tells_read_more (kept_after_piece log caller kept sync) (rising colours) read_stamp raises syncs
+        (IsRuledAs d.waits commits) d.read d.tells;
+    ends = ends_more d.read what (decision_text (record { key = d.waits; commits = commits })) ended after d.ends;
+  }
 
   explains_more : (kept : Kept) (what : What) (answer : Answer) (nodes : List PlacedNode) (after : Kept)
       → (may_take_row what ≡ true → kept.rows < rows)
@@ -211,16 +263,9 @@ module _ (log : Log) (caller : Caller) (rows : ℕ) (few : rows ≤ caller.rows)
       (e.0, e.1, e.2, e.3, e.4, trims_more kept e.1 e.3 base e.5, e.6)
   explains_more kept what (answers.Got value sync) nodes after left e = (
     e.0,
-    e.1,
-    e.2,
+    (e.1.0, e.1.1, gets_more what sync value e.1.0 e.1.2),
+    syncs_more log caller rows kept sync.colour sync.events sync.counts e.2,
     e.3,
-    e.4,
-    e.5,
-    e.6,
-    sym (synced_same caller rows what) ∙ e.7,
-    syncs_more log caller rows kept sync.colour sync.events sync.counts e.8,
-    gets_more e.5 sync e.2 value e.9,
-    e.10,
   )
   explains_more kept what (answers.GotMany values sync) nodes after left e = (
     e.0,
@@ -233,13 +278,23 @@ module _ (log : Log) (caller : Caller) (rows : ℕ) (few : rows ≤ caller.rows)
     e.7,
   )
   explains_more kept what (answers.GotKeys stamp shown raises syncs) nodes after left e =
-      (e.0, e.1, tells_read_more kept what stamp raises syncs (AnswersKeys caller what shown e.1 after) e.1 e.2)
+      (e.0, e.1, tells_synced_more kept what stamp raises syncs (AnswersKeys caller what shown e.1 after) e.1 e.2)
   explains_more kept what (answers.Ruled conflict stamp row points read_stamp raises syncs) nodes after left e =
       (e.0, tells_behind_more kept what row points read_stamp raises syncs (ShowsVerdict conflict stamp) after e.1)
   explains_more kept what (answers.Changed failed stamp row points read_stamp raises syncs) nodes after left e =
       (e.0, tells_behind_more kept what row points read_stamp raises syncs (ShowsChange failed stamp) after e.1)
   explains_more kept what (answers.Listed names stamp raises syncs) nodes after left e =
-      (e.0, e.1, e.2, e.3, tells_read_more kept what stamp raises syncs (ShowsNames e.2 names) after e.4)
+      (e.0, e.1, e.2, e.3, tells_synced_more kept what stamp raises syncs (ShowsNames e.2 names) after e.4)
+  explains_more kept what (answers.Undecided stamp sync) nodes after left e =
+      let p = e.1 in
+      let u = p.2 in (
+        e.0,
+        (p.0, p.1, (u.0, u.1, u.2, asks_of_more what sync (Some (kinds.Parts u.0 u.1)) u.2 u.3, u.4, u.5, u.6)),
+        syncs_more log caller rows kept sync.colour sync.events sync.counts e.2,
+        e.3,
+      )
+  explains_more kept what (answers.Decided commits stamp sync read_stamp raises syncs ended) nodes after left e =
+      (e.0, e.1, e.2, decides_more kept what e.1 commits stamp sync read_stamp raises syncs ended after e.3)
   explains_more kept what (answers.Moved lined waiting colour events) nodes after left e =
       (e.0, e.1, e.2, so_long_more log caller rows few kept colour events lined waiting e.3, e.4, e.5)
   explains_more kept what answers.NoTx nodes after left e = e

@@ -9,10 +9,11 @@ pub use Rattle.lawful_run.proofs.LaterReads.{raise_later, raises_later, syncs_la
 pub use Rattle.lawful_run.proofs.LettingGo.{before_is, behind_is, asks_before, commit_asks}
 pub use Rattle.lawful_run.proofs.Prefixes.{get-append, get_within, prefix_get, prefix_length, prefix_take}
 pub use Rattle.lawful_run.proofs.ObjectAnswers.{explains_append, explains_next, explains_moved, explains_get, explains_values, explains_get_trimmed, explains_get_without}
-pub use Rattle.lawful_run.proofs.ObjectAnswers.{explains_take, explains_unread, explains_unread_without, explains_away, key_gets, key_synced, one_shard}
+pub use Rattle.lawful_run.proofs.ObjectAnswers.{explains_take, explains_unread, explains_unread_without, explains_away}
 pub use Rattle.lawful_run.proofs.ObjectAnswers.{explains_read, explains_verdict, explains_unruled, explains_unruled_without, explains_no_read}
 pub use Rattle.lawful_run.proofs.ObjectAnswers.{explains_change, explains_names}
-pub use Rattle.lawful_run.proofs.ObjectAnswers.{explains_peek, explains_undecided, explains_settled, explains_decided, explains_decide_refused, explains_decide_hidden}
+pub use Rattle.lawful_run.proofs.PartAnswers.{explains_peek, explains_undecided, explains_settled, explains_decided, explains_decide_refused, explains_decide_hidden}
 pub use Rattle.lawful_run.proofs.Places.{more_places, range_more, same_places}
 pub use Rattle.lawful_run.proofs.ReadsKept.{explained_ids, explained_keeps, reads_keep}
+pub use Rattle.lawful_run.proofs.Shards.{key_gets, key_synced, not_several, one_shard}
 pub use Rattle.lawful_run.proofs.TreeAsks.{make_asks, remove_asks, move_asks, path_of_field, below_of_field, make_said, remove_said, move_said, list_said}

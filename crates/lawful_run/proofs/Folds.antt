@@ -1,11 +1,12 @@
 -- Stamped reads and objects answer by the nodes of the closing lines.
 use Rattle.std.proofs.Common.{◌≡◌, ℕ, ◌<◌, List, [], ◌∷◌, ◌++◌, length, take, drop, map, Some, slice_get, refl, ap, sym, subst, ◌∙◌, inl, inr, arith}
-use Rattle.std.specs.Prelude.{◌==◌}
+use Rattle.std.specs.Prelude.{◌==◌, ◌≢◌}
 use Rattle.std.specs.List.{All, AllZip}
 use Rattle.std.proofs.lemmas.Bool.{eq-eqb}
 use Rattle.std.proofs.lemmas.List.{length-map}
 use Rattle.std.proofs.lemmas.List.Elements.{All-cons, All-nil}
 use mathlib.Core.List.{IsPrefix}
+use Rattle.log_node.specs.declared.ids.Id.{Id}
 use Rattle.log_node.specs.declared.ids.Key.{Key}
 use Rattle.log_node.specs.declared.ids.Colours.{Colours}
 use Rattle.log_node.specs.declared.node.Node.{Node}
@@ -14,6 +15,7 @@ use Rattle.log_node.specs.Vectors.{at}
 use Rattle.object_fold.specs.Folds.{told_of}
 use Rattle.object_fold.specs.Nodes.{ObjectNode}
 use Rattle.object_fold.specs.Transactions.{verdict_of}
+use Rattle.part_fold.specs.Decisions.{decision_text}
 use Rattle.tree_fold.specs.Trees.{telling, told_under}
 use Rattle.col_core.specs.declared.Entry.{Entry}
 use Rattle.col_core.specs.History.{line, entry_key}
@@ -29,6 +31,8 @@ use Rattle.script_text.specs.declared.script.Script.{Script}
 use Rattle.script_text.specs.Fitting.{IsFitting}
 use Rattle.script_text.proofs.CallerLemmas.{regions_few}
 use Rattle.report_text.specs.declared.report.Answer.{Answer}
+use Rattle.report_text.specs.declared.report.Ended.{Ended}
+use Rattle.report_text.specs.declared.report.Ended.TheVariants as ends
 use Rattle.report_text.specs.declared.report.SyncPiece.{SyncPiece}
 use Rattle.report_text.specs.declared.report.RaisePiece.{RaisePiece}
 use Rattle.report_text.specs.declared.report.ReplyLine.{ReplyLine}
@@ -36,19 +40,21 @@ use Rattle.report_text.specs.declared.report.ClientReport.{ClientReport}
 use Rattle.report_text.specs.declared.report.Report.{Report}
 use Rattle.lawful_run.specs.Callers.{caller_of, commands_of, node_of}
 use Rattle.lawful_run.specs.Deeds.{AsksToAppend}
-use Rattle.lawful_run.specs.Reads.{Syncs, ShowsKey, ReadsAt, AreKeysRead}
+use Rattle.lawful_run.specs.Reads.{Syncs, ShowsKey, ReadsAt, AreKeysRead, kept_after_piece}
 use Rattle.lawful_run.specs.Objects.{IsObjectNode, AreObjectNodes, own_played, shown_verdict}
+use Rattle.lawful_run.specs.Parts.{AsksToDecide, EndsAs}
 use Rattle.lawful_run.specs.Refusals.{kept_before}
 use Rattle.lawful_run.specs.Explains.{Explains}
 use Rattle.lawful_run.specs.Lawful.{LawfulRun}
-use Rattle.lawful_run.specs.Readings.{HasReply, IsAppend, kept_of, kept_at, StandsAtPoints}
-use Rattle.lawful_run.specs.ObjectReadings.{IsNodeOf, AreNodesOf, IsClosing, AreClosing, ScansAreWhole, GetsAreFolds, DequeuesAreFolds, ReadsAreFolds, VerdictsAreFolds, ChangesAreFolds, ListsAreFolds}
+use Rattle.lawful_run.specs.Readings.{HasReply, IsAppend, Nowhere, kept_of, kept_at, told_end, StandsAtPoints}
+use Rattle.lawful_run.specs.ObjectReadings.{IsNodeOf, AreNodesOf, IsClosing, AreClosing, ScansAreWhole, GetsAreFolds, UndecidedAreFolds, DecisionsAreFolds, DequeuesAreFolds, ReadsAreFolds, VerdictsAreFolds, ChangesAreFolds, ListsAreFolds}
 use Rattle.lawful_run.proofs.Prefixes.{prefix_get, prefix_take}
 use Rattle.lawful_run.proofs.Listed.{to_in, from_in, in_get, get_in}
 use Rattle.lawful_run.proofs.Replies.{step_of}
 use Rattle.lawful_run.proofs.Beginnings.{split}
 use Rattle.lawful_run.proofs.Clients.{shown_there}
 use Rattle.lawful_run.proofs.Used.{before_ids}
+use Rattle.lawful_run.proofs.Decisions.{decide_asks}
 use Rattle.lawful_run.proofs.Standing.{Stands, column_is, column_within}
 use Rattle.lawful_run.proofs.Lines.{node_there, append_of}
 use Rattle.lawful_run.proofs.LettingGo.{asks_before}
@@ -131,9 +137,9 @@ module _ (script : Script) (report : Report) (fits : IsFitting script) (run : La
   node_is region colour key s node o =
       let n = node_there script report fits run region colour key s in
       let there = o.there in
-      let e : Some o.appended ≡ Some (node_of (caller_of script key.id.client) s.origin.kept s.origin.colours
+      let e : Some o.appended ≡ Some (node_of (caller_of script key.id.client) s.origin.over s.origin.colours
       s.origin.text) = sym there ∙ n in
-      let same : o.appended ≡ node_of (caller_of script key.id.client) s.origin.kept s.origin.colours s.origin.text = cc
+      let same : o.appended ≡ node_of (caller_of script key.id.client) s.origin.over s.origin.colours s.origin.text = cc
       (e) in
       let colours : s.origin.colours ≡ node.colours = sym (o.colours ∙ ap (λ (x : Node). x.colours) same) in
       let text : s.origin.text ≡ node.text = sym (o.text ∙ ap (λ (x : Node). x.text) same) in
@@ -280,6 +286,18 @@ module _ (script : Script) (report : Report) (fits : IsFitting script) (run : La
       (line_prefix own sync.colour x.0 x.1 sync.events)
       (omega (arith, within, long))
 
+  -- and the nodes that a sync played are those of these keys
+  first_are : (client : ℕ) (kept : Kept) (sync : SyncPiece) → Syncs run.log
+      (caller_of script client) kept sync.colour sync.events sync.counts
+      → (l : List Key) → IsClosing report (caller_of script client).own sync.colour l → (nodes : List ObjectNode)
+      → AreObjectNodes run.log (own_played run.log (caller_of script client) sync) nodes
+      → AreNodesOf run (take (at sync.counts (caller_of script client).own) l) nodes
+  first_are client kept sync s l closing nodes played =
+      let own = (caller_of script client).own in
+      nodes_are (take (at sync.counts own) l) nodes
+      (λ key i. stands_at own sync.colour l closing key (in_take (at sync.counts own) l key i))
+      (subst (λ (ks : List Key). AreObjectNodes run.log ks nodes) (sym (played_first client kept sync s l closing)) played)
+
 pub scans_are_whole : ScansAreWhole
 scans_are_whole script report fits run client n reply h stamp count raises syncs is lines c =
     let r = reason script report fits run client n reply _ h is in
@@ -293,23 +311,80 @@ pub gets_are_folds : GetsAreFolds
 gets_are_folds script report fits run client n reply h value sync is l closing =
     let r = reason script report fits run client n reply _ h is in
     let x = r.explained in
+    let p = x.1 in (
+      r.command.what,
+      (r.command, r.asked, refl),
+      p.0,
+      first_are script report fits run client r.kept sync x.2 l closing p.0 p.1,
+      p.2,
+    )
+
+pub undecided_are_folds : UndecidedAreFolds
+undecided_are_folds script report fits run client n reply h stamp sync is l closing =
+    let r = reason script report fits run client n reply _ h is in
+    let x = r.explained in
+    let p = x.1 in (
+      r.command.what,
+      (r.command, r.asked, refl),
+      p.0,
+      first_are script report fits run client r.kept sync x.2 l closing p.0 p.1,
+      p.2,
+    )
+
+-- the node of a decision that stands
+decision_appends : (script : Script) (report : Report) (run : LawfulRun script report) (client n : ℕ) (reply : ReplyLine)
+    → HasReply report client n reply → (command : Command) → slice_get (commands_of script client) n ≡ Some command
+    → (sync : SyncPiece) (own : List ℕ) → AsksToDecide (caller_of script client) command.what sync own
+    → (read : Kept) (said : List ℕ) (ended : Ended) (after : Kept)
+    → EndsAs run.log (caller_of script client) read command.what said ended after → told_end ended ≢ Nowhere
+    → (id : Id) × (colours : Colours) × IsAppend run client n reply id colours said
+decision_appends script report run client n reply h command asked sync own asks read said (ends.Stood stamp point) after a
+    stands = (
+      record { client = client; count = (kept_of run client n).ids },
+      a.0,
+      subst (λ (text : List ℕ). IsAppend run client n reply
+          (record { client = client; count = (kept_of run client n).ids }) a.0 text) a.3.0 (record {
+            replied = h;
+            command = command;
+            asked = asked;
+            asks = decide_asks (caller_of script client) read (kept_of run client n) command.what sync own asks a.0 a.1 a.2;
+            id_is = refl;
+          }),
+    )
+decision_appends script report run client n reply h command asked sync own asks read said (ends.StampEnd colour) after a
+    stands = absurd (stands refl)
+decision_appends script report run client n reply h command asked sync own asks read said ends.NoMemory after a stands =
+    absurd (stands refl)
+
+pub decisions_are_folds : DecisionsAreFolds
+decisions_are_folds script report fits run client n reply h commits stamp sync read_stamp raises syncs ended is l closing
+    lines c =
+    let r = reason script report fits run client n reply _ h is in
+    let x = r.explained in
+    let d = x.3 in
     let own = (caller_of script client).own in
-    let g = x.9 in
-    let keys = played_first script report fits run client r.kept sync x.8 l closing in (
+    let p = d.waiting in
+    let t = d.tells in
+    let order = read_order script report fits run client
+    (kept_after_piece run.log (caller_of script client) r.kept sync) _ read_stamp raises syncs d.read t.1 t.0 t.2 lines c in
+    let nodes = nodes_are script report fits run t.1 t.3
+    (read_stands script report fits run own read_stamp syncs lines c t.1 order) t.4 in (
       r.command.what,
       (r.command, r.asked, refl),
       x.1,
       x.2,
-      x.3,
-      x.4,
-      x.5,
-      x.6,
-      g.nodes,
-      nodes_are script report fits run (take (at sync.counts own) l) g.nodes
-          (λ key i. stands_at script report fits run own sync.colour l closing key
-          (in_take (at sync.counts own) l key i))
-          (subst (λ (ks : List Key). AreObjectNodes run.log ks g.nodes) (sym keys) g.played),
-      g.value_is,
+      d.waits,
+      d.stamp_is,
+      p.0,
+      first_are script report fits run client r.kept sync d.synced l closing p.0 p.1,
+      p.2,
+      t.1,
+      order,
+      t.3,
+      nodes,
+      t.5,
+      decision_appends script report run client n reply h r.command r.asked sync x.1 x.2 d.read
+          (decision_text (record { key = d.waits; commits = commits })) ended r.after d.ends,
     )
 
 pub dequeues_are_folds : DequeuesAreFolds

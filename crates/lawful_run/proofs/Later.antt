@@ -1,6 +1,6 @@
 -- What a log explains, a later log explains as well.
 use Rattle.std.proofs.Common.{ℕ, ◌+◌, ◌<◌, ◌≤◌, List, [], ◌∷◌, length, take, None, ap, sym, subst, ◌∙◌, arith}
-use Rattle.std.specs.Prelude.{Option, min}
+use Rattle.std.specs.Prelude.{Bool, Option, Some, min}
 use Rattle.log_node.specs.declared.node.At.{At}
 use Rattle.log_node.specs.declared.node.At.TheVariants.{Event, Look}
 use Rattle.log_node.specs.declared.ids.Key.{Key}
@@ -23,15 +23,20 @@ use Rattle.report_text.specs.declared.report.ReplyLine.{ReplyLine}
 use Rattle.report_text.specs.declared.report.PointPiece.{PointPiece}
 use Rattle.report_text.specs.declared.report.RaisePiece.{RaisePiece}
 use Rattle.report_text.specs.declared.report.SyncPiece.{SyncPiece}
+use Rattle.report_text.specs.declared.report.Ended.{Ended}
+use Rattle.report_text.specs.declared.report.Ended.TheVariants as ends
 use Rattle.object_fold.specs.Maps.{Value}
 use Rattle.object_fold.specs.Causal.{ChainNode}
 use Rattle.object_fold.specs.Nodes.{ObjectNode}
+use Rattle.part_fold.specs.Decisions.{decision_text}
 use Rattle.lawful_run.specs.Callers.{Caller, node_of}
+use Rattle.lawful_run.specs.Asks.{rising}
 use Rattle.lawful_run.specs.Deeds.{colours_synced, manner_of}
 use Rattle.lawful_run.specs.Appends.{Appends}
-use Rattle.lawful_run.specs.Reads.{ShowsKey, events_until}
+use Rattle.lawful_run.specs.Reads.{ShowsKey, events_until, kept_after_piece}
 use Rattle.lawful_run.specs.Moves.{GivesFrom, AsksFor, GivesHeld, GivesTooLow, CarriesNodes, Pulls, OnlyGives, Trims}
-use Rattle.lawful_run.specs.Objects.{AreObjectNodes, own_played, GetsValue, TakesFront, places_within, IsChainNode, GetsValues}
+use Rattle.lawful_run.specs.Objects.{AreObjectNodes, own_played, TakesFront, places_within, IsChainNode, GetsValues}
+use Rattle.lawful_run.specs.Parts.{AnswersGet, AnswersUndecided, Decides, EndsAs, IsRuledAs, OfNodesPlayed, OfPart, WaitsFor}
 use Rattle.lawful_run.specs.Shapes.{TellsBehind, TellsRead}
 use Rattle.lawful_run.specs.Refusals.{FindsNoMemory, nothing, gone, gave, hidden, kept_before}
 use Rattle.lawful_run.specs.Explains.{Explains, Answers, Explained, AnswersKeys, ShowsVerdict, ShowsChange, ShowsNames, start, next}
@@ -151,16 +156,16 @@ module _ (old new : Log) (later : IsLater old new) (caller : Caller) where
       }
 
   -- OBJECTS
-  gets_later : (colours : List ℕ) (sync : SyncPiece) (key : List ℕ) (value : Value)
+  nodes_played_later : (sync : SyncPiece) (Says : List ObjectNode → Type 0)
       → sync.events ≤ length (old.histories caller.own sync.colour)
-      → GetsValue old caller colours sync key value → GetsValue new caller colours sync key value
-  gets_later colours sync key value there g = record {
-    nodes = g.nodes;
-    played = subst (λ (h : List Entry). AreObjectNodes new (take (at sync.counts caller.own) (line h)) g.nodes)
+      → OfNodesPlayed old caller sync Says → OfNodesPlayed new caller sync Says
+  nodes_played_later sync Says there p = (
+    p.0,
+    subst (λ (h : List Entry). AreObjectNodes new (take (at sync.counts caller.own) (line h)) p.0)
         (sym (taken_same old new later caller.own sync.colour sync.events there))
-        (objects_later old new later (own_played old caller sync) g.nodes g.played);
-    value_is = g.value_is;
-  }
+        (objects_later old new later (own_played old caller sync) p.0 p.1),
+    p.2,
+  )
 
   chain_node_later : (sync : SyncPiece) → sync.events ≤ length (old.histories caller.own sync.colour)
       → (place : Place) (node : ChainNode)
@@ -216,13 +221,13 @@ module _ (old new : Log) (later : IsLater old new) (caller : Caller) where
       (hides_later old new later caller kept (colours_synced caller what) (manner_of what) then h)
 
   -- what a stamped read tells
-  tells_read_later : (kept : Kept) (what : What) (stamp : ℕ) (raises : List RaisePiece) (syncs : List SyncPiece)
-      (Says : List ObjectNode → Type 0) (after : Kept) → TellsRead old caller kept what stamp raises syncs Says after
-      → TellsRead new caller kept what stamp raises syncs Says after
-  tells_read_later kept what stamp raises syncs Says after t = (
-    read_later old new later caller kept (colours_synced caller what) stamp raises syncs after t.0,
+  tells_read_later : (kept : Kept) (colours : List ℕ) (stamp : ℕ) (raises : List RaisePiece) (syncs : List SyncPiece)
+      (Says : List ObjectNode → Type 0) (after : Kept) → TellsRead old caller kept colours stamp raises syncs Says after
+      → TellsRead new caller kept colours stamp raises syncs Says after
+  tells_read_later kept colours stamp raises syncs Says after t = (
+    read_later old new later caller kept colours stamp raises syncs after t.0,
     t.1,
-    keys_later old new later caller kept (colours_synced caller what) stamp raises syncs after t.1 t.0 t.2,
+    keys_later old new later caller kept colours stamp raises syncs after t.1 t.0 t.2,
     t.3,
     objects_later old new later t.1 t.3 t.4,
     t.5,
@@ -245,11 +250,49 @@ module _ (old new : Log) (later : IsLater old new) (caller : Caller) where
             s.0,
             s.1,
             append_later old new later caller kept (node_of caller kept a.0 a.1) s.0 row points s.1 s.2,
-            tells_read_later s.1 what read_stamp raises syncs
+            tells_read_later s.1 (colours_synced caller what) read_stamp raises syncs
                 (Says (entry_key s.0 (node_of caller kept a.0 a.1).id)) after s.3,
           ),
         ),
       )
+
+  -- decisions
+  ends_later : (kept : Kept) (what : What) (said : List ℕ) (ended : Ended) (after : Kept)
+      → EndsAs old caller kept what said ended after → EndsAs new caller kept what said ended after
+  ends_later kept what said (ends.Stood stamp point) after e = (
+    e.0,
+    e.1,
+    e.2,
+    (
+      e.3.0,
+      append_later old new later caller kept (node_of caller kept e.0 e.1) stamp None (point ∷ []) after e.3.1,
+    ),
+  )
+  ends_later kept what said (ends.StampEnd colour) after e = (
+    e.0,
+    e.1,
+    e.2,
+    (e.3.0, has_no_stamp_later old new later caller kept (node_of caller kept e.0 e.1) colour after e.3.1),
+  )
+  ends_later kept what said ends.NoMemory after e = e
+
+  decides_later : (kept : Kept) (what : What) (colours : List ℕ) (commits : Bool) (stamp : ℕ) (sync : SyncPiece)
+      (read_stamp : ℕ) (raises : List RaisePiece) (syncs : List SyncPiece) (ended : Ended) (after : Kept)
+      → Decides old caller kept what colours commits stamp sync read_stamp raises syncs ended after
+      → Decides new caller kept what colours commits stamp sync read_stamp raises syncs ended after
+  decides_later kept what colours commits stamp sync read_stamp raises syncs ended after d = record {
+    synced = syncs_later old new later caller kept sync.colour sync.events sync.counts d.synced;
+    waits = d.waits;
+    stamp_is = d.stamp_is;
+    waiting = nodes_played_later sync (OfPart colours sync.colour (WaitsFor (Some d.waits))) d.synced.there d.waiting;
+    read = d.read;
+    tells = subst
+        (λ (k : Kept). TellsRead new caller k (rising colours) read_stamp raises syncs (IsRuledAs d.waits commits) d.read)
+        (sym (piece_same old new later caller kept sync d.synced.there))
+        (tells_read_later (kept_after_piece old caller kept sync) (rising colours) read_stamp raises syncs
+        (IsRuledAs d.waits commits) d.read d.tells);
+    ends = ends_later d.read what (decision_text (record { key = d.waits; commits = commits })) ended after d.ends;
+  }
 
   explains_later : (kept : Kept) (what : What) (answer : Answer) (nodes : List PlacedNode) (after : Kept)
       → Explains old caller kept what answer nodes after → Explains new caller kept what answer nodes after
@@ -297,16 +340,9 @@ module _ (old new : Log) (later : IsLater old new) (caller : Caller) where
       (e.0, e.1, e.2, e.3, e.4, trims_later kept e.1 e.3 base e.5, e.6)
   explains_later kept what (answers.Got value sync) nodes after e = (
     e.0,
-    e.1,
-    e.2,
-    e.3,
-    e.4,
-    e.5,
-    e.6,
-    e.7,
-    syncs_later old new later caller kept sync.colour sync.events sync.counts e.8,
-    gets_later e.5 sync e.2 value e.8.there e.9,
-    e.10 ∙ sym (piece_same old new later caller kept sync e.8.there),
+    nodes_played_later sync (AnswersGet caller what sync value) e.2.there e.1,
+    syncs_later old new later caller kept sync.colour sync.events sync.counts e.2,
+    e.3 ∙ sym (piece_same old new later caller kept sync e.2.there),
   )
   explains_later kept what (answers.GotMany values sync) nodes after e = (
     e.0,
@@ -319,13 +355,21 @@ module _ (old new : Log) (later : IsLater old new) (caller : Caller) where
     e.7 ∙ sym (piece_same old new later caller kept sync e.5.there),
   )
   explains_later kept what (answers.GotKeys stamp shown raises syncs) nodes after e =
-      (e.0, e.1, tells_read_later kept what stamp raises syncs (AnswersKeys caller what shown e.1 after) e.1 e.2)
+      (e.0, e.1, tells_read_later kept (colours_synced caller what) stamp raises syncs (AnswersKeys caller what shown e.1 after) e.1 e.2)
   explains_later kept what (answers.Ruled conflict stamp row points read_stamp raises syncs) nodes after e =
       (e.0, tells_behind_later kept what row points read_stamp raises syncs (ShowsVerdict conflict stamp) after e.1)
   explains_later kept what (answers.Changed failed stamp row points read_stamp raises syncs) nodes after e =
       (e.0, tells_behind_later kept what row points read_stamp raises syncs (ShowsChange failed stamp) after e.1)
   explains_later kept what (answers.Listed names stamp raises syncs) nodes after e =
-      (e.0, e.1, e.2, e.3, tells_read_later kept what stamp raises syncs (ShowsNames e.2 names) after e.4)
+      (e.0, e.1, e.2, e.3, tells_read_later kept (colours_synced caller what) stamp raises syncs (ShowsNames e.2 names) after e.4)
+  explains_later kept what (answers.Undecided stamp sync) nodes after e = (
+    e.0,
+    nodes_played_later sync (AnswersUndecided caller what sync stamp) e.2.there e.1,
+    syncs_later old new later caller kept sync.colour sync.events sync.counts e.2,
+    e.3 ∙ sym (piece_same old new later caller kept sync e.2.there),
+  )
+  explains_later kept what (answers.Decided commits stamp sync read_stamp raises syncs ended) nodes after e =
+      (e.0, e.1, e.2, decides_later kept what e.1 commits stamp sync read_stamp raises syncs ended after e.3)
   explains_later kept what (answers.Moved lined waiting colour events) nodes after e =
       (e.0, e.1, e.2, so_long_later old new later caller kept colour events lined waiting e.3, e.4, e.5)
   explains_later kept what answers.NoTx nodes after e = e

@@ -19,9 +19,9 @@ use Rattle.report_text.specs.declared.report.RaisePiece.{RaisePiece}
 use Rattle.report_text.specs.declared.report.SyncPiece.{SyncPiece}
 use Rattle.col_core.specs.RegionOrder.{IsRegionOrder, IsClearUpTo}
 use Rattle.lawful_run.specs.Callers.{Caller}
-use Rattle.lawful_run.specs.Asks.{Manner, Appending, Guarding, Stopping, Syncing, Moving, Getting, Reading, Committing, Dequeuing}
+use Rattle.lawful_run.specs.Asks.{Manner, Appending, Guarding, Stopping, Syncing, Moving, Getting, Reading, Committing, Dequeuing, Deciding}
 use Rattle.lawful_run.specs.Reads.{Syncs, ShowsNode, ShowsPlayed, greatest_played, kept_after_piece, IsTrimmed, RaisesClock, kept_after_place, Raises, ClearSyncs, events_until, IsReadStamp, IsAboveClocks, ReadsAt, lines_read, AreKeysRead, ShowsKey, HidesSync, not_played, played, HidesSyncs, HidesRead, RefusesRead}
-use Rattle.lawful_run.specs.Refusals.{Hides, Refuses}
+use Rattle.lawful_run.specs.Refusals.{Hides, HidesDecide, Refuses, RefusesDecide}
 use Rattle.lawful_run.proofs.LaterFacts.{all_zip_of, first_same, taken_same, still_there, entry_later, place_there, text_later}
 
 module _ (old new : Log) (later : IsLater old new) (caller : Caller) where
@@ -257,6 +257,18 @@ module _ (old new : Log) (later : IsLater old new) (caller : Caller) where
               ∙ ap clock (sym (taken_same old new later caller.own colour events there)),
         )
 
+  pub hides_decide_later : (kept : Kept) (colours : List ℕ) (after : Kept) → HidesDecide old caller kept colours after
+      → HidesDecide new caller kept colours after
+  hides_decide_later kept [] after h = absurd h
+  hides_decide_later kept (first ∷ all) after h = (
+    h.0,
+    hides_syncs_later kept (first ∷ []) h.0 h.1,
+    elim h.2 [
+      | inl e ↦ inl e
+      | inr r ↦ inr (hides_read_later h.0 all after r)
+    ],
+  )
+
   pub hides_later : (kept : Kept) (colours : List ℕ) (manner : Manner) (after : Kept)
       → Hides old caller kept colours manner after → Hides new caller kept colours manner after
   hides_later kept colours Appending after h = h
@@ -268,6 +280,7 @@ module _ (old new : Log) (later : IsLater old new) (caller : Caller) where
   hides_later kept colours Reading after h = hides_read_later kept colours after h
   hides_later kept colours Committing after h = hides_read_later kept colours after h
   hides_later kept colours Dequeuing after h = hides_syncs_later kept colours after h
+  hides_later kept colours Deciding after h = hides_decide_later kept colours after h
 
   refuses_read_later : (kept : Kept) (colours : List ℕ) (colour : ℕ) (shown : Counts) (after : Kept)
       → RefusesRead old caller kept colours colour shown after → RefusesRead new caller kept colours colour shown after
@@ -288,6 +301,18 @@ module _ (old new : Log) (later : IsLater old new) (caller : Caller) where
     trimmed = trimmed_later after colour shown r.trimmed;
   }
 
+  pub refuses_decide_later : (kept : Kept) (colours : List ℕ) (colour : ℕ) (shown : Counts) (after : Kept)
+      → RefusesDecide old caller kept colours colour shown after → RefusesDecide new caller kept colours colour shown after
+  refuses_decide_later kept [] colour shown after r = absurd r
+  refuses_decide_later kept (first ∷ all) colour shown after r = elim r [
+    | inl at_once ↦ inl (at_once.0, trimmed_later kept colour shown at_once.1, at_once.2)
+    | inr behind ↦ inr (
+      behind.0,
+      hides_syncs_later kept (first ∷ []) behind.0 behind.1,
+      refuses_read_later behind.0 all colour shown after behind.2,
+    )
+  ]
+
   pub refuses_later : (kept : Kept) (colours : List ℕ) (manner : Manner) (colour : ℕ) (shown : Counts) (after : Kept)
       → Refuses old caller kept colours manner colour shown after
       → Refuses new caller kept colours manner colour shown after
@@ -302,3 +327,4 @@ module _ (old new : Log) (later : IsLater old new) (caller : Caller) where
   refuses_later kept colours Committing colour shown after r = refuses_read_later kept colours colour shown after r
   refuses_later kept colours Dequeuing colour shown after r =
       (r.0, trimmed_later kept colour shown r.1, hides_syncs_later kept colours after r.2)
+  refuses_later kept colours Deciding colour shown after r = refuses_decide_later kept colours colour shown after r

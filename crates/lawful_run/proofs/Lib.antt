@@ -11,6 +11,7 @@ mod Entered
 mod Replies
 mod Traces
 mod Uses
+mod Decisions
 mod LettingGo
 mod Used
 mod Origins
@@ -26,7 +27,9 @@ mod ReadOrder
 mod Folds
 mod CausalGets
 mod ReadsKept
+mod Shards
 mod ObjectAnswers
+mod PartAnswers
 mod TreeAsks
 mod Places
 pub mod CallerLemmas

@@ -64,7 +64,7 @@ module _ (script : Script) (report : Report) (fits : IsFitting script) (run : La
 
   pub node_there : (region colour : ℕ) (key : Key) (s : Stands run region colour key)
       → slice_get (run.log.nodes key.id.client) key.id.count ≡ Some
-      (node_of (caller_of script key.id.client) s.origin.kept s.origin.colours s.origin.text)
+      (node_of (caller_of script key.id.client) s.origin.over s.origin.colours s.origin.text)
   node_there region colour key s = ap (λ (i : Id). slice_get (run.log.nodes key.id.client) i.count) s.origin.id_is
       ∙ s.origin.node
 
@@ -74,11 +74,11 @@ module _ (script : Script) (report : Report) (fits : IsFitting script) (run : La
   same_colours r c k r' c' l s t same =
       let a = node_there r c k s in
       let b = subst (λ (i : Id). slice_get (run.log.nodes i.client) i.count
-      ≡ Some (node_of (caller_of script l.id.client) t.origin.kept t.origin.colours t.origin.text)) (sym same)
+      ≡ Some (node_of (caller_of script l.id.client) t.origin.over t.origin.colours t.origin.text)) (sym same)
       (node_there r' c' l t) in
       let e = sym a ∙ b in
-      let n : node_of (caller_of script k.id.client) s.origin.kept s.origin.colours s.origin.text
-      ≡ node_of (caller_of script l.id.client) t.origin.kept t.origin.colours t.origin.text = cc (e) in
+      let n : node_of (caller_of script k.id.client) s.origin.over s.origin.colours s.origin.text
+      ≡ node_of (caller_of script l.id.client) t.origin.over t.origin.colours t.origin.text = cc (e) in
       ap (λ (x : Node). members x.colours) n
 
   -- no row has the id of a single

@@ -1,5 +1,5 @@
 -- How the answers to commands of objects are explained, put together from their parts: appends, syncs and folds.
-use Rattle.std.proofs.Common.{◌≡◌, ◌≢◌, ◌⊎◌, inl, inr, ℕ, ◌<◌, List, [], ◌∷◌, Option, Some, None, refl, sym, subst, ap, ◌∙◌}
+use Rattle.std.proofs.Common.{◌≡◌, ◌≢◌, ◌⊎◌, inl, inr, ℕ, ◌<◌, List, [], ◌∷◌, Option, Some, None, refl, sym, subst}
 use Rattle.std.specs.List.{AllZip, Contains}
 use Rattle.std.proofs.lemmas.List.Elements.{All-cons, All-nil}
 use Rattle.log_node.specs.declared.ids.Colours.{Colours}
@@ -10,7 +10,6 @@ use Rattle.log_node.specs.declared.limits.TheConstants.{MAX_COLOURS}
 use Rattle.log_node.specs.declared.node.At.TheVariants.{Event}
 use Rattle.log_node.specs.Sets.{members}
 use Rattle.log_node.specs.Vectors.{at}
-use Rattle.log_node.proofs.CallerLemmas.{members-one, members-set_of}
 use Rattle.object_form.specs.declared.tree_why.TreeWhy.{TreeWhy}
 use Rattle.object_fold.specs.Causal.{ChainNode, IsCausalAnswer}
 use Rattle.object_fold.specs.Folds.{told_of}
@@ -24,42 +23,23 @@ use Rattle.col_core.specs.History.{entry_key}
 use Rattle.col_core.specs.Cuts.{chain}
 use Rattle.col_core.specs.Log.{Log, first}
 use Rattle.col_core.specs.Keeping.{Kept, kept_after_look, with_read}
-use Rattle.script_text.specs.declared.script.Kind.{Kind}
 use Rattle.script_text.specs.declared.script.Kind.TheVariants as kinds
 use Rattle.script_text.specs.declared.commands.What.{What}
 use Rattle.script_text.specs.declared.commands.What.TheVariants as whats
-use Rattle.script_text.specs.declared.uses.Use.{Use}
 use Rattle.report_text.specs.declared.report.Answer.TheVariants as answers
 use Rattle.report_text.specs.declared.report.KeyAnswer.{KeyAnswer}
 use Rattle.report_text.specs.declared.report.PointPiece.{PointPiece}
 use Rattle.report_text.specs.declared.report.RaisePiece.{RaisePiece}
 use Rattle.report_text.specs.declared.report.SyncPiece.{SyncPiece}
 use Rattle.lawful_run.specs.Callers.{Caller, node_of}
-use Rattle.lawful_run.specs.Asks.{kind_of_object, object_colours, colours_of_object, home_of_object, home_asked, kind_asked, kind_used, rising, shards, Appending, Getting, Committing, Dequeuing, Manner}
-use Rattle.lawful_run.specs.Deeds.{AsksForKey, Deed, colours_reached, colours_synced, AsksToAppend, manner_of}
+use Rattle.lawful_run.specs.Asks.{kind_of_object, colours_of_object, home_of_object, home_asked, rising, Appending, Getting, Committing, Dequeuing, Manner}
+use Rattle.lawful_run.specs.Deeds.{AsksForKey, colours_synced, AsksToAppend, manner_of}
 use Rattle.lawful_run.specs.Appends.{Appends, AppendsUnshown, IsSoLong, WasNext}
 use Rattle.lawful_run.specs.Reads.{Syncs, IsTrimmed, HidesSyncs, kept_after_piece, ReadsAt, AreKeysRead, HidesRead, RefusesRead}
 use Rattle.lawful_run.specs.Objects.{AreObjectNodes, AreAnswers, IsChainNode, TakesFront, own_played, places_within, shown_verdict}
 use Rattle.lawful_run.specs.Refusals.{Hides, Refuses, hidden}
 use Rattle.lawful_run.specs.Explains.{Explains}
-
--- one key has one shard
-pub one_shard : (colours key : List ℕ) → shard_of colours key < MAX_COLOURS
-    → shards colours (key ∷ []) ≡ shard_of colours key ∷ []
-one_shard colours key low =
-    sym (members-set_of (shard_of colours key ∷ [])) ∙ members-one (shard_of colours key) low
-
--- what asks for a key gets, and syncs the key's shard
-pub key_gets : (what : What) (object : ℕ) (key : List ℕ) → AsksForKey what object key → manner_of what ≡ Getting
-key_gets what object key asks = ap (λ (d : Deed). d.manner) asks.gets
-
-pub key_synced : (caller : Caller) (what : What) (object : ℕ) (key : List ℕ) (kind : Option Kind)
-    → AsksForKey what object key → kind_of_object caller object ≡ kind
-    → colours_synced caller what ≡ shards (object_colours kind) (key ∷ [])
-key_synced caller what object key kind asks at =
-    ap (λ (d : Deed). colours_reached (object_colours (kind_asked caller what)) d.syncs) asks.gets
-    ∙ (ap (λ (u : Use). shards (object_colours (kind_used caller u)) (key ∷ [])) asks.uses
-    ∙ ap (λ (k : Option Kind). shards (object_colours k) (key ∷ [])) at)
+use Rattle.lawful_run.proofs.Shards.{shard_synced}
 
 module _ (log : Log) (caller : Caller) (kept : Kept) where
   -- A put, a deletion, several puts at once and an enqueue are explained by their append.
@@ -105,16 +85,22 @@ module _ (log : Log) (caller : Caller) (kept : Kept) where
       (answers.Got (shard_value colours sync.colour nodes key) sync) [] (kept_after_piece log caller kept sync)
   explains_get what object home colours key sync nodes asks kind low shard syncs played = (
     refl,
-    object,
-    key,
-    asks,
-    home,
-    colours,
-    kind,
-    key_synced caller what object key (Some (kinds.Map home colours)) asks kind
-        ∙ (one_shard colours key low ∙ ap (λ (c : ℕ). c ∷ []) (sym shard)),
+    (
+      nodes,
+      played,
+      inl (
+        Some (kinds.Map home colours),
+        key,
+        (
+          object,
+          asks,
+          kind,
+          shard_synced caller what object key colours (Some (kinds.Map home colours)) sync asks kind refl low shard,
+        ),
+        refl,
+      ),
+    ),
     syncs,
-    record { nodes = nodes; played = played; value_is = refl },
     refl,
   )
 

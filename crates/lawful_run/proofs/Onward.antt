@@ -10,6 +10,7 @@ use Rattle.log_node.specs.declared.node.Node.{Node}
 use Rattle.log_node.specs.Seen.{PlacedNode}
 use Rattle.log_node.specs.Vectors.{IsWithin}
 use Rattle.log_node.specs.Reach.{Reachable}
+use Rattle.part_fold.specs.Decisions.{decision_text}
 use Rattle.col_core.specs.Cuts.{Dated, chain}
 use Rattle.col_core.specs.Computed.{dated}
 use Rattle.col_core.specs.Legal.{IsColumnHistory}
@@ -20,19 +21,22 @@ use Rattle.script_text.specs.declared.commands.What.{What}
 use Rattle.script_text.specs.declared.script.Command.{Command}
 use Rattle.report_text.specs.declared.report.Answer.{Answer}
 use Rattle.report_text.specs.declared.report.Answer.TheVariants as answers
+use Rattle.report_text.specs.declared.report.Ended.{Ended}
+use Rattle.report_text.specs.declared.report.Ended.TheVariants as ended_as
 use Rattle.report_text.specs.declared.report.PointPiece.{PointPiece}
 use Rattle.report_text.specs.declared.report.RaisePiece.{RaisePiece}
 use Rattle.report_text.specs.declared.report.SyncPiece.{SyncPiece}
 use Rattle.report_text.specs.declared.report.ReplyLine.{ReplyLine}
 use Rattle.lawful_run.specs.Callers.{Caller, node_of}
-use Rattle.lawful_run.specs.Asks.{Manner, Appending, Guarding, Stopping, Syncing, Moving, Getting, Reading, Committing, Dequeuing}
+use Rattle.lawful_run.specs.Asks.{Manner, Appending, Guarding, Stopping, Syncing, Moving, Getting, Reading, Committing, Dequeuing, Deciding, rising}
 use Rattle.lawful_run.specs.Deeds.{colours_synced, manner_of}
 use Rattle.lawful_run.specs.Appends.{StandsAt, Appends, AppendsUnshown, one_unshown, several_unshown, kept_after_points, HasNoStamp, none_for_one, none_for_several}
+use Rattle.lawful_run.specs.Parts.{EndsAs}
 use Rattle.lawful_run.specs.Stops.{Stops, stopped_at_once, stopped_after}
 use Rattle.lawful_run.proofs.AppendFacts.{enters_after}
 use Rattle.lawful_run.specs.Reads.{Syncs, kept_after_piece, RaisesClock, kept_after_place, Raises, ClearSyncs, ReadsAt, HidesSync, not_played, played, HidesSyncs, HidesRead, RefusesRead}
 use Rattle.lawful_run.specs.Moves.{CarriesNodes, Pulls, with_places, kept_after_pull}
-use Rattle.lawful_run.specs.Refusals.{Hides, Refuses, FindsNoMemory, nothing, gone, gave, hidden, kept_before}
+use Rattle.lawful_run.specs.Refusals.{Hides, HidesDecide, Refuses, RefusesDecide, FindsNoMemory, nothing, gone, gave, hidden, kept_before}
 use Rattle.lawful_run.specs.Explains.{Explains, Answers}
 use Rattle.lawful_run.proofs.Replies.{contains_at}
 use Rattle.lawful_run.proofs.Beginnings.{at_new, at_new_at, split, taken, front}
@@ -208,6 +212,14 @@ module _ (log : Log) (caller : Caller) (colour : ℕ)
         (made (with_floor h.synced h.stamp) h.places))
   ])
 
+  hidden_decide : (kept : Kept) (colours : List ℕ) (after : Kept) → HidesDecide log caller kept colours after
+      → Onward kept after
+  hidden_decide kept [] after h = absurd h
+  hidden_decide kept (first ∷ all) after h = then_on (hidden_syncs kept (first ∷ []) h.0 h.1) (elim h.2 [
+    | inl e ↦ to_same h.0 after e (same refl refl)
+    | inr r ↦ hidden_read h.0 all after r
+  ])
+
   hides : (kept : Kept) (colours : List ℕ) (manner : Manner) (after : Kept) → Hides log caller kept colours manner after
       → Onward kept after
   hides kept colours Appending after h = to_same kept after h (same refl refl)
@@ -219,11 +231,21 @@ module _ (log : Log) (caller : Caller) (colour : ℕ)
   hides kept colours Reading after h = hidden_read kept colours after h
   hides kept colours Committing after h = hidden_read kept colours after h
   hides kept colours Dequeuing after h = hidden_syncs kept colours after h
+  hides kept colours Deciding after h = hidden_decide kept colours after h
 
   refused_read : (kept : Kept) (colours : List ℕ) (c : ℕ) (shown : Counts) (after : Kept)
       → RefusesRead log caller kept colours c shown after → Onward kept after
   refused_read kept colours c shown after r =
       then_on (raises r.stamp kept r.raises r.raised r.raising) (pieces r.stamp r.raised r.syncs after r.syncing)
+
+  refused_decide : (kept : Kept) (colours : List ℕ) (c : ℕ) (shown : Counts) (after : Kept)
+      → RefusesDecide log caller kept colours c shown after → Onward kept after
+  refused_decide kept [] c shown after r = absurd r
+  refused_decide kept (first ∷ all) c shown after r = elim r [
+    | inl at_once ↦ to_same kept after at_once.2 (same refl refl)
+    | inr behind ↦ then_on (hidden_syncs kept (first ∷ []) behind.0 behind.1)
+        (refused_read behind.0 all c shown after behind.2)
+  ]
 
   refuses : (kept : Kept) (colours : List ℕ) (manner : Manner) (c : ℕ) (shown : Counts) (after : Kept)
       → Refuses log caller kept colours manner c shown after → Onward kept after
@@ -236,6 +258,7 @@ module _ (log : Log) (caller : Caller) (colour : ℕ)
   refuses kept colours Reading c shown after r = refused_read kept colours c shown after r
   refuses kept colours Committing c shown after r = refused_read kept colours c shown after r
   refuses kept colours Dequeuing c shown after r = hidden_syncs kept colours after r.2
+  refuses kept colours Deciding c shown after r = refused_decide kept colours c shown after r
 
   -- appends
   pointed : (kept : Kept) (node : Node) (stamp : ℕ) (middle : Kept) (points : List PointPiece) →
@@ -329,6 +352,13 @@ module _ (log : Log) (caller : Caller) (colour : ℕ)
       (then_on {middle = given} (placed low region c places) (look given c looked (omega (arith, unseen, same))))
   memory kept what after (hidden later h) = hides kept (colours_synced caller what) (manner_of what) later h
 
+  ends : (kept : Kept) (what : What) (said : List ℕ) (ended : Ended) (after : Kept)
+      → EndsAs log caller kept what said ended after → Onward kept after
+  ends kept what said (ended_as.Stood stamp point) after e =
+      appended kept (node_of caller kept e.0 e.1) stamp None (point ∷ []) after e.3.1
+  ends kept what said (ended_as.StampEnd c) after e = no_stamp kept (node_of caller kept e.0 e.1) c after e.3.1
+  ends kept what said ended_as.NoMemory after e = to_same kept after e (same refl refl)
+
   explained : (kept : Kept) (what : What) (answer : Answer) (nodes : List PlacedNode) (after : Kept)
       → Explains log caller kept what answer nodes after → Onward kept after
   explained kept what answers.NoMemory nodes after e = memory kept what after e.1
@@ -346,8 +376,8 @@ module _ (log : Log) (caller : Caller) (colour : ℕ)
   explained kept what answers.SameRegion nodes after e = to_same kept after e.1 (same refl refl)
   explained kept what (answers.Based shown base) nodes after e = to_same _ after e.6
       (event kept caller.own e.1 e.3 (λ _. e.5.unseen))
-  explained kept what (answers.Got value sync) nodes after e = to_same _ after e.10
-      (synced kept sync.colour sync.events _ sync.counts e.8)
+  explained kept what (answers.Got value sync) nodes after e = to_same _ after e.3
+      (synced kept sync.colour sync.events _ sync.counts e.2)
   explained kept what (answers.GotMany values sync) nodes after e = to_same _ after e.7
       (synced kept sync.colour sync.events _ sync.counts e.5)
   explained kept what (answers.GotKeys stamp shown raises syncs) nodes after e =
@@ -369,6 +399,13 @@ module _ (log : Log) (caller : Caller) (colour : ℕ)
       (read s.1 _ read_stamp raises syncs after s.3.0)
   explained kept what (answers.Listed names stamp raises syncs) nodes after e =
       read kept (colours_synced caller what) stamp raises syncs after e.4.0
+  explained kept what (answers.Undecided stamp sync) nodes after e = to_same _ after e.3
+      (synced kept sync.colour sync.events _ sync.counts e.2)
+  explained kept what (answers.Decided commits stamp sync read_stamp raises syncs ended) nodes after e =
+      let d = e.3 in
+      then_on (synced kept sync.colour sync.events _ sync.counts d.synced)
+      (then_on (read (kept_after_piece log caller kept sync) (rising e.1) read_stamp raises syncs d.read d.tells.0)
+      (ends d.read what (decision_text (record { key = d.waits; commits = commits })) ended after d.ends))
   explained kept what (answers.Moved lined waiting c events) nodes after e =
       to_same (kept_after_look kept caller.own c events) after e.5 (look kept c events e.3.unseen)
   explained kept what answers.NoTx nodes after e = to_same kept after e.1 (same refl refl)

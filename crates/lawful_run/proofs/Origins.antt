@@ -31,8 +31,10 @@ pub record Origin {log : Log} {caller : Caller} {commands : List Command} {repli
   pub text : List ℕ
   pub asks : AsksToAppend caller kept step.command.what colours text
   pub id_is : id ≡ record { client = caller.client; count = kept.ids }
-  pub node : slice_get (log.nodes caller.client) kept.ids ≡ Some (node_of caller kept colours text)
-  pub fate : Fate log (told step.reply.answer) (node_of caller kept colours text)
+  -- what the client kept when it appended the node
+  pub over : Kept
+  pub node : slice_get (log.nodes caller.client) kept.ids ≡ Some (node_of caller over colours text)
+  pub fate : Fate log (told step.reply.answer) (node_of caller over colours text)
 
 -- by a single of the colour
 pub record AloneAt {log : Log} {caller : Caller} {commands : List Command} {replies : List ReplyLine} {last : Kept}
@@ -56,6 +58,7 @@ module _ {log : Log} {caller : Caller} {commands : List Command} {replies : List
     text = o.text;
     asks = o.asks;
     id_is = o.id_is;
+    over = o.over;
     node = o.node;
     fate = o.fate;
   }
@@ -82,6 +85,7 @@ module _ {log : Log} {caller : Caller} {commands : List Command} {replies : List
     text = u.text;
     asks = u.asks;
     id_is = refl;
+    over = u.over;
     node = u.next;
     fate = u.fate;
   }

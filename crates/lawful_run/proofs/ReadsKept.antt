@@ -7,6 +7,7 @@ use Rattle.log_node.specs.declared.node.At.TheVariants.{Event, Look}
 use Rattle.log_node.specs.declared.node.Node.{Node}
 use Rattle.log_node.specs.Seen.{PlacedNode}
 use Rattle.log_node.specs.Sets.{members}
+use Rattle.part_fold.specs.Decisions.{decision_text}
 use Rattle.col_core.specs.Log.{Log}
 use Rattle.col_core.specs.Keeping.{Kept, kept_after_event}
 use Rattle.script_text.specs.declared.commands.What.{What}
@@ -14,18 +15,21 @@ use Rattle.script_text.specs.declared.commands.What.TheVariants as whats
 use Rattle.script_text.specs.declared.script.Command.{Command}
 use Rattle.report_text.specs.declared.report.Answer.{Answer}
 use Rattle.report_text.specs.declared.report.Answer.TheVariants as answers
+use Rattle.report_text.specs.declared.report.Ended.{Ended}
+use Rattle.report_text.specs.declared.report.Ended.TheVariants as ends
 use Rattle.report_text.specs.declared.report.KeyAnswer.{KeyAnswer}
 use Rattle.report_text.specs.declared.report.PointPiece.{PointPiece}
 use Rattle.report_text.specs.declared.report.RaisePiece.{RaisePiece}
 use Rattle.report_text.specs.declared.report.ReplyLine.{ReplyLine}
 use Rattle.report_text.specs.declared.report.SyncPiece.{SyncPiece}
 use Rattle.lawful_run.specs.Callers.{Caller, node_of}
-use Rattle.lawful_run.specs.Asks.{Manner, Appending, Guarding, Stopping, Syncing, Moving, Getting, Reading, Committing, Dequeuing}
+use Rattle.lawful_run.specs.Asks.{Manner, Appending, Guarding, Stopping, Syncing, Moving, Getting, Reading, Committing, Dequeuing, Deciding, rising}
 use Rattle.lawful_run.specs.Deeds.{colours_synced, manner_of}
 use Rattle.lawful_run.specs.Appends.{Appends, AppendsUnshown, one_unshown, several_unshown, HasNoStamp, none_for_one, none_for_several}
 use Rattle.lawful_run.specs.Moves.{with_places, kept_after_pull}
 use Rattle.lawful_run.specs.Reads.{kept_after_place, kept_after_piece, Raises, ClearSyncs, ReadsAt, HidesSyncs, HidesRead, RefusesRead}
-use Rattle.lawful_run.specs.Refusals.{Hides, Refuses, FindsNoMemory, nothing, gone, gave, hidden}
+use Rattle.lawful_run.specs.Refusals.{Hides, HidesDecide, Refuses, RefusesDecide, FindsNoMemory, nothing, gone, gave, hidden}
+use Rattle.lawful_run.specs.Parts.{EndsAs}
 use Rattle.lawful_run.specs.Stops.{Stops, stopped_at_once, stopped_after}
 use Rattle.lawful_run.specs.Explains.{Explains, Explained, start, next}
 use Rattle.lawful_run.proofs.AppendFacts.{points_leave}
@@ -83,6 +87,16 @@ hidden_keeps log caller kept colours after h =
       | inr e ↦ so_kept kept _ after e synced
     ]
 
+decides_keep : (log : Log) (caller : Caller) (kept : Kept) (colours : List ℕ) (after : Kept)
+    → HidesDecide log caller kept colours after → KeepsReads kept after
+decides_keep log caller kept [] after h = absurd h
+decides_keep log caller kept (first ∷ all) after h =
+    let synced = syncs_keep log caller kept (first ∷ []) h.0 h.1 in
+    elim h.2 [
+      | inl e ↦ so_kept kept h.0 after e synced
+      | inr r ↦ hidden_keeps log caller h.0 all after r ∙ synced
+    ]
+
 hides_keep : (log : Log) (caller : Caller) (kept : Kept) (colours : List ℕ) (manner : Manner) (after : Kept)
     → Hides log caller kept colours manner after → KeepsReads kept after
 hides_keep log caller kept colours Appending after h = same_kept kept after h
@@ -94,12 +108,22 @@ hides_keep log caller kept colours Getting after h = syncs_keep log caller kept 
 hides_keep log caller kept colours Reading after h = hidden_keeps log caller kept colours after h
 hides_keep log caller kept colours Committing after h = hidden_keeps log caller kept colours after h
 hides_keep log caller kept colours Dequeuing after h = syncs_keep log caller kept colours after h
+hides_keep log caller kept colours Deciding after h = decides_keep log caller kept colours after h
 
 refused_keeps : (log : Log) (caller : Caller) (kept : Kept) (colours : List ℕ) (colour : ℕ) (shown : Counts) (after : Kept)
     → RefusesRead log caller kept colours colour shown after → KeepsReads kept after
 refused_keeps log caller kept colours colour shown after r =
     clears_keep log caller r.stamp r.raised r.syncs after r.syncing
     ∙ raises_keep log caller r.stamp kept r.raises r.raised r.raising
+
+refused_decide_keeps : (log : Log) (caller : Caller) (kept : Kept) (colours : List ℕ) (colour : ℕ) (shown : Counts)
+    (after : Kept) → RefusesDecide log caller kept colours colour shown after → KeepsReads kept after
+refused_decide_keeps log caller kept [] colour shown after r = absurd r
+refused_decide_keeps log caller kept (first ∷ all) colour shown after r = elim r [
+  | inl at_once ↦ same_kept kept after at_once.2
+  | inr behind ↦ refused_keeps log caller behind.0 all colour shown after behind.2
+      ∙ syncs_keep log caller kept (first ∷ []) behind.0 behind.1
+]
 
 refuses_keep : (log : Log) (caller : Caller) (kept : Kept) (colours : List ℕ) (manner : Manner) (colour : ℕ)
     (shown : Counts) (after : Kept) → Refuses log caller kept colours manner colour shown after → KeepsReads kept after
@@ -114,6 +138,8 @@ refuses_keep log caller kept colours Reading colour shown after r =
 refuses_keep log caller kept colours Committing colour shown after r =
     refused_keeps log caller kept colours colour shown after r
 refuses_keep log caller kept colours Dequeuing colour shown after r = syncs_keep log caller kept colours after r.2
+refuses_keep log caller kept colours Deciding colour shown after r =
+    refused_decide_keeps log caller kept colours colour shown after r
 
 module _ (log : Log) (caller : Caller) (kept : Kept) where
   appends_keep : (node : Node) (stamp : ℕ) (row : Option ℕ) (points : List PointPiece) (after : Kept)
@@ -139,6 +165,13 @@ module _ (log : Log) (caller : Caller) (kept : Kept) where
   stop_keeps node steps after stopped_at_once = refl
   stop_keeps node steps after (stopped_after n places s) = refl
 
+  ended_keeps : (what : What) (said : List ℕ) (ended : Ended) (after : Kept)
+      → EndsAs log caller kept what said ended after → KeepsReads kept after
+  ended_keeps what said (ends.Stood stamp point) after e =
+      appends_keep (node_of caller kept e.0 e.1) stamp None (point ∷ []) after e.3.1
+  ended_keeps what said (ends.StampEnd colour) after e = no_stamp_keeps (node_of caller kept e.0 e.1) colour after e.3.1
+  ended_keeps what said ends.NoMemory after e = same_kept kept after e
+
   memory_keeps : (what : What) (after : Kept) → FindsNoMemory log caller kept what after → KeepsReads kept after
   memory_keeps what after nothing = refl
   memory_keeps what after (gone colours text places asks g) = refl
@@ -146,6 +179,7 @@ module _ (log : Log) (caller : Caller) (kept : Kept) where
   memory_keeps what after (hidden other h) =
       hides_keep log caller kept (colours_synced caller what) (manner_of what) other h
 
+module _ (log : Log) (caller : Caller) (kept : Kept) where
   -- Whatever an answer says, the client keeps the same reads, unless it tells of a read that found something.
   pub explained_keeps : (what : What) (answer : Answer) (nodes : List PlacedNode) (after : Kept)
       → Explains log caller kept what answer nodes after
@@ -153,14 +187,14 @@ module _ (log : Log) (caller : Caller) (kept : Kept) where
       (shown : List KeyAnswer) (raises : List RaisePiece) (syncs : List SyncPiece)
       → answer ≢ answers.GotKeys stamp shown raises syncs)
       → KeepsReads kept after
-  explained_keeps what answers.NoMemory nodes after e other = memory_keeps what after e.1
+  explained_keeps what answers.NoMemory nodes after e other = memory_keeps log caller kept what after e.1
   explained_keeps what (answers.Stood stamp row points) nodes after e other =
-      appends_keep (node_of caller kept e.2.0 e.2.1) stamp row points after e.2.3
+      appends_keep log caller kept (node_of caller kept e.2.0 e.2.1) stamp row points after e.2.3
   explained_keeps what (answers.StampEnd colour) nodes after e other =
-      no_stamp_keeps (node_of caller kept e.2.0 e.2.1) colour after e.2.3
+      no_stamp_keeps log caller kept (node_of caller kept e.2.0 e.2.1) colour after e.2.3
   explained_keeps what (answers.Full used) nodes after e other = same_kept kept after e.2
   explained_keeps what (answers.Stopped steps) nodes after e other =
-      stop_keeps (node_of caller kept e.1 e.2) steps after e.4
+      stop_keeps log caller kept (node_of caller kept e.1 e.2) steps after e.4
   explained_keeps what (answers.Synced sync plays) nodes after e other = so_kept kept _ after e.4 refl
   explained_keeps what (answers.Scanned stamp count raises syncs) nodes after e other =
       reads_keep log caller kept (members e.0) stamp raises syncs after e.3
@@ -169,7 +203,7 @@ module _ (log : Log) (caller : Caller) (kept : Kept) where
       (place_keeps (kept_after_event (with_places kept e.1 e.2 e.6) e.1 e.2 e.4) caller.own e.2 carry)
   explained_keeps what answers.SameRegion nodes after e other = same_kept kept after e.1
   explained_keeps what (answers.Based at base) nodes after e other = so_kept kept _ after e.6 refl
-  explained_keeps what (answers.Got value sync) nodes after e other = so_kept kept _ after e.10 refl
+  explained_keeps what (answers.Got value sync) nodes after e other = so_kept kept _ after e.3 refl
   explained_keeps what (answers.GotMany values sync) nodes after e other = so_kept kept _ after e.7 refl
   explained_keeps what (answers.GotKeys stamp shown raises syncs) nodes after e other =
       let t = e.2 in
@@ -185,27 +219,32 @@ module _ (log : Log) (caller : Caller) (kept : Kept) where
       let a = e.1.1 in
       let s = a.3 in
       reads_keep log caller s.1 (colours_synced caller what) read_stamp raises syncs after s.3.0
-      ∙ appends_keep (node_of caller kept a.0 a.1) s.0 row points s.1 s.2
+      ∙ appends_keep log caller kept (node_of caller kept a.0 a.1) s.0 row points s.1 s.2
   explained_keeps what (answers.Changed failed stamp row points read_stamp raises syncs) nodes after e other =
       let a = e.1.1 in
       let s = a.3 in
       reads_keep log caller s.1 (colours_synced caller what) read_stamp raises syncs after s.3.0
-      ∙ appends_keep (node_of caller kept a.0 a.1) s.0 row points s.1 s.2
+      ∙ appends_keep log caller kept (node_of caller kept a.0 a.1) s.0 row points s.1 s.2
   explained_keeps what (answers.Listed names stamp raises syncs) nodes after e other =
       reads_keep log caller kept (colours_synced caller what) stamp raises syncs after e.4.0
+  explained_keeps what (answers.Undecided stamp sync) nodes after e other = so_kept kept _ after e.3 refl
+  explained_keeps what (answers.Decided commits stamp sync read_stamp raises syncs ended) nodes after e other =
+      let d = e.3 in
+      ended_keeps log caller d.read what (decision_text (record { key = d.waits; commits = commits })) ended after d.ends
+      ∙ reads_keep log caller (kept_after_piece log caller kept sync) (rising e.1) read_stamp raises syncs d.read d.tells.0
   explained_keeps what (answers.Moved lined waiting colour events) nodes after e other = so_kept kept _ after e.5 refl
   explained_keeps what answers.NoTx nodes after e other = same_kept kept after e.1
   explained_keeps what (answers.Took value point sync) nodes after e other =
       let s = e.3.3 in
-      so_kept kept _ after s.5 (appends_keep (node_of caller kept e.3.0 e.3.1) s.0 None (point ∷ []) s.1 s.2)
+      so_kept kept _ after s.5 (appends_keep log caller kept (node_of caller kept e.3.0 e.3.1) s.0 None (point ∷ []) s.1 s.2)
   explained_keeps what (answers.UnreadTrimmed stamp colour base) nodes after e other =
       let s = e.2.3 in
       refuses_keep log caller s.0 (colours_synced caller what) (manner_of what) colour base after s.2
-      ∙ unshown_keeps (node_of caller kept e.2.0 e.2.1) stamp s.0 s.1
+      ∙ unshown_keeps log caller kept (node_of caller kept e.2.0 e.2.1) stamp s.0 s.1
   explained_keeps what (answers.UnreadNoMemory stamp) nodes after e other =
       let s = e.2.3 in
       hides_keep log caller s.0 (colours_synced caller what) (manner_of what) after s.2
-      ∙ unshown_keeps (node_of caller kept e.2.0 e.2.1) stamp s.0 s.1
+      ∙ unshown_keeps log caller kept (node_of caller kept e.2.0 e.2.1) stamp s.0 s.1
   explained_keeps what (answers.Trimmed colour base) nodes after e other =
       refuses_keep log caller kept (colours_synced caller what) (manner_of what) colour base after e.2
   explained_keeps what (answers.NotHome home) nodes after e other = same_kept kept after e.1

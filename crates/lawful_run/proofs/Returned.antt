@@ -8,6 +8,7 @@ use Rattle.log_node.specs.declared.ids.Key.{Key}
 use Rattle.log_node.specs.declared.ids.Colours.{Colours}
 use Rattle.log_node.specs.Seen.{PlacedNode}
 use Rattle.log_node.specs.Sets.{members}
+use Rattle.part_fold.specs.Decisions.{decision_text}
 use Rattle.col_core.specs.History.{line, entry_key}
 use Rattle.col_core.specs.Appending.{StandsUnder}
 use Rattle.col_core.specs.Keeping.{Kept}
@@ -15,30 +16,36 @@ use Rattle.script_text.specs.declared.commands.What.{What}
 use Rattle.script_text.specs.declared.script.Script.{Script}
 use Rattle.report_text.specs.declared.report.Answer.{Answer}
 use Rattle.report_text.specs.declared.report.Answer.TheVariants as answers
+use Rattle.report_text.specs.declared.report.Ended.{Ended}
+use Rattle.report_text.specs.declared.report.Ended.TheVariants as ends
 use Rattle.report_text.specs.declared.report.PointPiece.{PointPiece}
 use Rattle.report_text.specs.declared.report.ReplyLine.{ReplyLine}
 use Rattle.report_text.specs.declared.report.ClientReport.{ClientReport}
 use Rattle.report_text.specs.declared.report.Report.{Report}
 use Rattle.lawful_run.specs.Callers.{Caller, caller_of, node_of}
+use Rattle.lawful_run.specs.Asks.{rising}
 use Rattle.lawful_run.specs.Deeds.{AsksToAppend}
 use Rattle.lawful_run.specs.Appends.{Appends, AppendsUnshown, one_unshown, several_unshown, StandsAt}
 use Rattle.lawful_run.specs.Columns.{IsColumnReport}
+use Rattle.lawful_run.specs.Parts.{EndsAs}
 use Rattle.lawful_run.specs.Refusals.{kept_before}
 use Rattle.lawful_run.specs.Explains.{Explains}
 use Rattle.lawful_run.specs.Lawful.{LawfulRun}
-use Rattle.lawful_run.specs.Readings.{kept_at, kept_of, Nowhere, Under, told, StandsAtEnd, StandsAtPoints, StandsAs, ReturnedAppendsStand}
+use Rattle.lawful_run.specs.Readings.{kept_at, kept_of, Nowhere, Under, told, told_end, StandsAtEnd, StandsAtPoints, StandsAs, ReturnedAppendsStand}
 use Rattle.lawful_run.proofs.Replies.{step_of}
 use Rattle.lawful_run.proofs.Traces.{one_of}
 use Rattle.lawful_run.proofs.LettingGo.{asks_before}
 use Rattle.lawful_run.proofs.Used.{before_ids}
+use Rattle.lawful_run.proofs.Decisions.{decide_asks, reads_behind}
 use Rattle.lawful_run.proofs.Clients.{shown_there}
 
-module _ (script : Script) (report : Report) (run : LawfulRun script report) (client : ℕ) (kept : Kept) where
+module _ (script : Script) (report : Report) (run : LawfulRun script report) (client : ℕ) where
   abbrev caller : Caller
   caller = caller_of script client
 
-  abbrev id : Id
-  id = record { client = client; count = kept.ids }
+  -- the id that is next over what the client keeps
+  abbrev id : Kept → Id
+  id kept = record { client = client; count = kept.ids }
 
   -- where a key stands in a line of the log it stands in the closing line
   closing : (colour position : ℕ) (key : Key) → slice_get (line (run.log.histories caller.own colour)) position
@@ -51,86 +58,106 @@ module _ (script : Script) (report : Report) (run : LawfulRun script report) (cl
       ∙ ap (λ (d : ℕ). line (run.log.histories caller.own d)) same)) in
       ap (λ (l : List Key). slice_get l position) shown ∙ stands
 
-  pub at_points : (colours : Colours) (text : List ℕ) (stamp : ℕ) (row : Option ℕ) (points : List PointPiece)
+  pub at_points : (kept : Kept) (colours : Colours) (text : List ℕ) (stamp : ℕ) (row : Option ℕ) (points : List PointPiece)
       (after : Kept) → Appends run.log caller kept (node_of caller kept colours text) stamp row points after
-      → StandsAtPoints report caller.own id colours stamp points
-  at_points colours text stamp None [] after a = absurd a
-  at_points colours text stamp None (p ∷ []) after a = record {
+      → StandsAtPoints report caller.own (id kept) colours stamp points
+  at_points kept colours text stamp None [] after a = absurd a
+  at_points kept colours text stamp None (p ∷ []) after a = record {
     all = sym a.0;
-    each = λ q there. subst (λ (x : PointPiece). StandsAtEnd report caller.own x.colour x.position (entry_key stamp id))
+    each = λ q there. subst (λ (x : PointPiece). StandsAtEnd report caller.own x.colour x.position (entry_key stamp (id kept)))
         (one_of p q there)
-        (closing p.colour p.position (entry_key stamp id) a.3.stands);
+        (closing p.colour p.position (entry_key stamp (id kept)) a.3.stands);
   }
-  at_points colours text stamp None (p ∷ q ∷ points) after a = absurd a
-  at_points colours text stamp (Some number) points after a = record {
+  at_points kept colours text stamp None (p ∷ q ∷ points) after a = absurd a
+  at_points kept colours text stamp (Some number) points after a = record {
     all = a.2.colours;
-    each = λ q there. closing q.colour q.position (entry_key stamp id)
+    each = λ q there. closing q.colour q.position (entry_key stamp (id kept))
         (All-contains (StandsAt run.log caller kept
         (node_of caller kept colours text) stamp) points q a.2.each there).stands;
   }
 
-  unshown : (colours : Colours) (text : List ℕ) (stamp : ℕ) (after : Kept)
+  unshown : (kept : Kept) (colours : Colours) (text : List ℕ) (stamp : ℕ) (after : Kept)
       → AppendsUnshown run.log caller kept (node_of caller kept colours text) stamp after
-      → StandsAs report caller.own id colours (Under stamp)
-  unshown colours text stamp after (one_unshown colour place position only a) c there = (
+      → StandsAs report caller.own (id kept) colours (Under stamp)
+  unshown kept colours text stamp after (one_unshown colour place position only a) c there = (
     position,
-    subst (λ d. StandsAtEnd report caller.own d position (entry_key stamp id))
+    subst (λ d. StandsAtEnd report caller.own d position (entry_key stamp (id kept)))
         (one_of colour c (subst (λ (l : List ℕ). Contains l c) only there))
-        (closing colour position (entry_key stamp id) a.stands),
+        (closing colour position (entry_key stamp (id kept)) a.stands),
   )
-  unshown colours text stamp after (several_unshown places begins outcome stand above) c there =
+  unshown kept colours text stamp after (several_unshown places begins outcome stand above) c there =
       let s = All-contains (λ colour. (position : ℕ) × StandsUnder (run.log.histories caller.own colour)
       (node_of caller kept colours text) stamp position)
       (members colours) c stand there in
-      (s.0, closing c s.0 (entry_key stamp id) s.1)
+      (s.0, closing c s.0 (entry_key stamp (id kept)) s.1)
+
+  -- how the append of a decision ended, where its node stands
+  ended : (kept : Kept) (what : What) (said : List ℕ) (end : Ended) (after : Kept)
+      → EndsAs run.log caller kept what said end after → told_end end ≢ Nowhere
+      → (colours : Colours) × (text : List ℕ) × AsksToAppend caller kept what colours text
+      × StandsAs report caller.own (id kept) colours (told_end end)
+  ended kept what said (ends.Stood stamp point) after a n =
+      (a.0, a.1, a.2, at_points kept a.0 a.1 stamp None (point ∷ []) after a.3.1)
+  ended kept what said (ends.StampEnd colour) after a n = absurd (n refl)
+  ended kept what said ends.NoMemory after a n = absurd (n refl)
 
   -- an answer that tells of a node
-  returned : (what : What) (answer : Answer) (nodes : List PlacedNode) (after : Kept)
+  returned : (kept : Kept) (what : What) (answer : Answer) (nodes : List PlacedNode) (after : Kept)
       → Explains run.log caller kept what answer nodes after
       → told answer ≢ Nowhere
       → (colours : Colours) × (text : List ℕ) × AsksToAppend caller kept what colours text
-      × StandsAs report caller.own id colours (told answer)
-  returned what answers.NoMemory nodes after e n = absurd (n refl)
-  returned what (answers.Stood stamp row points) nodes after e n =
-      (e.2.0, e.2.1, e.2.2, at_points e.2.0 e.2.1 stamp row points after e.2.3)
-  returned what (answers.StampEnd colour) nodes after e n = absurd (n refl)
-  returned what (answers.Full used) nodes after e n = absurd (n refl)
-  returned what (answers.Stopped zero) nodes after e n = absurd (n refl)
-  returned what (answers.Stopped (suc steps)) nodes after e n =
+      × StandsAs report caller.own (id kept) colours (told answer)
+  returned kept what answers.NoMemory nodes after e n = absurd (n refl)
+  returned kept what (answers.Stood stamp row points) nodes after e n =
+      (e.2.0, e.2.1, e.2.2, at_points kept e.2.0 e.2.1 stamp row points after e.2.3)
+  returned kept what (answers.StampEnd colour) nodes after e n = absurd (n refl)
+  returned kept what (answers.Full used) nodes after e n = absurd (n refl)
+  returned kept what (answers.Stopped zero) nodes after e n = absurd (n refl)
+  returned kept what (answers.Stopped (suc steps)) nodes after e n =
       (e.1, e.2, subst (λ (w : What). AsksToAppend caller kept w e.1 e.2) (sym e.3) (refl, refl), tt)
-  returned what (answers.Synced sync plays) nodes after e n = absurd (n refl)
-  returned what (answers.Scanned stamp count raises syncs) nodes after e n = absurd (n refl)
-  returned what (answers.Pulled count give carry) nodes after e n = absurd (n refl)
-  returned what answers.SameRegion nodes after e n = absurd (n refl)
-  returned what (answers.Based shown base) nodes after e n = absurd (n refl)
-  returned what (answers.Got value sync) nodes after e n = absurd (n refl)
-  returned what (answers.GotMany values sync) nodes after e n = absurd (n refl)
-  returned what (answers.GotKeys stamp shown raises syncs) nodes after e n = absurd (n refl)
-  returned what (answers.Ruled conflict stamp row points read_stamp raises syncs) nodes after e n =
+  returned kept what (answers.Synced sync plays) nodes after e n = absurd (n refl)
+  returned kept what (answers.Scanned stamp count raises syncs) nodes after e n = absurd (n refl)
+  returned kept what (answers.Pulled count give carry) nodes after e n = absurd (n refl)
+  returned kept what answers.SameRegion nodes after e n = absurd (n refl)
+  returned kept what (answers.Based shown base) nodes after e n = absurd (n refl)
+  returned kept what (answers.Got value sync) nodes after e n = absurd (n refl)
+  returned kept what (answers.GotMany values sync) nodes after e n = absurd (n refl)
+  returned kept what (answers.GotKeys stamp shown raises syncs) nodes after e n = absurd (n refl)
+  returned kept what (answers.Ruled conflict stamp row points read_stamp raises syncs) nodes after e n =
       let a = e.1.1 in
       let s = a.3 in
-      (a.0, a.1, a.2, (s.0, at_points a.0 a.1 s.0 row points s.1 s.2))
-  returned what (answers.Changed failed stamp row points read_stamp raises syncs) nodes after e n =
+      (a.0, a.1, a.2, (s.0, at_points kept a.0 a.1 s.0 row points s.1 s.2))
+  returned kept what (answers.Changed failed stamp row points read_stamp raises syncs) nodes after e n =
       let a = e.1.1 in
       let s = a.3 in
-      (a.0, a.1, a.2, (s.0, at_points a.0 a.1 s.0 row points s.1 s.2))
-  returned what (answers.Listed names stamp raises syncs) nodes after e n = absurd (n refl)
-  returned what (answers.Moved lined waiting colour events) nodes after e n = absurd (n refl)
-  returned what answers.NoTx nodes after e n = absurd (n refl)
-  returned what (answers.Took value point sync) nodes after e n =
+      (a.0, a.1, a.2, (s.0, at_points kept a.0 a.1 s.0 row points s.1 s.2))
+  returned kept what (answers.Listed names stamp raises syncs) nodes after e n = absurd (n refl)
+  returned kept what (answers.Undecided stamp sync) nodes after e n = absurd (n refl)
+  returned kept what (answers.Decided commits stamp sync read_stamp raises syncs end) nodes after e n =
+      let d = e.3 in
+      let quiet = reads_behind run.log caller kept sync (rising e.1) read_stamp raises syncs d.read d.tells.0 in
+      let r = ended d.read what (decision_text (record { key = d.waits; commits = commits })) end after d.ends n in (
+        r.0,
+        r.1,
+        decide_asks caller d.read kept what sync e.1 e.2 r.0 r.1 r.2,
+        subst (λ (m : ℕ). StandsAs report caller.own (record { client = client; count = m }) r.0 (told_end end)) quiet.ids r.3,
+      )
+  returned kept what (answers.Moved lined waiting colour events) nodes after e n = absurd (n refl)
+  returned kept what answers.NoTx nodes after e n = absurd (n refl)
+  returned kept what (answers.Took value point sync) nodes after e n =
       let a = e.3 in
       let s = a.3 in
-      (a.0, a.1, a.2, (s.0, at_points a.0 a.1 s.0 None (point ∷ []) s.1 s.2))
-  returned what (answers.UnreadTrimmed stamp colour base) nodes after e n =
+      (a.0, a.1, a.2, (s.0, at_points kept a.0 a.1 s.0 None (point ∷ []) s.1 s.2))
+  returned kept what (answers.UnreadTrimmed stamp colour base) nodes after e n =
       let a = e.2 in
       let s = a.3 in
-      (a.0, a.1, a.2, unshown a.0 a.1 stamp s.0 s.1)
-  returned what (answers.UnreadNoMemory stamp) nodes after e n =
+      (a.0, a.1, a.2, unshown kept a.0 a.1 stamp s.0 s.1)
+  returned kept what (answers.UnreadNoMemory stamp) nodes after e n =
       let a = e.2 in
       let s = a.3 in
-      (a.0, a.1, a.2, unshown a.0 a.1 stamp s.0 s.1)
-  returned what (answers.Trimmed colour base) nodes after e n = absurd (n refl)
-  returned what (answers.NotHome home) nodes after e n = absurd (n refl)
+      (a.0, a.1, a.2, unshown kept a.0 a.1 stamp s.0 s.1)
+  returned kept what (answers.Trimmed colour base) nodes after e n = absurd (n refl)
+  returned kept what (answers.NotHome home) nodes after e n = absurd (n refl)
 
 pub returned_appends_stand : ReturnedAppendsStand
 returned_appends_stand script report run client k reply there n =

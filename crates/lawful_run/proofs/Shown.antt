@@ -172,9 +172,9 @@ module _ (script : Script) (report : Report) (fits : IsFitting script) (run : La
   text_of region colour key s text t =
       let n = node_there script report fits run region colour key s in
       let there = t.1 in
-      let e : Some t.0 ≡ Some (node_of (caller_of script key.id.client) s.origin.kept s.origin.colours s.origin.text) =
+      let e : Some t.0 ≡ Some (node_of (caller_of script key.id.client) s.origin.over s.origin.colours s.origin.text) =
       sym there ∙ n in
-      let same : t.0 ≡ node_of (caller_of script key.id.client) s.origin.kept s.origin.colours s.origin.text = cc (e) in
+      let same : t.0 ≡ node_of (caller_of script key.id.client) s.origin.over s.origin.colours s.origin.text = cc (e) in
       let is : s.origin.text ≡ text = sym (ap (λ (x : Node). x.text) same) ∙ t.3 in (
         s.origin.k,
         s.origin.step.reply,
@@ -299,6 +299,10 @@ module _ (script : Script) (report : Report) (fits : IsFitting script) (run : La
       there = none_shown nodes n item e.0 there
   shown_in client lo kept what (answers.Listed names stamp raises syncs) nodes after e w n item there =
       none_shown nodes n item e.0 there
+  shown_in client lo kept what (answers.Undecided stamp sync) nodes after e w n item there =
+      none_shown nodes n item e.0 there
+  shown_in client lo kept what (answers.Decided commits stamp sync read_stamp raises syncs ended) nodes after e w n item
+      there = none_shown nodes n item e.0 there
   shown_in client lo kept what (answers.Moved lined waiting colour events) nodes after e w n item there =
       none_shown nodes n item e.0 there
   shown_in client lo kept what answers.NoTx nodes after e w n item there = none_shown nodes n item e.0 there

@@ -152,7 +152,7 @@ module _ (script : Script) (report : Report) (fits : IsFitting script) (run : La
   -- the node of an origin
   origin_node : (n : ℕ) (c : ClientReport) (of_client : slice_get report.clients n ≡ Some c) (id : Id) → id.client ≡ n
       → (o : Origin (run.clients n c of_client).explained id) → slice_get (run.log.nodes id.client) id.count ≡ Some
-      (node_of (caller_of script n) o.kept o.colours o.text)
+      (node_of (caller_of script n) o.over o.colours o.text)
   origin_node n c of_client id is o =
       ap (λ (m : ℕ). slice_get (run.log.nodes m) id.count) is
       ∙ (ap (λ (i : Id). slice_get (run.log.nodes n) i.count) o.id_is ∙ o.node)
@@ -203,8 +203,8 @@ module _ (script : Script) (report : Report) (fits : IsFitting script) (run : La
             let there' : slice_get (run.log.nodes key.id.client) key.id.count ≡ Some r.node =
             subst (λ (i : Id). slice_get (run.log.nodes i.client) i.count ≡ Some r.node) f.3 there in
             let same : Some r.node ≡ Some (node_of
-            (caller_of script key.id.client) origin.kept origin.colours origin.text) = sym there' ∙ kept_node in
-            let node : r.node ≡ node_of (caller_of script key.id.client) origin.kept origin.colours origin.text = cc
+            (caller_of script key.id.client) origin.over origin.colours origin.text) = sym there' ∙ kept_node in
+            let node : r.node ≡ node_of (caller_of script key.id.client) origin.over origin.colours origin.text = cc
             (same) in
             let colours : members g.1.node.colours ≡ members origin.colours =
             ap (λ (x : BegunRow). members x.node.colours) one ∙ ap (λ (x : Node). members x.colours) node in

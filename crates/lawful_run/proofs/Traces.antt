@@ -19,10 +19,10 @@ use Rattle.col_core.proofs.CallerLemmas.{choice}
 use Rattle.report_text.specs.declared.report.RaisePiece.{RaisePiece}
 use Rattle.report_text.specs.declared.report.SyncPiece.{SyncPiece}
 use Rattle.lawful_run.specs.Callers.{Caller}
-use Rattle.lawful_run.specs.Asks.{Manner, Appending, Guarding, Stopping, Syncing, Moving, Getting, Reading, Committing, Dequeuing}
+use Rattle.lawful_run.specs.Asks.{Manner, Appending, Guarding, Stopping, Syncing, Moving, Getting, Reading, Committing, Dequeuing, Deciding}
 use Rattle.col_core.specs.Ids.{IsStepOf}
 use Rattle.lawful_run.specs.Appends.{AreSteps}
-use Rattle.lawful_run.specs.Refusals.{Hides, Refuses}
+use Rattle.lawful_run.specs.Refusals.{Hides, HidesDecide, Refuses, RefusesDecide}
 use Rattle.lawful_run.specs.Reads.{kept_after_piece, RaisesClock, kept_after_place, Raises, ClearSyncs, events_until, ReadsAt, HidesSyncs, HidesRead, RefusesRead}
 use Rattle.lawful_run.specs.Moves.{GivesFrom, GivesHeld, GivesTooLow, CarriesNodes, Pulls, with_places}
 pub use Rattle.log_node.proofs.CallerLemmas.{contains_none as in_none}
@@ -231,6 +231,14 @@ module _ (log : Log) (caller : Caller) where
         (quiet_then before (more_made log h.synced caller.own h.places none))
     turn (inr e) = quiet_to (with_made (with_floor h.synced h.stamp) caller.own h.places) after e raised
 
+  hidden_decide : (kept : Kept) (colours : List ℕ) (after : Kept) → HidesDecide log caller kept colours after
+      → Quiet log kept after
+  hidden_decide kept [] after h = absurd h
+  hidden_decide kept (first ∷ all) after h = quiet_then (hidden_syncs kept (first ∷ []) h.0 h.1) (elim h.2 [
+    | inl e ↦ quiet_is e
+    | inr r ↦ hidden_read h.0 all after r
+  ])
+
   pub hides : (kept : Kept) (colours : List ℕ) (manner : Manner) (after : Kept)
       → Hides log caller kept colours manner after → Quiet log kept after
   hides kept colours Appending after h = quiet_is h
@@ -242,11 +250,21 @@ module _ (log : Log) (caller : Caller) where
   hides kept colours Reading after h = hidden_read kept colours after h
   hides kept colours Committing after h = hidden_read kept colours after h
   hides kept colours Dequeuing after h = hidden_syncs kept colours after h
+  hides kept colours Deciding after h = hidden_decide kept colours after h
 
   refused_read : (kept : Kept) (colours : List ℕ) (colour : ℕ) (shown : Counts) (after : Kept)
       → RefusesRead log caller kept colours colour shown after → Quiet log kept after
   refused_read kept colours colour shown after r =
       quiet_then (raises r.stamp kept r.raises r.raised r.raising) (pieces r.stamp r.raised r.syncs after r.syncing)
+
+  refused_decide : (kept : Kept) (colours : List ℕ) (colour : ℕ) (shown : Counts) (after : Kept)
+      → RefusesDecide log caller kept colours colour shown after → Quiet log kept after
+  refused_decide kept [] colour shown after r = absurd r
+  refused_decide kept (first ∷ all) colour shown after r = elim r [
+    | inl at_once ↦ quiet_is at_once.2
+    | inr behind ↦ quiet_then (hidden_syncs kept (first ∷ []) behind.0 behind.1)
+        (refused_read behind.0 all colour shown after behind.2)
+  ]
 
   pub refuses : (kept : Kept) (colours : List ℕ) (manner : Manner) (colour : ℕ) (shown : Counts) (after : Kept)
       → Refuses log caller kept colours manner colour shown after → Quiet log kept after
@@ -259,6 +277,7 @@ module _ (log : Log) (caller : Caller) where
   refuses kept colours Reading colour shown after r = refused_read kept colours colour shown after r
   refuses kept colours Committing colour shown after r = refused_read kept colours colour shown after r
   refuses kept colours Dequeuing colour shown after r = hidden_syncs kept colours after r.2
+  refuses kept colours Deciding colour shown after r = refused_decide kept colours colour shown after r
 
   -- PULLS
   gives : (kept : Kept) (region colour : ℕ) (places : List ℕ) → All

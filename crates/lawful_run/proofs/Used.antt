@@ -3,6 +3,7 @@ use Rattle.std.proofs.Common.{◌≡◌, zero, suc, ◌+◌, ℕ, List, [], ◌�
 use Rattle.std.specs.Prelude.{◌≢◌}
 use Rattle.log_node.specs.declared.ids.Colours.{Colours}
 use Rattle.log_node.specs.Seen.{PlacedNode}
+use Rattle.part_fold.specs.Decisions.{decision_text}
 use Rattle.col_core.specs.Log.{Log}
 use Rattle.col_core.specs.Keeping.{Kept}
 use Rattle.script_text.specs.declared.commands.What.{What}
@@ -13,15 +14,29 @@ use Rattle.script_text.specs.Commands.{use_of}
 use Rattle.script_text.specs.declared.script.Command.{Command}
 use Rattle.report_text.specs.declared.report.Answer.{Answer}
 use Rattle.report_text.specs.declared.report.Answer.TheVariants as answers
+use Rattle.report_text.specs.declared.report.Ended.{Ended}
+use Rattle.report_text.specs.declared.report.Ended.TheVariants as ends
 use Rattle.report_text.specs.declared.report.ReplyLine.{ReplyLine}
 use Rattle.lawful_run.specs.Callers.{Caller}
+use Rattle.lawful_run.specs.Asks.{rising}
 use Rattle.lawful_run.specs.Deeds.{AsksToAppend, colours_synced}
+use Rattle.lawful_run.specs.Parts.{EndsAs}
 use Rattle.lawful_run.specs.Refusals.{before_by, kept_before, kept_behind}
 use Rattle.lawful_run.specs.Explains.{Explains, Answers}
-use Rattle.lawful_run.specs.Readings.{NodeTold, Nowhere, told}
+use Rattle.lawful_run.specs.Readings.{NodeTold, Nowhere, told, told_end}
 use Rattle.lawful_run.proofs.Traces.{Quiet, quiet_self, quiet_then, quiet_is, quiet_to, an_event, read, hides, refuses, pulls}
 use Rattle.lawful_run.proofs.LettingGo.{before_is, behind_is, asks_before}
-use Rattle.lawful_run.proofs.Uses.{Leaves, uses_then, appends_use, unshown_use, no_stamp_use, stop_use, memory_use, quiet_same}
+use Rattle.lawful_run.proofs.Uses.{Leaves, uses_then, appends_use, unshown_use, no_stamp_use, stop_use, memory_use, quiet_same, then_leaves}
+use Rattle.lawful_run.proofs.Decisions.{decide_asks, reads_behind}
+
+-- how the append of a decision ended
+ended_use : (log : Log) (caller : Caller) (kept : Kept) (what : What) (said : List ℕ) (ended : Ended) (after : Kept)
+    → EndsAs log caller kept what said ended after → Leaves log caller kept what (told_end ended) after
+ended_use log caller kept what said (ends.Stood stamp point) after a =
+    inr (appends_use log caller kept what a.0 a.1 a.2 _ stamp None (point ∷ []) after (λ f. absurd cc) a.3.1)
+ended_use log caller kept what said (ends.StampEnd colour) after a =
+    no_stamp_use log caller kept what a.0 a.1 a.2 Nowhere refl colour after a.3.1
+ended_use log caller kept what said ends.NoMemory after a = inl (quiet_is a, refl)
 
 explained_use : (log : Log) (caller : Caller) (kept : Kept) (what : What) (answer : Answer) (nodes : List PlacedNode)
     (after : Kept)
@@ -52,7 +67,7 @@ explained_use log caller kept what answers.SameRegion nodes after e =
 explained_use log caller kept what (answers.Based shown base) nodes after e =
     inl (quiet_to _ after e.6 (an_event log kept caller.own e.1 e.3 _ e.5.trimmed tt), refl)
 explained_use log caller kept what (answers.Got value sync) nodes after e =
-    inl (quiet_to _ after e.10 (quiet_same log kept _ refl refl), refl)
+    inl (quiet_to _ after e.3 (quiet_same log kept _ refl refl), refl)
 explained_use log caller kept what (answers.GotMany values sync) nodes after e =
     inl (quiet_to _ after e.7 (quiet_same log kept _ refl refl), refl)
 explained_use log caller kept what (answers.GotKeys stamp shown raises syncs) nodes after e =
@@ -74,6 +89,13 @@ explained_use log caller kept what (answers.Changed failed stamp row points read
     (read log caller s.1 _ read_stamp raises syncs after s.3.0))
 explained_use log caller kept what (answers.Listed names stamp raises syncs) nodes after e =
     inl (read log caller kept (colours_synced caller what) stamp raises syncs after e.4.0, refl)
+explained_use log caller kept what (answers.Undecided stamp sync) nodes after e =
+    inl (quiet_to _ after e.3 (quiet_same log kept _ refl refl), refl)
+explained_use log caller kept what (answers.Decided commits stamp sync read_stamp raises syncs ended) nodes after e =
+    let d = e.3 in
+    then_leaves (reads_behind log caller kept sync (rising e.1) read_stamp raises syncs d.read d.tells.0)
+    (decide_asks caller d.read kept what sync e.1 e.2)
+    (ended_use log caller d.read what (decision_text (record { key = d.waits; commits = commits })) ended after d.ends)
 explained_use log caller kept what (answers.Moved lined waiting colour events) nodes after e =
     inl (quiet_to _ after e.5 (quiet_same log kept _ refl refl), refl)
 explained_use log caller kept what answers.NoTx nodes after e =
@@ -111,6 +133,7 @@ before_use log caller what kept tells after =
         colours = u.colours;
         text = u.text;
         asks = asks u.colours u.text u.asks;
+        over = u.over;
         next = u.next;
         ids = u.ids;
         fate = u.fate;

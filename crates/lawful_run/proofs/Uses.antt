@@ -39,16 +39,18 @@ MadeOne log caller kept colour own after =
 abbrev pub Fate : Log → NodeTold → Node → Type 0
 Fate log tells node = (tells ≢ Nowhere) ⊎ ((why : Why) × HasOutcome log node (Gone why))
 
--- an id was used for the next node, on one colour, with a single, or on several, with none
+-- An id was used for the next node, on one colour, with a single, or on several, with none. The node is made over what the
+-- client kept when it was appended.
 pub record Uses (log : Log) (caller : Caller) (kept : Kept) (what : What) (tells : NodeTold) (after : Kept) : Type 0 where
   pub colours : Colours
   pub text : List ℕ
   pub asks : AsksToAppend caller kept what colours text
-  pub next : slice_get (log.nodes caller.client) kept.ids ≡ Some (node_of caller kept colours text)
+  pub over : Kept
+  pub next : slice_get (log.nodes caller.client) kept.ids ≡ Some (node_of caller over colours text)
   pub ids : after.ids ≡ kept.ids + 1
-  pub fate : Fate log tells (node_of caller kept colours text)
+  pub fate : Fate log tells (node_of caller over colours text)
   pub made : Made log kept after ⊎ ((colour : ℕ) × (members colours ≡ colour ∷ []) × (tells ≢ Nowhere)
-      × MadeOne log caller kept colour (node_of caller kept colours text).id after)
+      × MadeOne log caller kept colour (record { client = caller.client; count = kept.ids }) after)
 
 -- no id was used, and the answer tells of no node; or one was
 abbrev pub Leaves : Log → Caller → Kept → What → NodeTold → Kept → Type 0
@@ -62,15 +64,16 @@ uses_then {log} {caller} {kept} {middle} {after} {what} {tells} u q = record {
   colours = u.colours;
   text = u.text;
   asks = u.asks;
+  over = u.over;
   next = u.next;
   ids = q.ids ∙ u.ids;
   fate = u.fate;
   made = turn u.made;
 } where
   turn : Made log kept middle ⊎ ((colour : ℕ) × (members u.colours ≡ colour ∷ []) × (tells ≢ Nowhere)
-      × MadeOne log caller kept colour (node_of caller kept u.colours u.text).id middle)
+      × MadeOne log caller kept colour (record { client = caller.client; count = kept.ids }) middle)
       → Made log kept after ⊎ ((colour : ℕ) × (members u.colours ≡ colour ∷ []) × (tells ≢ Nowhere)
-      × MadeOne log caller kept colour (node_of caller kept u.colours u.text).id after)
+      × MadeOne log caller kept colour (record { client = caller.client; count = kept.ids }) after)
   turn (inl m) = inl (λ region colour place id s c. m region colour place id s (q.made region colour place id s c))
   turn (inr (colour, only, stands, m)) = inr (
     colour,
@@ -79,6 +82,52 @@ uses_then {log} {caller} {kept} {middle} {after} {what} {tells} u q = record {
     λ region c place id s i. m region c place id s
         (q.made region c place id s i),
   )
+
+-- an id is used behind what uses none
+pub then_uses : {log : Log} {caller : Caller} {kept middle after : Kept} {what : What} {tells : NodeTold}
+    → Quiet log kept middle
+    → ((colours : Colours) (text : List ℕ) → AsksToAppend caller middle what colours text
+    → AsksToAppend caller kept what colours text)
+    → Uses log caller middle what tells after → Uses log caller kept what tells after
+then_uses {log} {caller} {kept} {middle} {after} {what} {tells} q asks u = record {
+  colours = u.colours;
+  text = u.text;
+  asks = asks u.colours u.text u.asks;
+  over = u.over;
+  next = subst (λ (n : ℕ). slice_get (log.nodes caller.client) n ≡ Some (node_of caller u.over u.colours u.text)) q.ids u.next;
+  ids = u.ids ∙ ap (λ n. n + 1) q.ids;
+  fate = u.fate;
+  made = turn u.made;
+} where
+  one : (colour region c place : ℕ) (id : Id)
+      → Contains (middle.made region c) place ⊎ ((region ≡ caller.own) × (c ≡ colour)
+      × (id ≡ record { client = caller.client; count = middle.ids }))
+      → IsSingleAt log region c place id
+      → Contains (kept.made region c) place ⊎ ((region ≡ caller.own) × (c ≡ colour)
+      × (id ≡ record { client = caller.client; count = kept.ids }))
+  one colour region c place id (inl i) s = inl (q.made region c place id s i)
+  one colour region c place id (inr (own, here, is)) s =
+      inr (own, here, is ∙ ap (λ (n : ℕ). record { client = caller.client; count = n }) q.ids)
+
+  turn : Made log middle after ⊎ ((colour : ℕ) × (members u.colours ≡ colour ∷ []) × (tells ≢ Nowhere)
+      × MadeOne log caller middle colour (record { client = caller.client; count = middle.ids }) after)
+      → Made log kept after ⊎ ((colour : ℕ) × (members u.colours ≡ colour ∷ []) × (tells ≢ Nowhere)
+      × MadeOne log caller kept colour (record { client = caller.client; count = kept.ids }) after)
+  turn (inl m) = inl (λ region colour place id s c. q.made region colour place id s (m region colour place id s c))
+  turn (inr (colour, only, stands, m)) = inr (
+    colour,
+    only,
+    stands,
+    λ region c place id s i. one colour region c place id (m region c place id s i) s,
+  )
+
+pub then_leaves : {log : Log} {caller : Caller} {kept middle after : Kept} {what : What} {tells : NodeTold}
+    → Quiet log kept middle
+    → ((colours : Colours) (text : List ℕ) → AsksToAppend caller middle what colours text
+    → AsksToAppend caller kept what colours text)
+    → Leaves log caller middle what tells after → Leaves log caller kept what tells after
+then_leaves q asks (inl r) = inl (quiet_then q r.0, r.1)
+then_leaves q asks (inr u) = inr (then_uses q asks u)
 
 single_id : (log : Log) (region colour place : ℕ) (id other : Id) (e : Entry) (floor : ℕ) (wants : Counts) → slice_get
     (log.histories region colour) place ≡ Some e
@@ -121,6 +170,7 @@ module _ (log : Log) (caller : Caller) (kept : Kept) (what : What) (colours : Co
     colours = colours;
     text = text;
     asks = asks;
+    over = kept;
     next = a.next;
     ids = refl;
     fate = inl stands;
@@ -147,6 +197,7 @@ module _ (log : Log) (caller : Caller) (kept : Kept) (what : What) (colours : Co
     colours = colours;
     text = text;
     asks = asks;
+    over = kept;
     next = b.next;
     ids = ids;
     fate = fate;
@@ -175,6 +226,7 @@ module _ (log : Log) (caller : Caller) (kept : Kept) (what : What) (colours : Co
     colours = colours;
     text = text;
     asks = asks;
+    over = kept;
     next = a.next;
     ids = refl;
     fate = inl stands;

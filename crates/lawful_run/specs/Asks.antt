@@ -1,5 +1,5 @@
 -- What commands are of: their objects, the kinds of what they do, and the shards of keys.
-use Rattle.std.specs.Prelude.{Bool, true, false, ℕ, ◌==◌, List, [], ◌∷◌, map, Option, Some, None, slice_get}
+use Rattle.std.specs.Prelude.{Bool, true, false, ℕ, ◌==◌, List, [], map, Option, Some, None, slice_get}
 use Rattle.std.specs.List.{filter, list_any, range_with_len}
 use Rattle.std.specs.Option.{option_map}
 use Rattle.log_node.specs.declared.forms.Pair.{Pair}

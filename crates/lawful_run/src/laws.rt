@@ -1,6 +1,6 @@
 // Laws of explanations, and of what a reader takes from a report.
 ghost use Rattle.lawful_run.specs.Laws.{ExplanationsLast, ReadItemsLast};
-ghost use Rattle.lawful_run.specs.ObjectReadings.{CausalGetsAreFolds, DequeuesAreFolds, GetsAreFolds, ReadsAreFolds, ScansAreWhole, VerdictsAreFolds, ChangesAreFolds, ListsAreFolds};
+ghost use Rattle.lawful_run.specs.ObjectReadings.{CausalGetsAreFolds, DequeuesAreFolds, GetsAreFolds, UndecidedAreFolds, DecisionsAreFolds, ReadsAreFolds, ScansAreWhole, VerdictsAreFolds, ChangesAreFolds, ListsAreFolds};
 ghost use Rattle.lawful_run.specs.Readings.{ClosingLinesRise, NothingElseStands, OneCommand, OneKey, OneOrder, ReturnedAppendsStand, ShownAsAppended, ShownOnce};
 
 /// What a log explains to a client, each later log explains as well.
@@ -59,9 +59,20 @@ pub fn scans_are_whole()
     ensures { ScansAreWhole }
 {}
 
-/// A get of a map answers by the first nodes of the closing line, as many as its sync counts.
+/// A get of a map, a peek, and a decide that finds nothing to decide answer by the first nodes of the closing line, as many
+/// as the sync counts.
 pub fn gets_are_folds()
     ensures { GetsAreFolds }
+{}
+
+/// So does a peek that finds no value yet.
+pub fn undecided_are_folds()
+    ensures { UndecidedAreFolds }
+{}
+
+/// A decision is the verdict over all nodes up to its read's stamp, and where its node stands that says so.
+pub fn decisions_are_folds()
+    ensures { DecisionsAreFolds }
 {}
 
 /// A get of a causal map answers by the first nodes of all regions' closing lines.

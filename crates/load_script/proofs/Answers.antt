@@ -15,7 +15,7 @@ use Rattle.report_text.specs.declared.report.Answer.TheVariants as answers
 use Rattle.report_text.specs.declared.report.PointPiece.{PointPiece}
 use Rattle.report_text.specs.declared.report.ReplyLine.{ReplyLine}
 use Rattle.lawful_run.specs.Callers.{Caller, node_of}
-use Rattle.lawful_run.specs.Asks.{home_asked, Manner, Appending, Syncing, Moving, Getting, Reading, Committing, Dequeuing}
+use Rattle.lawful_run.specs.Asks.{home_asked, Manner, Appending, Syncing, Moving, Getting, Reading, Committing, Dequeuing, Deciding}
 use Rattle.lawful_run.specs.Deeds.{AsksToAppend, colours_synced, manner_of}
 use Rattle.lawful_run.specs.Appends.{Appends, HasNoStamp, HasNoRowLeft}
 use Rattle.lawful_run.specs.Reads.{Syncs, ShowsPlayed, greatest_stamp}
@@ -113,7 +113,10 @@ module _ (log : Log) (caller : Caller) (kept : Kept) (what : What) (after : Kept
   comes q (answers.Pulled count give carry) nodes n e = pulled e.1 e.2 count e.4 carry e.6 e.3 refl e.7 e.8
   comes q answers.SameRegion nodes n e = unchanged (ap (λ (w : What). is_node (appended w)) e.3) refl e.1
   comes q (answers.Based shown base) nodes n e = absurd (subst IsPlainWhat e.2 q)
-  comes q (answers.Got value sync) nodes n e = absurd (other_manner Getting (key_gets what e.1 e.2 e.3))
+  comes q (answers.Got value sync) nodes n e = elim e.1.2 [
+    | inl g ↦ absurd (other_manner Getting (key_gets what g.2.0 g.1 g.2.1))
+    | inr g ↦ absurd (subst IsPlainWhat g.1.2 q)
+  ]
   comes q (answers.GotMany values sync) nodes n e = absurd (other_manner Getting (key_gets what e.1 e.2 e.3))
   comes q (answers.GotKeys stamp shown raises syncs) nodes n e = let t = e.2 in elim t.5 [
     | inl g ↦ absurd (subst IsPlainWhat g.2 q)
@@ -124,6 +127,9 @@ module _ (log : Log) (caller : Caller) (kept : Kept) (what : What) (after : Kept
   comes q (answers.Changed failed stamp row points read_stamp raises syncs) nodes n e =
       absurd (other_manner Committing e.1.0)
   comes q (answers.Listed names stamp raises syncs) nodes n e = absurd (subst IsPlainWhat e.3 q)
+  comes q (answers.Undecided stamp sync) nodes n e =
+      let u = e.1.2 in absurd (other_manner Getting (key_gets what u.3.0 u.2 u.3.1))
+  comes q (answers.Decided commits stamp sync read_stamp raises syncs ended) nodes n e = absurd (subst IsPlainWhat e.2.2 q)
   comes q (answers.Moved lined waiting colour events) nodes n e = absurd (subst IsPlainWhat e.2 q)
   comes q answers.NoTx nodes n e = absurd (subst IsPlainWhat e.4 q)
   comes q (answers.Took value point sync) nodes n e = absurd (other_manner Dequeuing e.1)
@@ -141,7 +147,8 @@ module _ (log : Log) (caller : Caller) (kept : Kept) (what : What) (after : Kept
         subst (λ (x : Manner). Refuses log caller kept (colours_synced caller what) x colour base after) m e.2 in
         unchanged (syncs_none what p m) refl r.2
     | inr (inl m) ↦ absurd (other_manner Getting m)
-    | inr (inr m) ↦ absurd (other_manner Reading m)
+    | inr (inr (inl m)) ↦ absurd (other_manner Reading m)
+    | inr (inr (inr m)) ↦ absurd (other_manner Deciding m)
   ]
   comes q (answers.NotHome home) nodes n e = absurd (no_home caller what home p e.2)
 

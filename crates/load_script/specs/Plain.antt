@@ -7,6 +7,8 @@ use Rattle.script_text.specs.declared.script.Command.{Command}
 use Rattle.script_text.specs.declared.script.Script.{Script}
 use Rattle.report_text.specs.declared.report.Answer.{Answer}
 use Rattle.report_text.specs.declared.report.Answer.TheVariants as answers
+use Rattle.report_text.specs.declared.report.Ended.{Ended}
+use Rattle.report_text.specs.declared.report.Ended.TheVariants as endings
 use Rattle.report_text.specs.declared.report.ClientReport.{ClientReport}
 use Rattle.report_text.specs.declared.report.ReplyLine.{ReplyLine}
 use Rattle.report_text.specs.declared.report.Report.{Report}
@@ -23,6 +25,12 @@ IsPlainWhat _ = ⊥
 pub record IsPlainScript (script : Script) : Type 0 where
   pub plain : All (λ (c : Command). IsPlainWhat c.what) script.commands
   pub rows : (client : ℕ) → length (commands_of script client) ≤ script.shape.rows
+
+-- the append of a decision ended for want of memory
+abbrev pub ended_wanting : Ended → Bool
+ended_wanting (endings.Stood stamp point) = false
+ended_wanting (endings.StampEnd colour) = false
+ended_wanting endings.NoMemory = true
 
 -- the answer tells of want of memory
 abbrev pub wants_memory : Answer → Bool
@@ -41,6 +49,8 @@ wants_memory (answers.GotKeys stamp keys raises syncs) = false
 wants_memory (answers.Ruled conflict stamp row points read_stamp raises syncs) = false
 wants_memory (answers.Changed failed stamp row points read_stamp raises syncs) = false
 wants_memory (answers.Listed names stamp raises syncs) = false
+wants_memory (answers.Undecided stamp sync) = false
+wants_memory (answers.Decided commits stamp sync read_stamp raises syncs ended) = ended_wanting ended
 wants_memory (answers.Moved lined waiting colour events) = false
 wants_memory answers.NoTx = false
 wants_memory (answers.Took value point sync) = false

@@ -1,14 +1,24 @@
 // Whether the commands of a run found memory.
 ghost use Rattle.std.specs.Prelude.{◌≡◌};
-ghost use Rattle.load_script.specs.Plain.{found_all, found_memory, is_unwanting, wants_memory};
+ghost use Rattle.load_script.specs.Plain.{ended_wanting, found_all, found_memory, is_unwanting, wants_memory};
 
-use report_text::{Answer, ClientReport, ReplyLine, Report};
+use report_text::{Answer, ClientReport, Ended, ReplyLine, Report};
+
+fn ended_wanting(ended: &Ended) -> bool
+    ensures { result ≡ ended_wanting ended.now }
+{
+    match ended {
+        Ended::Stood { .. } | Ended::StampEnd { .. } => false,
+        Ended::NoMemory => true,
+    }
+}
 
 fn wants_memory(answer: &Answer) -> bool
     ensures { result ≡ wants_memory answer.now }
 {
     match answer {
         Answer::UnreadNoMemory { .. } | Answer::NoMemory => true,
+        Answer::Decided { ended, .. } => ended_wanting(ended),
         Answer::Stood { .. }
         | Answer::StampEnd { .. }
         | Answer::Full { .. }
@@ -24,6 +34,7 @@ fn wants_memory(answer: &Answer) -> bool
         | Answer::Ruled { .. }
         | Answer::Changed { .. }
         | Answer::Listed { .. }
+        | Answer::Undecided { .. }
         | Answer::Moved { .. }
         | Answer::NoTx
         | Answer::Took { .. }

@@ -1,5 +1,5 @@
 -- For the crates above.
-pub use Rattle.run_rules.proofs.Numbers.{AllRules, all_of, keeps_fewer, rule1, rule2, rule3, rule4, rule5, rule6, rule7, rule8, rule9, rule10, rule11, rule12, rule13}
+pub use Rattle.run_rules.proofs.Numbers.{AllRules, all_of, keeps_fewer, rule1, rule2, rule3, rule4, rule5, rule6, rule7, rule8, rule9, rule10, rule11, rule12, rule13, rule14}
 pub use Rattle.run_rules.proofs.ReportsTell.{reports_tell}
 pub use Rattle.run_rules.proofs.OneAccount.{told_accounts_agree}
 pub use Rattle.run_rules.proofs.NodesAlike.{told_nodes_agree}

@@ -11,12 +11,12 @@ use Rattle.script_text.specs.Commands.{use_of}
 use Rattle.report_text.specs.declared.report.Answer.{Answer}
 use Rattle.lawful_run.specs.Callers.{Caller}
 use Rattle.lawful_run.specs.Asks.{object_colours, kind_asked}
-use Rattle.lawful_run.specs.Deeds.{Reach, NoColours, Named, One, ShardsOf, Whole, Listed, Saying, Reaches, SaysNode, AsksToAppend, colours_reached, saying_of, found_by}
+use Rattle.lawful_run.specs.Deeds.{Reach, NoColours, Named, One, ShardsOf, Whole, Listed, ShardThenWhole, Saying, Reaches, SaysNode, AsksToAppend, colours_reached, saying_of, found_by}
 use Rattle.run_rules.specs.Told.{Untold, colours_said, colours_asked, is_several}
 use Rattle.run_rules.specs.Naming.{Names}
 use Rattle.run_rules.specs.Answering.{CanHave}
 use Rattle.run_rules.specs.Rules.{UsesNode, Stands, StopsAsTold}
-use Rattle.run_rules.specs.Shown.{Shows, AnswersRight, HasCause, begins_row, StandsNext, TreeAnswers}
+use Rattle.run_rules.specs.Shown.{Shows, AnswersRight, HasCause, begins_row, StandsNext, TreeAnswers, PartAnswers}
 
 -- each rule's part of a step, of a client that keeps this while it is answered
 pub record Facts (log : Log) (caller : Caller) (untold : Untold) (kept : Kept) (what : What) (nodes : List PlacedNode)
@@ -32,6 +32,7 @@ pub record Facts (log : Log) (caller : Caller) (untold : Untold) (kept : Kept) (
   pub room : IsTrue (begins_row (is_several caller kept what) answer) → kept.rows < caller.rows
   pub next : StandsNext log caller kept what answer
   pub tree : TreeAnswers log caller kept what answer
+  pub part : PartAnswers log caller kept what answer
 
 colours_are : (own : List ℕ) (reach : Reach) (colours : Colours) → Reaches own reach colours
     → members colours ≡ colours_reached own reach
@@ -41,6 +42,7 @@ colours_are own (One colour) colours r = r
 colours_are own (ShardsOf keys) colours r = r
 colours_are own Whole colours r = r
 colours_are own Listed colours r = r
+colours_are own (ShardThenWhole key) colours r = r
 
 said_colours : (own : List ℕ) (saying : Option Saying) (colours : Colours) (text : List ℕ) → SaysNode own saying colours text
     → members colours ≡ colours_said own saying

@@ -15,6 +15,8 @@ use Rattle.script_text.specs.declared.uses.Use.TheVariants.{OfObject}
 use Rattle.script_text.specs.Commands.{use_of}
 use Rattle.report_text.specs.declared.report.Answer.{Answer}
 use Rattle.report_text.specs.declared.report.Answer.TheVariants as answers
+use Rattle.report_text.specs.declared.report.Ended.{Ended}
+use Rattle.report_text.specs.declared.report.Ended.TheVariants as ends
 use Rattle.report_text.specs.declared.report.PointPiece.{PointPiece}
 use Rattle.report_text.specs.declared.report.RaisePiece.{RaisePiece}
 use Rattle.report_text.specs.declared.report.SyncPiece.{SyncPiece}
@@ -23,7 +25,7 @@ use Rattle.lawful_run.specs.Appends.{kept_after_points}
 use Rattle.lawful_run.specs.Moves.{with_places}
 use Rattle.lawful_run.specs.Reads.{events_until, kept_after_place, kept_after_piece}
 use Rattle.lawful_run.proofs.CallerLemmas.{before_is, behind_is}
-use Rattle.run_rules.specs.Told.{Untold, Step, Follow, is_several, kept_at, kept_past, kept_told, kept_after_append, kept_after_row, kept_after_raises, kept_after_syncs, kept_after_read, kept_pulled, kept_where, with_found, stamp_told}
+use Rattle.run_rules.specs.Told.{Untold, Step, Follow, is_several, kept_at, kept_past, kept_told, kept_after_append, kept_after_row, kept_after_raises, kept_after_syncs, kept_after_read, kept_after_end, kept_deciding, kept_pulled, kept_where, with_found, stamp_told}
 use Rattle.run_rules.specs.Shown.{is_row, begins_row}
 use Rattle.run_rules.specs.Agreeing.{began_row}
 
@@ -60,6 +62,10 @@ printed_append own None [] = nowhere
 printed_append own None (point ∷ points) = only_at own point.colour (events_until point.at ∷ [])
 printed_append own (Some number) points = nowhere
 
+abbrev pub printed_end : ℕ → Ended → ℕ → ℕ → List ℕ
+printed_end own (ends.Stood stamp point) = only_at own point.colour (events_until point.at ∷ [])
+printed_end own _ = nowhere
+
 -- those that an answer prints
 abbrev pub printed : ℕ → Answer → What → ℕ → ℕ → List ℕ
 printed own (answers.Stood stamp row points) what r c = printed_append own row points r c
@@ -73,6 +79,8 @@ printed own (answers.Ruled conflict stamp row points read_stamp raises syncs) wh
 printed own (answers.Changed failed stamp row points read_stamp raises syncs) what r c =
     printed_append own row points r c ++ printed_raises own raises r c
 printed own (answers.Listed names stamp raises syncs) what r c = printed_raises own raises r c
+printed own (answers.Decided commits stamp sync read_stamp raises syncs ended) what r c =
+    printed_raises own raises r c ++ printed_end own ended r c
 printed own (answers.Took value point sync) what r c = only_at own point.colour (events_until point.at ∷ []) r c
 printed own _ what r c = []
 
@@ -262,6 +270,23 @@ module _ (log : Log) (untold : Untold) (caller : Caller) (kept : Kept) (what : W
       (λ r c. append_assoc (row_part (is_row row) caller.own untold.places r c)
       (printed_append caller.own row points r c) (printed_raises caller.own raises r c))
 
+  ends_grow : (middle : Kept) (ended : Ended)
+      → Grows middle (kept_after_end untold caller middle ended) 0 (printed_end caller.own ended)
+  ends_grow middle (ends.Stood stamp point) = record {
+    ids = omega arith;
+    made = added_at middle.made caller.own point.colour (events_until point.at ∷ []);
+  }
+  ends_grow middle (ends.StampEnd colour) = still middle middle refl (λ r c. refl)
+  ends_grow middle ends.NoMemory = still middle middle refl (λ r c. refl)
+
+  decided_grows : (sync : SyncPiece) (stamp : ℕ) (raises : List RaisePiece) (syncs : List SyncPiece) (ended : Ended)
+      → Grows kept (kept_after_end untold caller (kept_deciding log caller kept sync stamp raises syncs) ended) 0
+      (λ r c. printed_raises caller.own raises r c ++ printed_end caller.own ended r c)
+  decided_grows sync stamp raises syncs ended =
+      let g = then (read_grows log caller (kept_after_piece log caller kept sync) stamp raises syncs)
+      (ends_grow (kept_deciding log caller kept sync stamp raises syncs) ended) in
+      record { ids = g.ids; made = g.made }
+
   told_grows : (answer : Answer) → Told answer
   told_grows answers.NoMemory = still kept kept refl (λ r c. refl)
   told_grows (answers.Stood stamp row points) = append_grows untold caller kept stamp row points
@@ -284,6 +309,9 @@ module _ (log : Log) (untold : Untold) (caller : Caller) (kept : Kept) (what : W
   told_grows (answers.Changed failed stamp row points read_stamp raises syncs) =
       behind (stamp_told log caller kept row points) row points read_stamp raises syncs
   told_grows (answers.Listed names stamp raises syncs) = read_grows log caller kept stamp raises syncs
+  told_grows (answers.Undecided stamp sync) = still kept _ refl (λ r c. refl)
+  told_grows (answers.Decided commits stamp sync read_stamp raises syncs ended) =
+      decided_grows sync read_stamp raises syncs ended
   told_grows (answers.Moved lined waiting colour events) = still kept _ refl (λ r c. refl)
   told_grows answers.NoTx = still kept kept refl (λ r c. refl)
   told_grows (answers.Took value point sync) = record {

@@ -194,6 +194,7 @@ module _ (script : Script) (fits : IsFitting script) (report : Report) (none : H
     };
     r12 = record { next = λ n c there k d lt. (keeps_at n c there k d lt).facts.next };
     r13 = record { tree = λ n c there k d lt. (keeps_at n c there k d lt).facts.tree };
+    r14 = record { part = λ n c there k d lt. (keeps_at n c there k d lt).facts.part };
   }
 
 pub lawful_runs_keep_rules : LawfulRunsKeepRules
@@ -203,4 +204,4 @@ lawful_runs_keep_rules script report fits none run =
 pub broken_is_unlawful : BrokenIsUnlawful
 broken_is_unlawful script report fits none rule least run =
     let m = least.number.1 in
-    least.broken (keeps_fewer script report rule 13 m (lawful_runs_keep_rules script report fits none run))
+    least.broken (keeps_fewer script report rule 14 m (lawful_runs_keep_rules script report fits none run))

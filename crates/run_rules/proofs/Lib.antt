@@ -3,6 +3,8 @@ mod AppendsTold
 pub mod CallerLemmas
 mod Explaining
 mod Facts
+mod Deciding
+mod EndsTold
 mod Growing
 mod LawfulRules
 mod LeftOut

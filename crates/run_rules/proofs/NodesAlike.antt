@@ -21,25 +21,32 @@ use Rattle.script_text.specs.declared.uses.ReadUse.TheVariants.{Takes}
 use Rattle.script_text.specs.declared.uses.Use.{Use}
 use Rattle.script_text.specs.declared.uses.Use.TheVariants.{OfObject}
 use Rattle.script_text.specs.Commands.{use_of}
+use Rattle.script_text.specs.Fitting.{IsFitting}
 use Rattle.report_text.specs.declared.report.Answer.{Answer}
 use Rattle.report_text.specs.declared.report.Answer.TheVariants as answers
+use Rattle.report_text.specs.declared.report.Ended.{Ended}
+use Rattle.report_text.specs.declared.report.Ended.TheVariants as ends
 use Rattle.report_text.specs.declared.report.PointPiece.{PointPiece}
 use Rattle.report_text.specs.declared.report.RaisePiece.{RaisePiece}
+use Rattle.report_text.specs.declared.report.ReplyLine.{ReplyLine}
 use Rattle.report_text.specs.declared.report.SyncPiece.{SyncPiece}
 use Rattle.lawful_run.specs.Callers.{Caller, caller_of, node_of, row_taken}
-use Rattle.lawful_run.specs.Reads.{kept_after_place}
+use Rattle.lawful_run.specs.Columns.{row_report}
+use Rattle.lawful_run.specs.Reads.{kept_after_place, kept_after_piece}
 use Rattle.lawful_run.specs.Refusals.{kept_before}
 use Rattle.lawful_run.proofs.CallerLemmas.{before_is, behind_is}
-use Rattle.run_rules.specs.Told.{Untold, Step, Follow, is_several, kept_at, kept_past, kept_told, kept_after_append, kept_after_row, kept_after_raises, kept_after_read, kept_pulled, kept_trimmed, kept_where, with_found, stamp_told}
-use Rattle.run_rules.specs.Rules.{HasNode, UsesNode}
-use Rattle.run_rules.specs.Agreeing.{KeepSame, AreStepsAlike, AreNodesAlike}
+use Rattle.run_rules.specs.Told.{Untold, Step, Follow, is_several, kept_at, kept_past, kept_told, kept_after_append, kept_after_row, kept_after_raises, kept_after_read, kept_after_end, kept_appending, kept_deciding, kept_pulled, kept_trimmed, kept_where, with_found, stamp_told}
+use Rattle.run_rules.specs.Rules.{HasNode, UsesEnd, UsesNode}
+use Rattle.run_rules.specs.Agreeing.{HasColumn, KeepSame, AreStepsAlike, AreNodesAlike}
 use Rattle.run_rules.specs.Laws.{ToldNodesAgree}
 use Rattle.run_rules.proofs.Facts.{asked_colours}
-use Rattle.run_rules.proofs.Numbers.{rule5}
+use Rattle.run_rules.proofs.Numbers.{rule1, rule4, rule5}
 use Rattle.run_rules.proofs.Growing.{syncs_keep, points_keep}
 use Rattle.run_rules.proofs.SameKept.{before_same}
-use Rattle.run_rules.proofs.ToldAlike.{asked_same}
-use Rattle.run_rules.proofs.OneAccount.{told_accounts_agree}
+use Rattle.run_rules.proofs.ToldAlike.{asked_same, appending_same}
+use Rattle.run_rules.proofs.OneAccount.{told_accounts_agree, obeys}
+use Rattle.run_rules.proofs.LeftOut.{Obeys}
+use Rattle.run_rules.proofs.Reached.{home_within}
 
 -- IDS
 
@@ -58,27 +65,33 @@ read_ids : (log : Log) (caller : Caller) (kept : Kept) (stamp : ℕ) (raises : L
 read_ids log caller kept stamp raises syncs =
     (syncs_keep log caller (kept_after_raises caller kept raises) syncs).0 ∙ raises_ids caller kept raises
 
--- no id is used, or the one of a node that the command appends
-abbrev MayUse : Log → Caller → Kept → What → Kept → Type 0
-MayUse log caller kept what after =
-    (after.ids ≡ kept.ids) ⊎ ((after.ids ≡ kept.ids + 1) × HasNode log caller kept what)
+-- no id is used, or the one of a node that the command appends over what is then kept
+abbrev MayUse : Log → Caller → Kept → Kept → What → Kept → Type 0
+MayUse log caller kept over what after =
+    (after.ids ≡ kept.ids) ⊎ ((after.ids ≡ kept.ids + 1) × HasNode log caller over what)
+
+over_ids : (log : Log) (caller : Caller) (kept : Kept) (answer : Answer)
+    → (kept_appending log caller kept answer).ids ≡ kept.ids
+over_ids log caller kept (answers.Decided commits stamp sync read_stamp raises syncs ended) =
+    read_ids log caller (kept_after_piece log caller kept sync) read_stamp raises syncs
+over_ids log caller kept _ = refl
 
 module _ (log : Log) (untold : Untold) (caller : Caller) (kept : Kept) (what : What) where
   append_uses : (stamp : ℕ) (row : Option ℕ) (points : List PointPiece) → HasNode log caller kept what
-      → MayUse log caller kept what (kept_after_append untold caller kept stamp row points)
+      → MayUse log caller kept kept what (kept_after_append untold caller kept stamp row points)
   append_uses stamp None [] n = inl refl
   append_uses stamp None (p ∷ ps) n = inr (refl, n)
   append_uses stamp (Some number) points n =
       inr (ap (λ (k : ℕ). k + 1) (points_keep caller.own kept points).0, n)
 
   -- what follows uses none
-  then_none : (middle after : Kept) → after.ids ≡ middle.ids → MayUse log caller kept what middle
-      → MayUse log caller kept what after
+  then_none : (middle after : Kept) → after.ids ≡ middle.ids → MayUse log caller kept kept what middle
+      → MayUse log caller kept kept what after
   then_none middle after e (inl f) = inl (e ∙ f)
   then_none middle after e (inr f) = inr (e ∙ f.0, f.1)
 
   where_uses : (several : Bool) → (several ≡ true → HasNode log caller kept what)
-      → MayUse log caller kept what (kept_where several (kept_after_row untold caller kept) kept)
+      → MayUse log caller kept kept what (kept_where several (kept_after_row untold caller kept) kept)
   where_uses true n = inr (refl, n refl)
   where_uses false n = inl refl
 
@@ -95,8 +108,14 @@ module _ (log : Log) (untold : Untold) (caller : Caller) (kept : Kept) (what : W
   found_ids (OfObject object Takes) found after = refl
   found_ids _ found after = refl
 
+  end_uses : (middle : Kept) (ended : Ended) → middle.ids ≡ kept.ids → UsesEnd log caller middle what ended
+      → MayUse log caller kept middle what (kept_after_end untold caller middle ended)
+  end_uses middle (ends.Stood stamp point) e n = inr (ap (λ (k : ℕ). k + 1) e, n.0)
+  end_uses middle (ends.StampEnd colour) e n = inl e
+  end_uses middle ends.NoMemory e n = inl e
+
   told_uses : (answer : Answer) → UsesNode log caller kept what answer
-      → MayUse log caller kept what (kept_told log untold caller kept what answer)
+      → MayUse log caller kept (kept_appending log caller kept answer) what (kept_told log untold caller kept what answer)
   told_uses answers.NoMemory n = inl refl
   told_uses (answers.Stood stamp row points) n = append_uses stamp row points n.0
   told_uses (answers.StampEnd colour) n = where_uses (is_several caller kept what) n
@@ -124,6 +143,10 @@ module _ (log : Log) (untold : Untold) (caller : Caller) (kept : Kept) (what : W
       then_none middle (kept_after_read log caller middle read_stamp raises syncs)
       (read_ids log caller middle read_stamp raises syncs) (append_uses own row points n.0)
   told_uses (answers.Listed names stamp raises syncs) n = inl (read_ids log caller kept stamp raises syncs)
+  told_uses (answers.Undecided stamp sync) n = inl refl
+  told_uses (answers.Decided commits stamp sync read_stamp raises syncs ended) n =
+      end_uses (kept_deciding log caller kept sync read_stamp raises syncs) ended
+      (read_ids log caller (kept_after_piece log caller kept sync) read_stamp raises syncs) n
   told_uses (answers.Moved lined waiting colour events) n = inl refl
   told_uses answers.NoTx n = inl refl
   told_uses (answers.Took value point sync) n = inr (refl, n.0)
@@ -135,11 +158,15 @@ module _ (log : Log) (untold : Untold) (caller : Caller) (kept : Kept) (what : W
 abbrev pub Uses : Log → Caller → Step → Type 0
 Uses log caller step = UsesNode log caller (kept_at step) step.command.what step.reply.answer
 
+-- what the client keeps when the step's node is appended
+abbrev over : Log → Caller → Step → Kept
+over log caller step = kept_appending log caller (kept_at step) step.reply.answer
+
 step_uses : (log : Log) (caller : Caller) (step : Step) → Uses log caller step
-    → MayUse log caller (kept_at step) step.command.what (kept_past log caller step)
+    → MayUse log caller (kept_at step) (over log caller step) step.command.what (kept_past log caller step)
 step_uses log caller step n =
     let told = told_uses log step.untold caller (kept_at step) step.command.what step.reply.answer n in
-    behind_is (MayUse log caller (kept_at step) step.command.what) step.command.what
+    behind_is (MayUse log caller (kept_at step) (over log caller step) step.command.what) step.command.what
     (kept_told log step.untold caller (kept_at step) step.command.what step.reply.answer) told (λ object. told)
 
 -- NODES
@@ -179,7 +206,9 @@ of_command script caller {a} {b} s x y t u colours = record {
   row = ap (λ (k : ℕ). row_taken caller.client k (members x)) s.rows ∙ ap (row_taken caller.client b.rows) colours;
 }
 
-module _ (script : Script) (caller : Caller) (one two : Log) where
+module _ (script : Script) (caller : Caller) (one two : Log)
+    (over_alike : (x y : Step) → AreStepsAlike script caller x y → Obeys script one caller x
+    → KeepSame script (over one caller x) (over two caller y)) where
   node_alike : (what : What) {a b : Kept} → KeepSame script a b → HasNode one caller a what → HasNode two caller b what
       → AlikeAt (one.nodes caller.client) (two.nodes caller.client) a.ids
   node_alike what {a} {b} s x y =
@@ -207,18 +236,18 @@ module _ (script : Script) (caller : Caller) (one two : Log) where
 
   -- what the steps from here on use
   nodes_from : (xs ys : List Step) (k l last latest : Kept) → AllZip (AreStepsAlike script caller) xs ys
-      → All (Uses one caller) xs → All (Uses two caller) ys
+      → All (Obeys script one caller) xs → All (Uses one caller) xs → All (Uses two caller) ys
       → Follow one caller k xs last → Follow two caller l ys latest → KeepSame script last latest
       → (i : ℕ) → k.ids ≤ i → i < last.ids → AlikeAt (one.nodes caller.client) (two.nodes caller.client) i
-  nodes_from [] ys k l last latest all ux uy fx fy s i le lt =
+  nodes_from [] ys k l last latest all ox ux uy fx fy s i le lt =
       let e = ap (λ (z : Kept). z.ids) fx in absurd (let g : ⊥ = omega (arith, e, le, lt) in g)
-  nodes_from (x ∷ xs) [] k l last latest all ux uy fx fy s i le lt = absurd all
-  nodes_from (x ∷ xs) (y ∷ ys) k l last latest all ux uy fx fy s i le lt =
+  nodes_from (x ∷ xs) [] k l last latest all ox ux uy fx fy s i le lt = absurd all
+  nodes_from (x ∷ xs) (y ∷ ys) k l last latest all ox ux uy fx fy s i le lt =
       turn (step_uses one caller x (All-head (Uses one caller) x xs ux))
       (step_uses two caller y (All-head (Uses two caller) y ys uy))
       (past_ids xs ys (kept_past one caller x) (kept_past two caller y) last latest all.1 fx.1 fy.1 s)
       (λ more. nodes_from xs ys (kept_past one caller x) (kept_past two caller y) last latest all.1
-      (All-tail (Uses one caller) x xs ux) (All-tail (Uses two caller) y ys uy) fx.1 fy.1 s i more lt)
+      (All-tail (Obeys script one caller) x xs ox) (All-tail (Uses one caller) x xs ux) (All-tail (Uses two caller) y ys uy) fx.1 fy.1 s i more lt)
       (cases_lt (kept_at x).ids i) where
         ids_of : (step : Step) → (kept_at step).ids ≡ step.kept.ids
         ids_of step =
@@ -228,8 +257,11 @@ module _ (script : Script) (caller : Caller) (one two : Log) where
         before = subst (λ (c : Command). KeepSame script (kept_at x) (kept_before c.what y.kept)) all.0.command
             (before_same script all.0.kept x.command.what)
 
-        turn : MayUse one caller (kept_at x) x.command.what (kept_past one caller x)
-            → MayUse two caller (kept_at y) y.command.what (kept_past two caller y)
+        alike : KeepSame script (over one caller x) (over two caller y)
+        alike = over_alike x y all.0 (All-head (Obeys script one caller) x xs ox)
+
+        turn : MayUse one caller (kept_at x) (over one caller x) x.command.what (kept_past one caller x)
+            → MayUse two caller (kept_at y) (over two caller y) y.command.what (kept_past two caller y)
             → (kept_past one caller x).ids ≡ (kept_past two caller y).ids
             → ((kept_past one caller x).ids ≤ i → AlikeAt (one.nodes caller.client) (two.nodes caller.client) i)
             → ((kept_at x).ids < i) ⊎ (i ≤ (kept_at x).ids)
@@ -242,22 +274,45 @@ module _ (script : Script) (caller : Caller) (one two : Log) where
         turn (inr e) (inr f) same more (inr most) =
             let g = ids_of x in
             let h = ap (λ (z : Kept). z.ids) fx.0 in
-            let is : (kept_at x).ids ≡ i = omega (arith, g, h, le, most) in
+            let o = over_ids one caller (kept_at x) x.reply.answer in
+            let is : (over one caller x).ids ≡ i = omega (arith, g, h, o, le, most) in
             subst (AlikeAt (one.nodes caller.client) (two.nodes caller.client)) is
-            (node_alike x.command.what before e.1
-            (subst (λ (c : Command). HasNode two caller (kept_at y) c.what) (sym all.0.command) f.1))
+            (node_alike x.command.what alike e.1
+            (subst (λ (c : Command). HasNode two caller (over two caller y) c.what) (sym all.0.command) f.1))
+
+-- what is kept when a step's node is appended is the same by both
+over_same : (script : Script) (fits : IsFitting script) (n : ℕ) (one two : Log)
+    → ((r c : ℕ) → HasColumn script r c → one.histories r c ≡ two.histories r c)
+    → (caller_of script n).own < script.shape.regions
+    → map (row_report (caller_of script n).own) (one.rows (caller_of script n).own)
+    ≡ map (row_report (caller_of script n).own) (two.rows (caller_of script n).own)
+    → (x y : Step) → AreStepsAlike script (caller_of script n) x y → Obeys script one (caller_of script n) x
+    → KeepSame script (over one (caller_of script n) x) (over two (caller_of script n) y)
+over_same script fits n one two histories home rows x y alike obeys =
+    let before : KeepSame script (kept_at x) (kept_at y) =
+    subst (λ (c : Command). KeepSame script (kept_at x) (kept_before c.what y.kept)) alike.command
+    (before_same script alike.kept x.command.what) in
+    subst (λ (r : ReplyLine). KeepSame script (over one (caller_of script n) x)
+    (kept_appending two (caller_of script n) (kept_at y) r.answer)) alike.reply
+    (appending_same script fits n one two histories home rows x.command.what obeys.within x.untold y.untold (kept_at x)
+    (kept_at y) before x.reply.nodes x.reply.answer obeys.can)
 
 pub told_nodes_agree : ToldNodesAgree
 told_nodes_agree script report a b fits ta tb ra rb n c there =
     let agree = told_accounts_agree script report a b fits ta tb ra.0 rb.0 in
     let caller = caller_of script n in
     let last = agree.last n c there in
+    let a1 = rule1 ra.0.0.0.0.1 in
     let a5 = rule5 ra.1 in
     let b5 = rule5 rb.1 in
     let of_a = (a5.own n c there).nodes in
     let of_b = (b5.own n c there).nodes in
     let same = last.ids in
+    let home = home_within script report fits a1.names n c there in
     all_alike (a.log.nodes n) (b.log.nodes n) (of_a ∙ (same ∙ sym of_b))
-    (λ i lt. nodes_from script caller a.log b.log (a.steps n) (b.steps n) _ _ (a.last n) (b.last n)
-    (agree.steps n c there) (a5.used n c there) (b5.used n c there) (ta.clients n c there).follow
+    (λ i lt. nodes_from script caller a.log b.log
+    (over_same script fits n a.log b.log agree.histories home (agree.rows caller.own home)) (a.steps n) (b.steps n) _ _
+    (a.last n) (b.last n)
+    (agree.steps n c there) (obeys script fits report a ta a1 (rule4 ra.0.1) n c there) (a5.used n c there)
+    (b5.used n c there) (ta.clients n c there).follow
     (tb.clients n c there).follow last i (omega arith) (omega (arith, lt, of_a)))

@@ -5,8 +5,8 @@ use Rattle.script_text.specs.declared.script.Script.{Script}
 use Rattle.report_text.specs.declared.report.Report.{Report}
 use Rattle.run_rules.specs.Told.{Account}
 use Rattle.run_rules.specs.Rules.{Rule1, Rule2, Rule3, Rule4, Rule5, Rule6, Rule7, Rule8}
-use Rattle.run_rules.specs.Shown.{Rule9, Rule10, Rule11, Rule12, Rule13}
-use Rattle.run_rules.specs.Keeping.{Keeps, RulesTo, Rule, one, two, three, four, five, six, seven, eight, nine, ten, eleven, twelve, thirteen}
+use Rattle.run_rules.specs.Shown.{Rule9, Rule10, Rule11, Rule12, Rule13, Rule14}
+use Rattle.run_rules.specs.Keeping.{Keeps, RulesTo, Rule, one, two, three, four, five, six, seven, eight, nine, ten, eleven, twelve, thirteen, fourteen}
 use Rattle.run_rules.specs.Laws.{LeastIsOne}
 
 -- all rules, at an account
@@ -24,6 +24,7 @@ pub record AllRules (script : Script) (report : Report) (account : Account) : Ty
   pub r11 : Rule11 script report account
   pub r12 : Rule12 script report account
   pub r13 : Rule13 script report account
+  pub r14 : Rule14 script report account
 
 module _ {script : Script} {report : Report} {account : Account} where
   pub rule1 : Rule script report account 1 → Rule1 script report account
@@ -65,8 +66,11 @@ module _ {script : Script} {report : Report} {account : Account} where
   pub rule13 : Rule script report account 13 → Rule13 script report account
   rule13 (thirteen r) = r
 
-  pub all_of : RulesTo script report account 13 → AllRules script report account
-  all_of (((((((((((((none, a), b), c), d), e), f), g), h), i), j), k), l), m) = record {
+  pub rule14 : Rule script report account 14 → Rule14 script report account
+  rule14 (fourteen r) = r
+
+  pub all_of : RulesTo script report account 14 → AllRules script report account
+  all_of ((((((((((((((none, a), b), c), d), e), f), g), h), i), j), k), l), m), o) = record {
     r1 = rule1 a;
     r2 = rule2 b;
     r3 = rule3 c;
@@ -80,28 +84,14 @@ module _ {script : Script} {report : Report} {account : Account} where
     r11 = rule11 k;
     r12 = rule12 l;
     r13 = rule13 m;
+    r14 = rule14 o;
   }
 
-  pub rules_of : AllRules script report account → RulesTo script report account 13
-  rules_of all = (
-    (
-      (
-        (
-          (
-            (
-              (((((((tt, one all.r1), two all.r2), three all.r3), four all.r4), five all.r5), six all.r6), seven all.r7),
-              eight all.r8,
-            ),
-            nine all.r9,
-          ),
-          ten all.r10,
-        ),
-        eleven all.r11,
-      ),
-      twelve all.r12,
-    ),
-    thirteen all.r13,
-  )
+  pub rules_of : AllRules script report account → RulesTo script report account 14
+  rules_of all =
+      let eight_of : RulesTo script report account 8 =
+      ((((((((tt, one all.r1), two all.r2), three all.r3), four all.r4), five all.r5), six all.r6), seven all.r7), eight all.r8) in
+      ((((((eight_of, nine all.r9), ten all.r10), eleven all.r11), twelve all.r12), thirteen all.r13), fourteen all.r14)
 
 -- who keeps rules up to a number keeps those up to a lesser one
 pub rules_fewer : (script : Script) (report : Report) (account : Account) (n m : ℕ) → m ≤ n → RulesTo script report account n

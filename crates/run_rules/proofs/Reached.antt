@@ -30,7 +30,7 @@ use Rattle.report_text.specs.declared.report.ClientReport.{ClientReport}
 use Rattle.report_text.specs.declared.report.Report.{Report}
 use Rattle.lawful_run.specs.Callers.{Caller, caller_of}
 use Rattle.lawful_run.specs.Asks.{kind_of_object, kind_used, kind_asked, keys_of_pairs, object_colours}
-use Rattle.lawful_run.specs.Deeds.{Reach, NoColours, Named, One, ShardsOf, Whole, Listed, Saying, colours_reached, deed_of, colours_synced, saying_of, says_change, found_by}
+use Rattle.lawful_run.specs.Deeds.{Reach, NoColours, Named, One, ShardsOf, Whole, Listed, ShardThenWhole, Saying, colours_reached, deed_of, colours_synced, saying_of, says_change, found_by}
 use Rattle.lawful_run.proofs.CallerLemmas.{get_within}
 use Rattle.run_rules.specs.Told.{colours_said, colours_asked}
 
@@ -76,6 +76,9 @@ module _ (count : ℕ) (some : 0 < count) where
       let x = any_of (λ (d : ℕ). d == c) own t.1 in
       subst (λ (k : ℕ). k < count) (eqb-true x.0 c x.2) (b x.0 x.1)
   reached_below own b Listed n c i = b c i
+  reached_below own b (ShardThenWhole key) n c (inl e) =
+      subst (λ (k : ℕ). k < count) e (index_below own (sum key % length own) b)
+  reached_below own b (ShardThenWhole key) n c (inr i) = reached_below own b Whole tt c i
 
   module _ (regions : ℕ) where
     synced_names : (what : What) → IsWithin regions count what → NamesBelow (deed_of what).syncs
@@ -99,6 +102,8 @@ module _ (count : ℕ) (some : 0 < count) where
     synced_names (whats.Rm object path) w = tt
     synced_names (whats.Mv object source target) w = tt
     synced_names (whats.Ls object path) w = tt
+    synced_names (whats.Peek object key) w = tt
+    synced_names (whats.Decide object key) w = tt
 
     abbrev SaidBelow : List ℕ → Option Saying → Type 0
     SaidBelow own saying = Below count (colours_said own saying)
@@ -127,6 +132,7 @@ module _ (count : ℕ) (some : 0 < count) where
       said_below kind found (whats.Rm object path) w = change_below (remove_of (below_root_of path))
       said_below kind found (whats.Mv object source target) w =
           change_below (move_of (below_root_of source) (below_root_of target))
+      said_below kind found (whats.Decide object key) w = reached_below own b (ShardsOf (key ∷ [])) tt
       said_below kind found (whats.Sync colour) w = λ c i. absurd i
       said_below kind found (whats.Scan colours) w = λ c i. absurd i
       said_below kind found (whats.Pull region colour) w = λ c i. absurd i
@@ -135,6 +141,7 @@ module _ (count : ℕ) (some : 0 < count) where
       said_below kind found (whats.GetAll object keys) w = λ c i. absurd i
       said_below kind found (whats.Read object keys) w = λ c i. absurd i
       said_below kind found (whats.Ls object path) w = λ c i. absurd i
+      said_below kind found (whats.Peek object key) w = λ c i. absurd i
 
     kind_below : (kind : Kind) → IsKindWithin regions count kind → Below count (colours_of kind)
     kind_below (kinds.Map home colours) w = below_all count colours w.1.below

@@ -18,6 +18,8 @@ use Rattle.script_text.specs.declared.script.Script.{Script}
 use Rattle.script_text.specs.Fitting.{IsFitting, IsWithin}
 use Rattle.report_text.specs.declared.report.Answer.{Answer}
 use Rattle.report_text.specs.declared.report.Answer.TheVariants as answers
+use Rattle.report_text.specs.declared.report.Ended.{Ended}
+use Rattle.report_text.specs.declared.report.Ended.TheVariants as ends
 use Rattle.report_text.specs.declared.report.PointPiece.{PointPiece}
 use Rattle.report_text.specs.declared.report.ClientReport.{ClientReport}
 use Rattle.report_text.specs.declared.report.Report.{Report}
@@ -28,7 +30,7 @@ use Rattle.lawful_run.specs.Stops.{StopsAfter, Stops, stopped_at_once, stopped_a
 use Rattle.run_rules.specs.Told.{Untold, Step, Account, IsTold, colours_asked, is_several, kept_at, kept_after_stop, stamp_told}
 use Rattle.run_rules.specs.Naming.{Names, NamesSteps}
 use Rattle.run_rules.specs.Answering.{CanHave, HasPoints}
-use Rattle.run_rules.specs.Rules.{HasNode, UsesNode, Rule6, Rule7, StandsAsTold, Stands, StopsAsTold, with_room}
+use Rattle.run_rules.specs.Rules.{HasNode, UsesEnd, UsesNode, Rule6, Rule7, StandsAsTold, StandsAtEnd, Stands, StopsAsTold, with_room}
 use Rattle.run_rules.specs.Shown.{is_row, begins_row}
 use Rattle.run_rules.specs.Keeping.{RulesTo, six, seven, eight}
 use Rattle.run_rules.specs.Agreeing.{HasColumn, KeepSame, AreStepsAlike, Agree}
@@ -38,7 +40,7 @@ use Rattle.run_rules.proofs.Numbers.{rule1, rule3, rule4, rule5, rule6, rule7, r
 use Rattle.run_rules.proofs.Places.{behind_same}
 use Rattle.run_rules.proofs.Reached.{appended_within, home_within}
 use Rattle.run_rules.proofs.SameKept.{before_same, stamp_same}
-use Rattle.run_rules.proofs.ToldAlike.{asked_same, points_below}
+use Rattle.run_rules.proofs.ToldAlike.{asked_same, deciding_same, points_below}
 use Rattle.run_rules.proofs.LeftOut.{Obeys, steps_of_row}
 use Rattle.run_rules.proofs.OneAccount.{told_accounts_agree, obeys, step_with}
 use Rattle.run_rules.proofs.NodesAlike.{Uses}
@@ -108,19 +110,36 @@ module _ (script : Script) (fits : IsFitting script) (n : ℕ) (log other : Log)
         (points_below script fits n log other histories home rows what within u v a b s nodes row points has)))
         (stands_same h (stamp_told other who b row points) row points named e)
 
+  -- the append of a decision's node
+  module _ (what : What) (within : IsWithin script.shape.regions script.shape.colours what) (u v : Untold)
+      (nodes : List PlacedNode) where
+    end_stands : (ended : Ended) {c d : Kept} → KeepSame script c d → UsesEnd log who c what ended
+        → StandsAtEnd other v who d what ended → StandsAtEnd log u who c what ended
+    end_stands (ends.Stood stamp point) {c} {d} t used e =
+        stands_same what within c d t u v nodes used.0 stamp None (point ∷ [])
+        (λ none. absurd (let f : ⊥ = cc (none) in f)) e
+    end_stands (ends.StampEnd colour) t used e = tt
+    end_stands ends.NoMemory t used e = tt
+
+  module _ (what : What) (within : IsWithin script.shape.regions script.shape.colours what) (a b : Kept)
+      (s : KeepSame script a b) (u v : Untold) (nodes : List PlacedNode) where
     stand_answer : (answer : Answer) → CanHave who a what nodes answer → Names log u who a what answer
         → UsesNode log who a what answer → Stands other v who b what answer → Stands log u who a what answer
     stand_answer (answers.Stood stamp row points) can names used e =
-        stands_same used.0 stamp row points
+        stands_same what within a b s u v nodes used.0 stamp row points
         (λ t. steps_of_row log u who a what (answers.Stood stamp row points) t names) e
     stand_answer (answers.Ruled conflict stamp row points read_stamp raises syncs) can names used e =
-        as_told row points can.2 used.0
+        as_told what within a b s u v nodes row points can.2 used.0
         (λ t. steps_of_row log u who a what (answers.Ruled conflict stamp row points read_stamp raises syncs) t names) e
     stand_answer (answers.Changed failed stamp row points read_stamp raises syncs) can names used e =
-        as_told row points can.2 used.0
+        as_told what within a b s u v nodes row points can.2 used.0
         (λ t. steps_of_row log u who a what (answers.Changed failed stamp row points read_stamp raises syncs) t names) e
     stand_answer (answers.Took value point sync) can names used e =
-        as_told None (point ∷ []) can.2 used.0 (λ t. absurd (let f : ⊥ = cc (t) in f)) e
+        as_told what within a b s u v nodes None (point ∷ []) can.2 used.0 (λ t. absurd (let f : ⊥ = cc (t) in f)) e
+    stand_answer (answers.Decided commits stamp sync read_stamp raises syncs ended) can names used e =
+        end_stands what within u v nodes ended
+        (deciding_same script fits n log other histories home rows what within u v a b s nodes sync read_stamp raises syncs
+        can.1 can.2 can.3) used e
     stand_answer _ can names used e = tt
 
     stopped_same : (steps : ℕ) → HasNode log who a what → NamesSteps log who a u.places
@@ -140,7 +159,7 @@ module _ (script : Script) (fits : IsFitting script) (n : ℕ) (log other : Log)
             ∙ ap (λ (t : List ℕ). Some (node_of who a e.0 t)) asks.1)
 
         below : (c : ℕ) → In c (members e.0) → c < script.shape.colours
-        below c i = its_below h.0 h.1 h.2 c (subst (λ (k : Colours). In c (members k)) (sym asks.0) i)
+        below c i = its_below what within a b s u v nodes h.0 h.1 h.2 c (subst (λ (k : Colours). In c (members k)) (sym asks.0) i)
 
         turn : (suc steps ≡ 0) ⊎ ((places : ℕ → List ℕ)
             × StopsAfter other (with_room who b) b (node_of who b e.0 e.1) (suc steps) places

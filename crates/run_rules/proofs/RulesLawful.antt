@@ -85,6 +85,7 @@ module _ (script : Script) (report : Report) (none : HidesNothing report) (accou
         room = all.r11.room n c there k d lt;
         next = all.r12.next n c there k d lt;
         tree = all.r13.tree n c there k d lt;
+        part = all.r14.part n c there k d lt;
       }
 
       shown : hides (word_of step.command.what) step.reply.answer ≡ false

@@ -13,12 +13,16 @@ use Rattle.log_node.specs.declared.forms.Version.{Version}
 use Rattle.log_node.specs.declared.marks.ColourMark.{ColourMark}
 use Rattle.log_node.specs.Seen.{PlacedNode}
 use Rattle.log_node.specs.Sets.{members}
+use Rattle.object_fold.specs.Maps.{Value}
 use Rattle.object_fold.specs.Nodes.{ObjectNode}
+use Rattle.part_fold.specs.Decisions.{decision_text}
 use Rattle.object_fold.specs.Transactions.{versions_after}
 use Rattle.col_core.specs.Log.{Log}
 use Rattle.col_core.specs.Rows.{BegunRow, FitsRow}
 use Rattle.col_core.specs.Keeping.{Kept, kept_after_sync, kept_after_event, with_read}
 use Rattle.col_core.proofs.CallerLemmas.{In, in_contains, contains_in, in_map-back}
+use Rattle.script_text.specs.declared.script.Kind.{Kind}
+use Rattle.script_text.specs.declared.script.Kind.TheVariants as kinds
 use Rattle.script_text.specs.declared.commands.What.{What}
 use Rattle.script_text.specs.declared.commands.What.TheVariants as whats
 use Rattle.script_text.specs.Commands.{word_of, use_of}
@@ -29,22 +33,25 @@ use Rattle.report_text.specs.declared.report.PointPiece.{PointPiece}
 use Rattle.report_text.specs.declared.report.RaisePiece.{RaisePiece}
 use Rattle.report_text.specs.declared.report.SyncPiece.{SyncPiece}
 use Rattle.lawful_run.specs.Callers.{Caller, node_of}
-use Rattle.lawful_run.specs.Asks.{Manner, Appending, Guarding, Stopping}
+use Rattle.lawful_run.specs.Asks.{Manner, Appending, Guarding, kind_asked, object_colours, rising, tells_stamp_end}
 use Rattle.lawful_run.specs.Deeds.{manner_of, colours_synced, AsksToAppend}
 use Rattle.lawful_run.specs.Appends.{HasNoStamp, none_for_one, none_for_several, WasNext}
 use Rattle.lawful_run.specs.Stops.{Stops, stopped_at_once, stopped_after}
 use Rattle.lawful_run.specs.Reads.{Syncs, ReadsAt, AreKeysRead, events_until, kept_after_piece}
 use Rattle.lawful_run.specs.Objects.{AreObjectNodes}
 use Rattle.lawful_run.specs.Moves.{GivesTooLow, CarriesNodes, kept_after_pull}
+use Rattle.lawful_run.specs.Parts.{AnswersGet, AsksOf, EndsAs, HasValue, OfNodesPlayed, OfPart, WaitsFor}
 use Rattle.lawful_run.specs.Refusals.{Refuses}
 use Rattle.lawful_run.specs.Explains.{Explains, MayStand, AnswersKeys, ShowsVerdict, ShowsChange}
 use Rattle.lawful_run.specs.Shapes.{TellsBehind}
-use Rattle.run_rules.specs.Told.{Untold, kept_told, kept_pulled, kept_trimmed, kept_after_append, kept_after_read, kept_after_row, kept_after_stop, kept_where, with_found, colours_asked, is_several, stamp_told, AreKeysFound}
+use Rattle.run_rules.specs.Told.{Untold, kept_told, kept_pulled, kept_trimmed, kept_after_append, kept_after_read, kept_after_row, kept_after_stop, kept_deciding, kept_where, with_found, colours_asked, is_several, stamp_told, AreKeysFound}
 use Rattle.run_rules.specs.Naming.{NamesPlace, NamesRead, GivesTo, CarriesOf, IsTrim, Has}
-use Rattle.run_rules.specs.Answering.{AsksKeys}
+use Rattle.run_rules.specs.Answering.{AsksKeys, CanEnd, CanGet}
 use Rattle.run_rules.specs.Rules.{with_room, StopsAsTold}
-use Rattle.run_rules.specs.Shown.{OfNodesRead, own_key}
+use Rattle.run_rules.specs.Shown.{OfMap, OfNodesRead, OfParts, own_key}
 use Rattle.run_rules.specs.Keeping.{hides, is_sync}
+use Rattle.run_rules.proofs.Deciding.{kind_of, decide_asked, decide_kind, decide_own}
+use Rattle.run_rules.proofs.EndsTold.{end_told}
 use Rattle.run_rules.proofs.Facts.{Facts, asked_colours}
 use Rattle.run_rules.proofs.Room.{stops_with, no_stamp_with}
 use Rattle.run_rules.proofs.PlayedStamps.{stamps_played}
@@ -64,6 +71,28 @@ pub record StepTold (log : Log) (caller : Caller) (kept : Kept) (what : What) (n
   pub told : after ≡ kept_told log untold caller kept what answer
   pub facts : Facts log caller untold kept what nodes answer
   pub keys : AreKeysFound untold.found answer
+
+-- by the kind of the object
+of_map : (kind : Option Kind) {Said : Type 0} → Said → OfMap kind Said
+of_map (Some (kinds.Map home colours)) said = said
+of_map _ said = tt
+
+of_parts : (kind : Option Kind) {Said : Type 0} → Said → OfParts kind Said
+of_parts (Some (kinds.Parts home colours)) said = said
+of_parts _ said = tt
+
+-- what is answered a value can be
+can_get : (caller : Caller) (what : What) (value : Value) (sync : SyncPiece) (objects : List ObjectNode)
+    → AnswersGet caller what sync value objects → CanGet caller what sync value (kind_asked caller what)
+can_get caller what value sync objects (inl (kind, key, asks, has)) =
+    subst (CanGet caller what sync value) (sym (kind_of caller what sync kind key asks)) (by kind has asks) where
+      by : (kind : Option Kind) → HasValue kind sync.colour key value objects → AsksOf caller what sync kind key
+          → CanGet caller what sync value kind
+      by (Some (kinds.Map home colours)) has asks = (key, asks)
+      by (Some (kinds.Parts home colours)) has asks = inl (key, asks)
+      by _ has asks = absurd has
+can_get caller what value sync objects (inr (colours, asks, none, part)) =
+    subst (CanGet caller what sync value) (sym (decide_kind caller what sync colours asks)) (inr (asks, none))
 
 not_row : {P : Type 0} → IsTrue false → P
 not_row t = absurd (let f : ⊥ = cc (t) in f)
@@ -95,7 +124,7 @@ module _ (log : Log) (caller : Caller) (kept : Kept)
         fit_of : In r (log.rows caller.own) → FitsRow caller.own r
         fit_of i = All-contains (FitsRow caller.own) (log.rows caller.own) r fit (contains_in (log.rows caller.own) r i)
 
-    stamp_end : (colour : ℕ) (after : Kept) (nodes_none : nodes ≡ []) (no_stop : manner_of what ≢ Stopping)
+    stamp_end : (colour : ℕ) (after : Kept) (nodes_none : nodes ≡ []) (no_stop : IsTrue (tells_stamp_end (manner_of what)))
         (colours : Colours) (text : List ℕ) → AsksToAppend caller kept what colours text
         → HasNoStamp log caller kept (node_of caller kept colours text) colour after
         → StepTold log caller kept what nodes (answers.StampEnd colour) after
@@ -130,6 +159,7 @@ module _ (log : Log) (caller : Caller) (kept : Kept)
             room = λ t. not_several single t;
             next = tt;
             tree = tt;
+            part = tt;
           };
         } where
           not_several : {P : Type 0} → is_several caller kept what ≡ false → is_several caller kept what ≡ true → P
@@ -174,6 +204,7 @@ module _ (log : Log) (caller : Caller) (kept : Kept)
             room = λ t. g.begins.room;
             next = tt;
             tree = tt;
+            part = tt;
           };
         }
 
@@ -196,6 +227,7 @@ module _ (log : Log) (caller : Caller) (kept : Kept)
         room = not_row;
         next = tt;
         tree = tt;
+        part = tt;
       };
     }
     stopped _ _ none colours text is (stopped_after steps places s) =
@@ -227,6 +259,7 @@ module _ (log : Log) (caller : Caller) (kept : Kept)
             room = λ t. s.begins.room;
             next = tt;
             tree = tt;
+            part = tt;
           };
         }) where
           its_stop : Stops log (with_room caller kept) kept (node_of caller kept colours text) (steps + 1)
@@ -280,6 +313,7 @@ module _ (log : Log) (caller : Caller) (kept : Kept)
           room = not_row;
           next = tt;
           tree = tt;
+          part = tt;
         };
       }
 
@@ -359,6 +393,7 @@ module _ (log : Log) (caller : Caller) (kept : Kept)
             room = a.room;
             next = next_stands points e.1;
             tree = tt;
+            part = tt;
           };
         }
     step_told (answers.StampEnd colour) after n e = stamp_end colour after e.0 e.1 e.2.0 e.2.1 e.2.2 e.2.3
@@ -381,6 +416,7 @@ module _ (log : Log) (caller : Caller) (kept : Kept)
             room = not_row;
             next = tt;
             tree = tt;
+            part = tt;
           };
         }
     step_told (answers.Stopped steps) after n e = stopped steps after e.0 e.1 e.2 e.3 e.4
@@ -401,6 +437,7 @@ module _ (log : Log) (caller : Caller) (kept : Kept)
         room = not_row;
         next = tt;
         tree = tt;
+        part = tt;
       };
     }
     step_told (answers.Scanned stamp count raises syncs) after n e =
@@ -428,6 +465,7 @@ module _ (log : Log) (caller : Caller) (kept : Kept)
             room = not_row;
             next = tt;
             tree = tt;
+            part = tt;
           };
         }
     step_told (answers.Pulled count give carry) after n e =
@@ -460,6 +498,7 @@ module _ (log : Log) (caller : Caller) (kept : Kept)
             room = not_row;
             next = tt;
             tree = tt;
+            part = tt;
           };
         }
     step_told answers.SameRegion after n e = record {
@@ -478,6 +517,7 @@ module _ (log : Log) (caller : Caller) (kept : Kept)
         room = not_row;
         next = tt;
         tree = tt;
+        part = tt;
       };
     }
     step_told (answers.Based given base) after n e = record {
@@ -502,24 +542,26 @@ module _ (log : Log) (caller : Caller) (kept : Kept)
         room = not_row;
         next = tt;
         tree = tt;
+        part = tt;
       };
     }
     step_told (answers.Got value sync) after n e = record {
       untold = nothing_untold;
-      told = e.10;
+      told = e.3;
       keys = tt;
       facts = record {
-        can = (e.0, e.1, e.2, e.3, e.4, e.5, e.6, e.7);
-        names = names_sync log caller kept sync e.8;
+        can = (e.0, can_get caller what value sync e.1.0 e.1.2);
+        names = names_sync log caller kept sync e.2;
         used = tt;
         stands = tt;
         stops = tt;
-        shows = e.8;
-        right = (e.1, e.2, e.3, e.4, e.5, e.6, e.9);
+        shows = e.2;
+        right = of_map (kind_asked caller what) e.1;
         caused = tt;
         room = not_row;
         next = tt;
         tree = tt;
+        part = of_parts (kind_asked caller what) e.1;
       };
     }
     step_told (answers.GotMany values sync) after n e = record {
@@ -538,6 +580,7 @@ module _ (log : Log) (caller : Caller) (kept : Kept)
         room = not_row;
         next = tt;
         tree = tt;
+        part = tt;
       };
     }
     step_told (answers.GotKeys stamp shown raises syncs) after n e =
@@ -559,6 +602,7 @@ module _ (log : Log) (caller : Caller) (kept : Kept)
             room = a.room;
             next = tt;
             tree = tt;
+            part = tt;
           };
         }
     step_told (answers.Changed failed stamp row points read_stamp raises syncs) after n e =
@@ -578,6 +622,7 @@ module _ (log : Log) (caller : Caller) (kept : Kept)
             room = a.room;
             next = tt;
             tree = its_nodes row points read_stamp raises syncs after (ShowsChange failed stamp) e.1;
+            part = tt;
           };
         }
     step_told (answers.Listed names stamp raises syncs) after n e =
@@ -598,6 +643,76 @@ module _ (log : Log) (caller : Caller) (kept : Kept)
             room = not_row;
             next = tt;
             tree = (e.1, e.2, e.3, (t.1, t.2, t.3, t.4, t.5));
+            part = tt;
+          };
+        }
+    step_told (answers.Undecided stamp sync) after n e =
+        let u = e.1.2 in record {
+          untold = nothing_untold;
+          told = e.3;
+          keys = tt;
+          facts = record {
+            can = (e.0, u.0, u.1, u.2, u.3);
+            names = names_sync log caller kept sync e.2;
+            used = tt;
+            stands = tt;
+            stops = tt;
+            shows = e.2;
+            right = tt;
+            caused = tt;
+            room = not_row;
+            next = tt;
+            tree = tt;
+            part = e.1;
+          };
+        }
+    step_told (answers.Decided commits stamp sync read_stamp raises syncs ended) after n e =
+        let d = e.3 in
+        let own : object_colours (kind_asked caller what) ≡ e.1 = decide_own caller what sync e.1 e.2 in
+        let piece = kept_after_piece log caller kept sync in
+        let read = kept_deciding log caller kept sync read_stamp raises syncs in
+        let told : d.read ≡ read = told_read log caller piece (rising e.1) read_stamp raises syncs d.read d.tells.0 in
+        let said = decision_text (record { key = d.waits; commits = commits }) in
+        let end = end_told log caller read apart what sync e.1 e.2 said ended after
+        (subst (λ (k : Kept). EndsAs log caller k what said ended after) told d.ends) in
+        let t = d.tells in record {
+          untold = with_places end.places;
+          told = end.told;
+          keys = tt;
+          facts = record {
+            can = (
+              e.0,
+              e.1,
+              e.2,
+              (t.0.raised_colours, t.0.synced_colours),
+              subst (λ (cs : List ℕ). CanEnd cs ended) (decide_asked caller what sync e.1 e.2 read kept) end.can,
+            );
+            names = (
+              names_sync log caller kept sync d.synced,
+              names_read log caller piece (rising e.1) read_stamp raises syncs d.read t.0,
+              end.names,
+            );
+            used = end.used;
+            stands = end.stands;
+            stops = tt;
+            shows = (
+              d.synced,
+              subst (λ (cs : List ℕ). ReadsAt log caller piece (rising cs) read_stamp raises syncs read) (sym own)
+                  (subst (ReadsAt log caller piece (rising e.1) read_stamp raises syncs) told t.0),
+            );
+            right = tt;
+            caused = end.caused;
+            room = not_row;
+            next = tt;
+            tree = tt;
+            part = (
+              d.waits,
+              d.stamp_is,
+              subst (λ (cs : List ℕ). OfNodesPlayed log caller sync (OfPart cs sync.colour (WaitsFor (Some d.waits)))) (sym own)
+                  d.waiting,
+              (t.1, t.2, t.3, t.4, t.5),
+              end.says,
+            );
           };
         }
     step_told (answers.Moved lined waiting colour events) after n e = record {
@@ -616,6 +731,7 @@ module _ (log : Log) (caller : Caller) (kept : Kept)
         room = not_row;
         next = (e.1, e.2, e.3, e.4);
         tree = tt;
+        part = tt;
       };
     }
     step_told answers.NoTx after n e = record {
@@ -634,6 +750,7 @@ module _ (log : Log) (caller : Caller) (kept : Kept)
         room = not_row;
         next = tt;
         tree = tt;
+        part = tt;
       };
     }
     step_told (answers.Took value point sync) after n e =
@@ -658,6 +775,7 @@ module _ (log : Log) (caller : Caller) (kept : Kept)
             room = a.room;
             next = tt;
             tree = tt;
+            part = tt;
           };
         }
     step_told (answers.UnreadTrimmed stamp colour base) after n e = absurd (let g : ⊥ = cc (n) in g)
@@ -680,6 +798,7 @@ module _ (log : Log) (caller : Caller) (kept : Kept)
             room = not_row;
             next = tt;
             tree = tt;
+            part = tt;
           };
         }
     step_told (answers.NotHome home) after n e = record {
@@ -698,5 +817,6 @@ module _ (log : Log) (caller : Caller) (kept : Kept)
         room = not_row;
         next = tt;
         tree = tt;
+        part = tt;
       };
     }

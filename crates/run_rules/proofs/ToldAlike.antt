@@ -3,12 +3,14 @@ use Rattle.std.proofs.Common.{◌≡◌, ◌∙◌, refl, ap, sym, subst, true, 
 use Rattle.std.specs.Prelude.{IsTrue, nat_lt, length}
 use Rattle.log_node.specs.Seen.{PlacedNode}
 use Rattle.log_node.specs.declared.forms.Version.{Version}
+use Rattle.object_fold.specs.Maps.{Value}
 use Rattle.col_core.specs.Log.{Log}
 use Rattle.col_core.specs.Keeping.{Kept}
 use Rattle.col_core.proofs.CallerLemmas.{In, in_map-back}
 use Rattle.script_text.specs.declared.commands.What.{What}
 use Rattle.script_text.specs.declared.commands.What.TheVariants as whats
 use Rattle.script_text.specs.declared.script.Kind.{Kind}
+use Rattle.script_text.specs.declared.script.Kind.TheVariants as kinds
 use Rattle.script_text.specs.declared.script.Script.{Script}
 use Rattle.script_text.specs.declared.uses.ReadUse.TheVariants.{UsesUp}
 use Rattle.script_text.specs.declared.uses.Use.{Use}
@@ -17,17 +19,21 @@ use Rattle.script_text.specs.Commands.{use_of}
 use Rattle.script_text.specs.Fitting.{IsFitting, IsWithin}
 use Rattle.report_text.specs.declared.report.Answer.{Answer}
 use Rattle.report_text.specs.declared.report.Answer.TheVariants as answers
+use Rattle.report_text.specs.declared.report.Ended.{Ended}
+use Rattle.report_text.specs.declared.report.Ended.TheVariants as ends
 use Rattle.report_text.specs.declared.report.PointPiece.{PointPiece}
 use Rattle.report_text.specs.declared.report.RaisePiece.{RaisePiece}
 use Rattle.report_text.specs.declared.report.SyncPiece.{SyncPiece}
 use Rattle.lawful_run.specs.Callers.{Caller, caller_of}
 use Rattle.lawful_run.specs.Columns.{row_report}
-use Rattle.lawful_run.specs.Asks.{object_colours, kind_asked, keys_of_pairs, shards}
+use Rattle.lawful_run.specs.Asks.{object_colours, kind_asked, keys_of_pairs, rising, shards}
 use Rattle.lawful_run.specs.Deeds.{colours_synced, saying_of, found_by}
-use Rattle.run_rules.specs.Told.{Untold, AreKeysFound, colours_said, colours_asked, is_several, kept_after_append, kept_told, stamp_told}
-use Rattle.run_rules.specs.Answering.{HasPoints, HasReads, CanHave}
+use Rattle.lawful_run.specs.Parts.{AsksToDecide}
+use Rattle.run_rules.specs.Told.{Untold, AreKeysFound, colours_said, colours_asked, is_several, kept_after_append, kept_after_end, kept_appending, kept_deciding, kept_told, stamp_told}
+use Rattle.run_rules.specs.Answering.{HasPoints, HasReads, CanGet, CanHave}
 use Rattle.run_rules.specs.Shown.{is_row, begins_row}
 use Rattle.run_rules.specs.Agreeing.{HasColumn, KeepSame, IsPulled, keys_found}
+use Rattle.run_rules.proofs.Deciding.{decide_synced}
 use Rattle.run_rules.proofs.Reached.{Below, kind_within, synced_within, appended_within}
 use Rattle.run_rules.proofs.SameKept.{SamePlaces, look_same, piece_same, readings_same, stamp_same, append_same, where_same, pull_same, trim_same, found_same}
 
@@ -102,6 +108,45 @@ module _ (script : Script) (fits : IsFitting script) (n : ℕ) (log other : Log)
       (stamp_told other who b row points)
       (stamp_same script who log other histories home rows s row points (points_below row points h)) row points places
 
+  -- decisions
+  decide_below : (sync : SyncPiece) (colours : List ℕ) → AsksToDecide who what sync colours
+      → Below script.shape.colours (sync.colour ∷ rising colours)
+  decide_below sync colours asks c i =
+      synced_within script fits n what within c (subst (In c) (sym (decide_synced who what sync colours asks)) i)
+
+  got_below : (value : Value) (sync : SyncPiece) (kind : Option Kind) → CanGet who what sync value kind
+      → sync.colour < script.shape.colours
+  got_below value sync (Some (kinds.Map home colours)) can = one_below sync.colour can.1.3
+  got_below value sync (Some (kinds.Parts home colours)) can = elim can [
+    | inl asks ↦ one_below sync.colour asks.1.3
+    | inr asks ↦ decide_below sync colours asks.0 sync.colour (inl refl)
+  ]
+  got_below value sync _ can = absurd can
+
+  pub deciding_same : (sync : SyncPiece) (stamp : ℕ) (raises : List RaisePiece) (syncs : List SyncPiece) (colours : List ℕ)
+      → AsksToDecide who what sync colours → HasReads (rising colours) raises syncs
+      → KeepSame script (kept_deciding log who a sync stamp raises syncs) (kept_deciding other who b sync stamp raises syncs)
+  deciding_same sync stamp raises syncs colours asks has =
+      let below = decide_below sync colours asks in
+      readings_same script who log other histories home rows stamp raises syncs
+      (mapped_below script.shape.colours (λ (p : SyncPiece). p.colour) syncs (rising colours) has.1 (λ c i. below c (inr i)))
+      (piece_same script who log other histories home rows s sync (below sync.colour (inl refl)))
+
+  end_same : {c d : Kept} → KeepSame script c d → (ended : Ended)
+      → KeepSame script (kept_after_end u who c ended) (kept_after_end v who d ended)
+  end_same t (ends.Stood stamp point) =
+      append_same script who log other histories home rows u v t stamp stamp refl None (point ∷ [])
+      (λ none. absurd (let x : ⊥ = cc (none) in x))
+  end_same t (ends.StampEnd colour) = t
+  end_same t ends.NoMemory = t
+
+  -- what is kept when the command's node is appended
+  pub appending_same : (answer : Answer) → CanHave who a what nodes answer
+      → KeepSame script (kept_appending log who a answer) (kept_appending other who b answer)
+  appending_same (answers.Decided commits stamp sync read_stamp raises syncs ended) can =
+      deciding_same sync read_stamp raises syncs can.1 can.2 can.3
+  appending_same _ can = s
+
   pub told_same : (answer : Answer) → CanHave who a what nodes answer
       → (IsTrue (begins_row (is_several who a what) answer) → SamePlaces script who log other histories home rows u v)
       → (IsPulled answer → u.too_low ≡ v.too_low) → AreKeysFound u.found answer → AreKeysFound v.found answer
@@ -127,7 +172,7 @@ module _ (script : Script) (fits : IsFitting script) (n : ℕ) (log other : Log)
   told_same (answers.Based given base) can places low f g =
       trim_same script who log other histories home rows u v s what given
   told_same (answers.Got value sync) can places low f g =
-      piece_same script who log other histories home rows s sync (one_below sync.colour can.7)
+      piece_same script who log other histories home rows s sync (got_below value sync (kind_asked who what) can.1)
   told_same (answers.GotMany values sync) can places low f g =
       piece_same script who log other histories home rows s sync (kind_within script fits n can.1 _ can.4)
   told_same (answers.GotKeys stamp shown raises syncs) can places low f g =
@@ -142,6 +187,10 @@ module _ (script : Script) (fits : IsFitting script) (n : ℕ) (log other : Log)
       (behind_same row points can.2 places)
   told_same (answers.Listed names stamp raises syncs) can places low f g =
       readings_same script who log other histories home rows stamp raises syncs (syncs_below raises syncs can.4) s
+  told_same (answers.Undecided stamp sync) can places low f g =
+      piece_same script who log other histories home rows s sync (one_below sync.colour can.4.3)
+  told_same (answers.Decided commits stamp sync read_stamp raises syncs ended) can places low f g =
+      end_same (deciding_same sync read_stamp raises syncs can.1 can.2 can.3) ended
   told_same (answers.Moved lined waiting colour events) can places low f g = look_same script s who.own colour events
   told_same answers.NoTx can places low f g = s
   told_same (answers.Took value point sync) can places low f g =

@@ -4,19 +4,24 @@ use Rattle.std.specs.List.{Contains}
 use Rattle.log_node.specs.Sets.{members}
 use Rattle.log_node.specs.Seen.{PlacedNode}
 use Rattle.log_node.specs.declared.ids.Colours.{Colours}
+use Rattle.object_fold.specs.Maps.{Value}
 use Rattle.col_core.specs.Keeping.{Kept}
+use Rattle.script_text.specs.declared.script.Kind.{Kind}
 use Rattle.script_text.specs.declared.script.Kind.TheVariants as kinds
 use Rattle.script_text.specs.declared.commands.What.{What}
 use Rattle.script_text.specs.declared.commands.What.TheVariants as whats
 use Rattle.report_text.specs.declared.report.Answer.{Answer}
 use Rattle.report_text.specs.declared.report.Answer.TheVariants as answers
+use Rattle.report_text.specs.declared.report.Ended.{Ended}
+use Rattle.report_text.specs.declared.report.Ended.TheVariants as ends
 use Rattle.report_text.specs.declared.report.KeyAnswer.{KeyAnswer}
 use Rattle.report_text.specs.declared.report.PointPiece.{PointPiece}
 use Rattle.report_text.specs.declared.report.RaisePiece.{RaisePiece}
 use Rattle.report_text.specs.declared.report.SyncPiece.{SyncPiece}
 use Rattle.lawful_run.specs.Callers.{Caller}
-use Rattle.lawful_run.specs.Asks.{kind_of_object, home_asked, Appending, Guarding, Stopping, Committing, Dequeuing, Syncing, Getting, Reading}
+use Rattle.lawful_run.specs.Asks.{kind_of_object, kind_asked, home_asked, rising, Appending, Guarding, Stopping, Committing, Dequeuing, Deciding, Syncing, Getting, Reading}
 use Rattle.lawful_run.specs.Deeds.{AsksForKey, colours_synced, manner_of}
+use Rattle.lawful_run.specs.Parts.{AsksOf, AsksToDecide}
 use Rattle.run_rules.specs.Told.{colours_asked, is_several}
 
 -- a point for each colour of the node, and a row where there are several
@@ -32,6 +37,21 @@ HasReads colours raises syncs =
 -- the command reads these keys
 abbrev pub AsksKeys : What → List (List ℕ) → Type 0
 AsksKeys what keys = ((object : ℕ) × (what ≡ whats.GetAll object keys)) ⊎ ((object : ℕ) × (what ≡ whats.Read object keys))
+
+-- The command, of an object of this kind, can be answered this value: a get of a map, a peek, or a decide.
+abbrev pub CanGet : Caller → What → SyncPiece → Value → Option Kind → Type 0
+CanGet caller what sync value (Some (kinds.Map home colours)) =
+    (key : List ℕ) × AsksOf caller what sync (Some (kinds.Map home colours)) key
+CanGet caller what sync value (Some (kinds.Parts home colours)) =
+    ((key : List ℕ) × AsksOf caller what sync (Some (kinds.Parts home colours)) key)
+    ⊎ (AsksToDecide caller what sync colours × (value ≡ None))
+CanGet caller what sync value _ = ⊥
+
+-- the append of a decision's node can have ended so, on these colours
+abbrev pub CanEnd : List ℕ → Ended → Type 0
+CanEnd colours (ends.Stood stamp point) = HasPoints colours None (point ∷ [])
+CanEnd colours (ends.StampEnd colour) = Contains colours colour
+CanEnd colours ends.NoMemory = Unit {0}
 
 -- The command can have this answer; nodes are shown by a sync and by a scan alone.
 abbrev pub CanHave : Caller → Kept → What → List PlacedNode → Answer → Type 0
@@ -52,9 +72,7 @@ CanHave caller kept what nodes answers.SameRegion =
     (nodes ≡ []) × (region : ℕ) × (colour : ℕ) × (what ≡ whats.Pull region colour)
 CanHave caller kept what nodes (answers.Based at base) = (nodes ≡ []) × (colour : ℕ) × (what ≡ whats.Trim colour)
 CanHave caller kept what nodes (answers.Got value sync) =
-    (nodes ≡ []) × (object : ℕ) × (key : List ℕ) × AsksForKey what object key
-    × (home : ℕ) × (colours : List ℕ) × (kind_of_object caller object ≡ Some (kinds.Map home colours))
-    × (colours_synced caller what ≡ sync.colour ∷ [])
+    (nodes ≡ []) × CanGet caller what sync value (kind_asked caller what)
 CanHave caller kept what nodes (answers.GotMany values sync) =
     (nodes ≡ []) × (object : ℕ) × (key : List ℕ) × AsksForKey what object key
     × (kind_of_object caller object ≡ Some (kinds.Causal sync.colour))
@@ -70,6 +88,12 @@ CanHave caller kept what nodes (answers.Changed failed stamp row points read_sta
 CanHave caller kept what nodes (answers.Listed names stamp raises syncs) =
     (nodes ≡ []) × (object : ℕ) × (path : List ℕ) × (what ≡ whats.Ls object path)
     × HasReads (colours_synced caller what) raises syncs
+CanHave caller kept what nodes (answers.Undecided stamp sync) =
+    (nodes ≡ []) × (home : ℕ) × (colours : List ℕ) × (key : List ℕ)
+    × AsksOf caller what sync (Some (kinds.Parts home colours)) key
+CanHave caller kept what nodes (answers.Decided commits stamp sync read_stamp raises syncs ended) =
+    (nodes ≡ []) × (colours : List ℕ) × AsksToDecide caller what sync colours × HasReads (rising colours) raises syncs
+    × CanEnd (colours_asked caller kept what) ended
 CanHave caller kept what nodes (answers.Moved lined waiting colour events) =
     (nodes ≡ []) × (text : List ℕ) × (what ≡ whats.Only colour text)
 CanHave caller kept what nodes answers.NoTx = (nodes ≡ []) × (object : ℕ) × (pairs : _) × (what ≡ whats.Commit object pairs)
@@ -82,6 +106,7 @@ CanHave caller kept what nodes (answers.UnreadNoMemory stamp) =
     (nodes ≡ []) × ((manner_of what ≡ Committing) ⊎ (manner_of what ≡ Dequeuing))
 CanHave caller kept what nodes (answers.Trimmed colour base) =
     (nodes ≡ []) × Contains (colours_synced caller what) colour
-    × ((manner_of what ≡ Syncing) ⊎ ((manner_of what ≡ Getting) ⊎ (manner_of what ≡ Reading)))
+    × ((manner_of what ≡ Syncing) ⊎ ((manner_of what ≡ Getting)
+    ⊎ ((manner_of what ≡ Reading) ⊎ (manner_of what ≡ Deciding))))
 CanHave caller kept what nodes (answers.NotHome home) =
     (nodes ≡ []) × (other : ℕ) × (home_asked caller what ≡ Some other)

@@ -11,7 +11,7 @@ use Rattle.report_text.specs.declared.report.ClientReport.{ClientReport}
 use Rattle.report_text.specs.declared.report.Report.{Report}
 use Rattle.run_rules.specs.Told.{Account, IsTold}
 use Rattle.run_rules.specs.Rules.{Rule1, Rule2, Rule3, Rule4, Rule5, Rule6, Rule7, Rule8}
-use Rattle.run_rules.specs.Shown.{Rule9, Rule10, Rule11, Rule12, Rule13}
+use Rattle.run_rules.specs.Shown.{Rule9, Rule10, Rule11, Rule12, Rule13, Rule14}
 
 -- the rule with this number, at an account
 pub data Rule (script : Script) (report : Report) (account : Account) : ℕ → Type 0 where
@@ -28,10 +28,11 @@ pub data Rule (script : Script) (report : Report) (account : Account) : ℕ → 
   eleven : Rule11 script report account → Rule script report account 11
   twelve : Rule12 script report account → Rule script report account 12
   thirteen : Rule13 script report account → Rule script report account 13
+  fourteen : Rule14 script report account → Rule script report account 14
 
 -- how many rules there are
 abbrev pub rule_count : ℕ
-rule_count = 13
+rule_count = 14
 
 -- the rules up to this number
 abbrev pub RulesTo : Script → Report → Account → ℕ → Type 0

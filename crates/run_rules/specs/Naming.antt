@@ -15,12 +15,14 @@ use Rattle.script_text.specs.declared.commands.What.{What}
 use Rattle.script_text.specs.declared.commands.What.TheVariants as whats
 use Rattle.report_text.specs.declared.report.Answer.{Answer}
 use Rattle.report_text.specs.declared.report.Answer.TheVariants as answers
+use Rattle.report_text.specs.declared.report.Ended.{Ended}
+use Rattle.report_text.specs.declared.report.Ended.TheVariants as ends
 use Rattle.report_text.specs.declared.report.PointPiece.{PointPiece}
 use Rattle.report_text.specs.declared.report.RaisePiece.{RaisePiece}
 use Rattle.report_text.specs.declared.report.SyncPiece.{SyncPiece}
 use Rattle.lawful_run.specs.Callers.{Caller}
 use Rattle.lawful_run.specs.Reads.{events_until, kept_after_place, kept_after_piece}
-use Rattle.run_rules.specs.Told.{Untold, is_several, stamp_told, kept_after_append, kept_after_raises}
+use Rattle.run_rules.specs.Told.{Untold, is_several, stamp_told, kept_after_append, kept_after_raises, kept_deciding}
 
 -- an id of this client enters
 abbrev pub EntersOf : ℕ → events.Event → Type 0
@@ -111,6 +113,11 @@ NamesPull log untold caller kept region colour give carry =
     × NamesPlace log caller kept region colour (GivesTo caller.own) give
     × NamesPlace log caller kept caller.own colour (CarriesOf region) carry
 
+-- the append of a decision's node
+abbrev pub NamesEnd : Log → Untold → Caller → Kept → Ended → Type 0
+NamesEnd log untold caller kept (ends.Stood stamp point) = NamesAppend log untold caller kept None (point ∷ [])
+NamesEnd log untold caller kept _ = Unit {0}
+
 -- all that an answer names
 abbrev pub Names : Log → Untold → Caller → Kept → What → Answer → Type 0
 Names log untold caller kept what (answers.Stood stamp row points) = NamesAppend log untold caller kept row points
@@ -137,6 +144,10 @@ Names log untold caller kept what (answers.Changed failed stamp row points read_
     × NamesRead log caller
     (kept_after_append untold caller kept (stamp_told log caller kept row points) row points) raises syncs
 Names log untold caller kept what (answers.Listed names stamp raises syncs) = NamesRead log caller kept raises syncs
+Names log untold caller kept what (answers.Undecided stamp sync) = NamesSync log caller kept sync
+Names log untold caller kept what (answers.Decided commits stamp sync read_stamp raises syncs ended) =
+    NamesSync log caller kept sync × NamesRead log caller (kept_after_piece log caller kept sync) raises syncs
+    × NamesEnd log untold caller (kept_deciding log caller kept sync read_stamp raises syncs) ended
 Names log untold caller kept what (answers.Moved lined waiting colour events) =
     NamesLook log kept caller.own colour events
 Names log untold caller kept what (answers.Took value point sync) =

@@ -17,6 +17,8 @@ use Rattle.script_text.specs.declared.script.Script.{Script}
 use Rattle.script_text.specs.Commands.{word_of}
 use Rattle.report_text.specs.declared.report.Answer.{Answer}
 use Rattle.report_text.specs.declared.report.Answer.TheVariants as answers
+use Rattle.report_text.specs.declared.report.Ended.{Ended}
+use Rattle.report_text.specs.declared.report.Ended.TheVariants as ends
 use Rattle.report_text.specs.declared.report.PointPiece.{PointPiece}
 use Rattle.report_text.specs.declared.report.ClientReport.{ClientReport}
 use Rattle.report_text.specs.declared.report.ColumnReport.{ColumnReport}
@@ -28,7 +30,7 @@ use Rattle.lawful_run.specs.Shapes.{AppendsBy}
 use Rattle.lawful_run.specs.Stops.{Stops}
 use Rattle.lawful_run.specs.Columns.{column_numbers, IsClientIn, ShowsClosing, HoldsTrueCopies}
 use Rattle.lawful_run.specs.Lawful.{IsHelp, HasHelping, IsComplete, LeavesOpen}
-use Rattle.run_rules.specs.Told.{Untold, Step, Account, kept_at, is_several, stamp_told, kept_after_append, kept_after_stop, OfEachStep}
+use Rattle.run_rules.specs.Told.{Untold, Step, Account, kept_at, is_several, stamp_told, kept_after_append, kept_after_stop, kept_deciding, OfEachStep}
 use Rattle.run_rules.specs.Naming.{Names}
 use Rattle.run_rules.specs.Answering.{CanHave}
 
@@ -105,6 +107,12 @@ EntersAsNode log caller kept None (point ∷ points) =
     → e.event ≡ Single (record { client = caller.client; count = kept.ids }) kept.floor (kept.starts point.colour)
 EntersAsNode log caller kept (Some number) points = Unit {0}
 
+-- the append of a decision's node: where it stands it used an id up
+abbrev pub UsesEnd : Log → Caller → Kept → What → Ended → Type 0
+UsesEnd log caller kept what (ends.Stood stamp point) =
+    HasNode log caller kept what × EntersAsNode log caller kept None (point ∷ [])
+UsesEnd log caller kept what _ = Unit {0}
+
 -- an answer to an append that used an id up
 abbrev pub UsesNode : Log → Caller → Kept → What → Answer → Type 0
 UsesNode log caller kept what (answers.Stood stamp row points) =
@@ -119,6 +127,8 @@ UsesNode log caller kept what (answers.Changed failed stamp row points read_stam
     HasNode log caller kept what × EntersAsNode log caller kept row points
 UsesNode log caller kept what (answers.Took value point sync) =
     HasNode log caller kept what × EntersAsNode log caller kept None (point ∷ [])
+UsesNode log caller kept what (answers.Decided commits stamp sync read_stamp raises syncs ended) =
+    UsesEnd log caller (kept_deciding log caller kept sync read_stamp raises syncs) what ended
 UsesNode log caller kept what _ = Unit {0}
 
 -- the nodes and the rows of a client are those of its commands
@@ -149,6 +159,12 @@ StandsAsTold log untold caller kept what stamp row points = AppendsBy caller kep
     Appends log (with_room caller kept) kept (node_of caller kept colours text) stamp row points
     (kept_after_append untold caller kept stamp row points))
 
+-- so does a decision's node, where it stands; what it says is asked by the rule on decisions
+abbrev pub StandsAtEnd : Log → Untold → Caller → Kept → What → Ended → Type 0
+StandsAtEnd log untold caller kept what (ends.Stood stamp point) =
+    StandsAsTold log untold caller kept what stamp None (point ∷ [])
+StandsAtEnd log untold caller kept what _ = Unit {0}
+
 abbrev pub Stands : Log → Untold → Caller → Kept → What → Answer → Type 0
 Stands log untold caller kept what (answers.Stood stamp row points) =
     StandsAsTold log untold caller kept what stamp row points
@@ -158,6 +174,8 @@ Stands log untold caller kept what (answers.Changed failed stamp row points read
     StandsAsTold log untold caller kept what (stamp_told log caller kept row points) row points
 Stands log untold caller kept what (answers.Took value point sync) =
     StandsAsTold log untold caller kept what (stamp_told log caller kept None (point ∷ [])) None (point ∷ [])
+Stands log untold caller kept what (answers.Decided commits stamp sync read_stamp raises syncs ended) =
+    StandsAtEnd log untold caller (kept_deciding log caller kept sync read_stamp raises syncs) what ended
 Stands log untold caller kept what _ = Unit {0}
 
 pub record Rule6 (script : Script) (report : Report) (account : Account) : Type 0 where

@@ -21,6 +21,8 @@ use Rattle.script_text.specs.declared.script.Script.{Script}
 use Rattle.script_text.specs.Commands.{use_of}
 use Rattle.report_text.specs.declared.report.Answer.{Answer}
 use Rattle.report_text.specs.declared.report.Answer.TheVariants as answers
+use Rattle.report_text.specs.declared.report.Ended.{Ended}
+use Rattle.report_text.specs.declared.report.Ended.TheVariants as ends
 use Rattle.report_text.specs.declared.report.KeyAnswer.{KeyAnswer}
 use Rattle.report_text.specs.declared.report.PointPiece.{PointPiece}
 use Rattle.report_text.specs.declared.report.RaisePiece.{RaisePiece}
@@ -121,6 +123,18 @@ abbrev pub kept_after_read : Log → Caller → Kept → ℕ → List RaisePiece
 kept_after_read log caller kept stamp raises syncs =
     with_floor (kept_after_syncs log caller (kept_after_raises caller kept raises) syncs) stamp
 
+-- behind the sync and the stamped read of a decision, when its node is appended
+abbrev pub kept_deciding : Log → Caller → Kept → SyncPiece → ℕ → List RaisePiece → List SyncPiece → Kept
+kept_deciding log caller kept sync stamp raises syncs =
+    kept_after_read log caller (kept_after_piece log caller kept sync) stamp raises syncs
+
+-- behind the append of a decision's node; no stamp was left, or no memory, and nothing was done
+abbrev pub kept_after_end : Untold → Caller → Kept → Ended → Kept
+kept_after_end untold caller kept (ends.Stood stamp point) =
+    kept_after_append untold caller kept stamp None (point ∷ [])
+kept_after_end untold caller kept (ends.StampEnd colour) = kept
+kept_after_end untold caller kept ends.NoMemory = kept
+
 -- a read of an object that a commit may use up keeps what it found
 abbrev pub with_found : Use → List Version → Kept → Kept
 with_found (OfObject object Takes) found kept = with_read kept object (Some found)
@@ -164,6 +178,9 @@ kept_told log untold caller kept what (answers.Changed failed stamp row points r
     read_stamp raises syncs
 kept_told log untold caller kept what (answers.Listed names stamp raises syncs) =
     kept_after_read log caller kept stamp raises syncs
+kept_told log untold caller kept what (answers.Undecided stamp sync) = kept_after_piece log caller kept sync
+kept_told log untold caller kept what (answers.Decided commits stamp sync read_stamp raises syncs ended) =
+    kept_after_end untold caller (kept_deciding log caller kept sync read_stamp raises syncs) ended
 kept_told log untold caller kept what (answers.Moved lined waiting colour events) =
     kept_after_look kept caller.own colour events
 kept_told log untold caller kept what answers.NoTx = kept
@@ -174,6 +191,12 @@ kept_told log untold caller kept what (answers.UnreadTrimmed stamp colour base) 
 kept_told log untold caller kept what (answers.UnreadNoMemory stamp) = kept
 kept_told log untold caller kept what (answers.Trimmed colour base) = kept
 kept_told log untold caller kept what (answers.NotHome home) = kept
+
+-- what it keeps when the command's node is appended: a decide has synced and read before
+abbrev pub kept_appending : Log → Caller → Kept → Answer → Kept
+kept_appending log caller kept (answers.Decided commits stamp sync read_stamp raises syncs ended) =
+    kept_deciding log caller kept sync read_stamp raises syncs
+kept_appending log caller kept _ = kept
 
 -- THE ACCOUNT
 

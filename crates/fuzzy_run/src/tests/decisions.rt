@@ -211,7 +211,7 @@ column r y
 ];
 
 /// Lines from line 2 on, and the report.
-const OTHERS: [(&str, &str); 2] = [
+const THREE_CLIENTS: [(&str, &str); 1] = [
     // One that read keys of both colours waits in both, and a decision is of one colour. The read of a decision completes what another
     // client left open, and a peek completes nothing.
     (
@@ -264,37 +264,54 @@ column r y
 = clock 4 line a.0:1,c.0:2,b.1:4 queue - cut 3 base 0
 ",
     ),
-    // Away from home.
-    (
-        "regions r s
+];
+
+/// The same, where one client does all and another is away from the map's home.
+const ALONE: [(&str, &str); 1] = [(
+    "regions r s
 colours x y
 client a r
 client b s
 parts p r x y
 begin
+a read p a
+a commit p b=7
+a peek p b
+a decide p b
+a peek p b
+a decide p b
+a peek p a
 b peek p a
 b decide p a
-a peek p a
-a decide p b
 ",
-        "report 2
+    "report 2
 client a
-10 peek none y?0/0,0
-11 decide none x?0/0,0
+8 read ok 0 a=- x?0 y?0 x?0/0,0 y?0/0,0
+9 commit committed 1 row 0 x!0@0 y!0@0 at 1 x?2 y?2 x?2/1,0 y?2/1,0
+10 peek undecided 1 x?2/1,0
+11 decide committed 1 x?2/1,0 at 1 x?2 y?2 x?2/1,0 y?2/1,0 ok 2 x!2@1
+12 peek ok 7 x?3/2,0
+13 decide none x?3/2,0
+14 peek none y?2/1,0
 client b
-8 peek nothome r
-9 decide nothome r
+15 peek nothome r
+16 decide nothome r
+row r a.0 a.0 x=1 y=1 final 1
 column r x
-= clock 0 line - queue - cut 0,0 base 0,0
+0 a propose a.0 floor 0 wants 0,0 stamp 1
+1 a settle a.0 final 1
+2 a single a.1 floor 1 wants 1,0 stamp 2
+= clock 2 line a.0:1,a.1:2 queue - cut 2,0 base 0,0
 column r y
-= clock 0 line - queue - cut 0,0 base 0,0
+0 a propose a.0 floor 0 wants 0,0 stamp 1
+1 a settle a.0 final 1
+= clock 1 line a.0:1 queue - cut 1,0 base 0,0
 column s x
 = clock 0 line - queue - cut 0,0 base 0,0
 column s y
 = clock 0 line - queue - cut 0,0 base 0,0
 ",
-    ),
-];
+)];
 
 /// On threads, one client after the other.
 const IN_TURN: [Turns; 1] = [(
@@ -379,7 +396,9 @@ const UNKNOWN_IN_1: [Row; 3] = [
 #[test]
 fn one_colour_tells_what_is_decided(rt: HostRuntime) -> Result<(), Fail> {
     all_leave(rt.alloc(), &rt, "step", PARTS, &REPORTS)?;
-    all_leave(rt.alloc(), &rt, "step", "fuzzylog 2\n", &OTHERS)?;
+    all_leave(rt.alloc(), &rt, "step", "fuzzylog 2\n", &THREE_CLIENTS)?;
+    all_leave(rt.alloc(), &rt, "step", "fuzzylog 2\n", &ALONE)?;
+    all_leave(rt.alloc(), &rt, "run", "fuzzylog 2\n", &ALONE)?;
     all_are_the_same(rt.alloc(), &rt, &IN_TURN)
 }
 
