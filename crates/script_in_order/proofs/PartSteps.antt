@@ -1,5 +1,5 @@
 -- Peeks and decides, by what their calls did.
-use Rattle.std.proofs.Common.{◌≡◌, ◌≢◌, ◌⊎◌, inl, inr, ℕ, ◌+◌, ◌<◌, zero, suc, Bool, true, false, cond, List, [], ◌∷◌, length, map, set, get_or, Option, Some, None, refl, ap, sym, subst, ◌∙◌, arith}
+use Rattle.std.proofs.Common.{◌≡◌, ◌≢◌, ◌⊎◌, inl, inr, ℕ, ◌+◌, ◌<◌, ◌≤◌, zero, suc, Bool, true, false, cond, List, [], ◌∷◌, length, map, set, get_or, Option, Some, None, refl, ap, sym, subst, ◌∙◌, arith}
 use Rattle.std.specs.Prelude.{IsTrue, slice_get, slice_index, if◌then◌else◌}
 use Rattle.std.specs.List.{AllPairs}
 use Rattle.std.specs.Option.{option_map}
@@ -19,10 +19,12 @@ use Rattle.part_fold.specs.Agreement.{part_at}
 use Rattle.part_fold.specs.Parts.{Part, part_value, place_of, undecided_after}
 use Rattle.part_fold.specs.PartStates.{IsPart}
 use Rattle.part_fold.specs.Ruled.{AreApart}
+use Rattle.col_core.specs.History.{line}
 use Rattle.col_core.proofs.CallerLemmas.{In, choice, contains_in, if_true, if_false}
 use Rattle.world_laws.specs.declared.steps.Step.TheVariants.{Play}
 use Rattle.world_laws.specs.Laws.{IsReached}
-use Rattle.world_laws.specs.Worlds.{World, after, home_of, may_play, may_single, next_id, single_stamp}
+use Rattle.world_laws.specs.Worlds.{World, after, after_play, home_of, may_play, may_single, next_id, single_stamp}
+use Rattle.world_laws.proofs.CallerLemmas.{run_reached}
 use Rattle.script_text.specs.declared.script.Kind.{Kind}
 use Rattle.script_text.specs.declared.script.Kind.TheVariants as kinds
 use Rattle.script_text.specs.Apart.{is_parts}
@@ -42,7 +44,7 @@ use Rattle.script_meaning.specs.Appends.{appended_one, point_in, with_single}
 use Rattle.script_meaning.specs.Dequeues.{base_now, object_node_at, sync_now}
 use Rattle.script_meaning.specs.Parts.{commits_among, decided, decided_by, decided_in, decision_ended, nodes_now, part_of, peek_answer, peeked}
 use Rattle.script_meaning.specs.Stamped.{ReadEnd, Whole, Refused, Unraised, StampedRead, ended_so, keys_read, stamped_read}
-use Rattle.script_meaning.proofs.CallerLemmas.{RunsTo, keys_ordered, parts_of, shard_below, single_same, single_to, stays_there}
+use Rattle.script_meaning.proofs.CallerLemmas.{RunsTo, decided_to, keys_ordered, parts_of, shard_below, single_same, single_to, stays_there}
 use Rattle.script_in_order.specs.Deciding.{DecidesBehind, EndsDecision}
 use Rattle.script_in_order.specs.declared.tx_folds.TxFolds.{TxFolds}
 use Rattle.script_in_order.specs.Doing.{DoneBy, with_replies}
@@ -170,6 +172,25 @@ part_played w client colour own sync kept home same count f =
     (ap (λ (n : ℕ). nodes_at w (record { region = own; colour = colour; count = n })) count
     ∙ played_nodes w client colour own sync home same) f.folded
 
+-- which is no further than that
+pub within_line : (w : World) (client colour own : ℕ) (kept : KeptLine PartFold) (count : ℕ) → own ≡ home_of w client
+    → count ≡ length (line (w.histories own colour)) → IsKeptLine IsPart w (home_of w client) colour kept
+    → kept.count ≤ count
+within_line w client colour own kept count home is f =
+    let low : kept.count ≤ length (line (w.histories own colour)) =
+    subst (λ (r : ℕ). kept.count ≤ length (line (w.histories r colour))) (sym home) f.within in
+    omega (arith, low, is)
+
+-- one of which no node is folded
+pub part_opened : (colours : List ℕ) (place at count : ℕ) (kept : KeptLine PartFold) (state : PartFold) → kept.state ≡ state
+    → state.part ≡ record { place = place; colours = count } → place ≡ at → count ≡ length colours
+    → kept.state.part ≡ part_at colours at
+part_opened colours place at count kept state is part same many =
+    ap (λ (s : PartFold). s.part) is
+    ∙ (part
+    ∙ (ap (λ (n : ℕ). let p : Part = record { place = n; colours = count } in p) same
+    ∙ ap (λ (n : ℕ). let p : Part = record { place = at; colours = n } in p) many))
+
 -- as it stands at the key's place
 module _ (w : World) (client : ℕ) (colours key : List ℕ) (fold : TxFolds)
     (f : AreTxFolds w (kinds.Parts (home_of w client) colours) fold) (place colour : ℕ) (kept : KeptLine PartFold)
@@ -200,16 +221,33 @@ module _ (w : World) (client : ℕ) (colours key : List ℕ) (fold : TxFolds)
     ruled = f.ruled;
   }
 
--- what it answers
-pub part_answer : (part other : Part) (nodes : List ObjectNode) (key bytes : List ℕ) (sync asked : SyncPiece) (answer : Answer)
-    → part ≡ other → key ≡ bytes → sync ≡ asked
-    → answer ≡ peek_answer (undecided_after part nodes) (part_value part nodes key) sync
-    → answer ≡ peek_answer (undecided_after other nodes) (part_value other nodes bytes) asked
-part_answer part other nodes key bytes sync asked answer same of as is =
-    is
-    ∙ (ap (λ (p : Part). peek_answer (undecided_after p nodes) (part_value p nodes key) sync) same
-    ∙ (ap (λ (k : List ℕ). peek_answer (undecided_after other nodes) (part_value other nodes k) sync) of
-    ∙ ap (peek_answer (undecided_after other nodes) (part_value other nodes bytes)) as))
+-- a client's sync of a key's shard, and the transaction for which the part waits
+module _ (w : World) (client : ℕ) (colours key bytes : List ℕ) (colour : ℕ) (is : colour ≡ shard_of colours key)
+    (same : bytes ≡ key) where
+  its_shard : shard_of colours bytes ≡ colour
+  its_shard = ap (shard_of colours) same ∙ sym is
+
+  pub synced_here : (sync : SyncPiece) → sync ≡ sync_now w client (shard_of colours bytes) → sync ≡ sync_now w client colour
+  synced_here sync at_bytes = at_bytes ∙ ap (sync_now w client) its_shard
+
+  pub waits_here : (waits : Option Key)
+      → waits ≡ undecided_after (part_of colours bytes) (nodes_now w client (shard_of colours bytes))
+      → waits ≡ undecided_after (part_of colours key) (nodes_now w client colour)
+  waits_here waits at_bytes =
+      at_bytes
+      ∙ (ap (λ (k : List ℕ). undecided_after (part_of colours k) (nodes_now w client (shard_of colours bytes))) same
+      ∙ ap (λ (c : ℕ). undecided_after (part_of colours key) (nodes_now w client c)) its_shard)
+
+-- a play leaves the shape
+pub play_shape : (w v : World) (client colour : ℕ) → v ≡ after w (Play client colour) → v.shape ≡ w.shape
+play_shape w v client colour is =
+    ap (λ (x : World). x.shape) is
+    ∙ choice (λ (x : World). x.shape ≡ w.shape) (may_play w client colour) (after_play w client colour) w (λ _. refl)
+    (λ _. refl)
+
+pub play_reached : (w v : World) (client colour : ℕ) → IsReached w → v ≡ after w (Play client colour) → IsReached v
+play_reached w v client colour reached is =
+    subst IsReached (sym is) (run_reached w (Play client colour ∷ []) reached)
 
 -- THE NODES THAT A DECIDE READS
 
@@ -339,10 +377,10 @@ module _ (command : Command) (text : List ℕ) (colour : ℕ) (w new : World) wh
 -- BEHIND THE SYNC
 
 -- a read that found no memory before its first raise ends as one whose first raise finds none
-unraised : (g : Grants) (helps : ℕ → ℕ → Bool) (w : World) (client : ℕ) (colours : List ℕ) → colours ≢ []
-    → stamped_read (record g { raises = λ _. false; helps = helps }) w client colours ≡ record { world = w; ends = Unraised }
-unraised g helps w client [] some = absurd (some refl)
-unraised g helps w client (c ∷ colours) some = refl
+unraised : (g : Grants) (helps : ℕ → ℕ → Bool) (w : World) (u : ℕ) (colours : List ℕ) → colours ≢ []
+    → stamped_read (record g { raises = λ _. false; helps = helps }) w u colours ≡ record { world = w; ends = Unraised }
+unraised g helps w u [] some = absurd (some refl)
+unraised g helps w u (c ∷ colours) some = refl
 
 module _ (command : Command) (own : List ℕ) (sync : SyncPiece) (waits : Key) where
   abbrev Decides : World → World → Answer → Type 0
@@ -429,6 +467,28 @@ module _ (command : Command) (own : List ℕ) (sync : SyncPiece) (waits : Key) w
               ∙ (ap (λ (t : List ℕ). decision_ended all state command x sync.colour t (told commits)) (sym text_is)
               ∙ said.is all refl refl state (told commits)));
         }
+
+-- by the colours that were read, as they are listed
+pub ruled_so : (command : Command) (own : List ℕ) (sync : SyncPiece) (waits : Key) (old x : World) (stamp : ℕ)
+    (raises : List RaisePiece) (syncs : List SyncPiece) (cs : List ℕ) → cs ≡ rising own
+    → ReadsStamped old x command.client (rising own)
+    (Whole stamp raises syncs (keys_read x command.client stamp (rising own)))
+    → (new : World) (commits : Bool) (text : List ℕ) (last : Ended)
+    → commits ≡ commits_among (map (object_node_at x) (keys_read x command.client stamp cs)) waits
+    → text ≡ decision_text (record { key = waits; commits = commits }) → EndsDecision command sync.colour text x new last
+    → DecidesBehind command own sync waits old new (answers.Decided commits waits.stamp sync stamp raises syncs last)
+ruled_so command own sync waits old x stamp raises syncs cs is reads new commits text last commits_are =
+    ruled command own sync waits old x stamp raises syncs (keys_read x command.client stamp (rising own)) reads new commits
+    text last
+    (commits_are
+    ∙ ap (λ (l : List ℕ). commits_among (map (object_node_at x) (keys_read x command.client stamp l)) waits) is)
+
+-- steps lead there
+pub behind_to : (command : Command) (own : List ℕ) (sync : SyncPiece) (waits : Key) (old new : World) (answer : Answer)
+    → DecidesBehind command own sync waits old new answer → RunsTo old new
+behind_to command own sync waits old new answer d =
+    subst (RunsTo old) (ap (λ (s : State). s.world) (d.is (unanswered old)))
+    (decided_to d.grants (unanswered old) command own sync old (Some waits))
 
 -- ALL OF IT
 
