@@ -19,12 +19,12 @@ returns-in-Stood c =
     c.in-Ok.answer c.in-Stood.stamp c.in-Stood._row c.in-Stood.points c.as_slice.result.now _ c.in-Stood.is
     c.as_slice.ensures c.in-Ok.ensures.ok
 
-pub returns-in_default : goal.returns-in_default
-returns-in_default c =
+pub returns-in-Ok : goal.returns-in-Ok
+returns-in-Ok c =
     ends_without_stamp c.args.command.now c.args.text.now c.args.colour (world_of c.args.world.now)
     (world_of c.append_one.new.world) c.in-Ok.answer c.in_default.not-Stood c.in-Ok.ensures.ok
 
-pub returns-in-Err : goal.returns-in-Err
-returns-in-Err c =
+pub returns : goal.returns
+returns c =
     ends_without_memory c.args.command.now c.args.text.now c.args.colour (world_of c.args.world.now)
     (world_of c.append_one.new.world) c.in-Err.ensures.err
