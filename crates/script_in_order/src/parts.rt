@@ -307,15 +307,7 @@ pub fn decide(
         unreachable!()
     };
     match &mut folds.of[object as usize] {
-        Fold::Tx(fold) => decide_in(
-            alloc,
-            command,
-            colours.as_slice(),
-            all,
-            key,
-            world,
-            fold,
-        ),
+        Fold::Tx(fold) => decide_in(alloc, command, colours.as_slice(), all, key, world, fold),
         _ => unreachable!(),
     }
 }

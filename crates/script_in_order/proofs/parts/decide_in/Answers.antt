@@ -1,4 +1,4 @@
-use Rattle.std.proofs.Common.{◌≡◌, ◌<◌, [], ◌∷◌, refl, sym, subst}
+use Rattle.std.proofs.Common.{◌<◌, [], ◌∷◌, refl, sym, subst}
 use Rattle.log_node.specs.declared.node.Shape.{Shape}
 use Rattle.world_laws.specs.declared.steps.Step.TheVariants.{Play}
 use Rattle.world_laws.specs.Worlds.{home_of}

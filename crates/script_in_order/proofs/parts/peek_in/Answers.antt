@@ -4,7 +4,7 @@ use Rattle.world_laws.specs.Worlds.{home_of}
 use Rattle.script_text.specs.declared.script.Kind.TheVariants as kinds
 use Rattle.world_code.specs.WorldView.{world_of}
 use Rattle.script_in_order.proofs.FoldsKept.{tx_stays}
-use Rattle.script_in_order.proofs.PartSteps.{shard_is, shard_within, peek_trimmed, peek_done}
+use Rattle.script_in_order.proofs.PartSteps.{shard_is, peek_trimmed, peek_done}
 use Rattle.script_in_order.proofs.parts.peek_in.Goals as goal
 
 pub returns-in-Some-clause-ok : goal.returns-in-Some-clause-ok

@@ -1,5 +1,4 @@
-use Rattle.std.proofs.Common.{◌≡◌, List, [], ◌∷◌, length, ap, sym, subst, ◌∙◌, arith, length-append}
-use Rattle.object_fold.specs.declared.kept_line.KeptLine.{KeptLine}
+use Rattle.std.proofs.Common.{[], ◌∷◌, length, ap, sym, subst, arith, length-append}
 use Rattle.part_fold.specs.declared.part_fold.PartFold.{PartFold}
 use Rattle.part_fold.specs.PartStates.{IsPart}
 use Rattle.script_in_order.specs.Folds.{ArePartFolds}

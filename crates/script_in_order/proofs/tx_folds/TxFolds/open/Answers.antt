@@ -1,4 +1,4 @@
-use Rattle.std.proofs.Common.{◌≡◌, ℕ, List, Vec, Global, sym, subst}
+use Rattle.std.proofs.Common.{Vec, Global, sym, subst}
 use Rattle.object_fold.specs.declared.kept_line.KeptLine.{KeptLine}
 use Rattle.part_fold.specs.declared.part_fold.PartFold.{PartFold}
 use Rattle.script_text.specs.declared.script.Kind.{Kind}
