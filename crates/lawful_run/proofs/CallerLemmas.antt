@@ -6,7 +6,8 @@ pub use Rattle.lawful_run.proofs.HiddenReads.{kept_after_hidden, hides_more, hid
 pub use Rattle.lawful_run.proofs.HiddenReads.{hides_without}
 pub use Rattle.lawful_run.proofs.Later.{explained_later}
 pub use Rattle.lawful_run.proofs.LaterAppends.{append_later, unshown_later}
-pub use Rattle.lawful_run.proofs.LaterReads.{raise_later, raises_later, syncs_later, clear_later, hides_syncs_later}
+pub use Rattle.lawful_run.proofs.LaterFacts.{taken_same, objects_later}
+pub use Rattle.lawful_run.proofs.LaterReads.{raise_later, raises_later, syncs_later, piece_same, clear_later, read_later, keys_later, hides_syncs_later}
 pub use Rattle.lawful_run.proofs.LettingGo.{before_is, behind_is, asks_before, commit_asks}
 pub use Rattle.lawful_run.proofs.Prefixes.{get-append, get_within, prefix_get, prefix_length, prefix_take}
 pub use Rattle.lawful_run.proofs.Lines.{append_of, node_there}

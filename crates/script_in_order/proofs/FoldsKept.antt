@@ -1,6 +1,6 @@
 -- Folds stay right while the world goes on.
 use Rattle.std.proofs.Common.{◌≡◌, true, false, ℕ, zero, suc, ◌<◌, ◌≤◌, List, [], ◌∷◌, ◌++◌, length, map, take, Vec, Global, Option, Some, None, get_or, set, length-set, refl, ap, sym, subst, ◌∙◌, inl, inr, ◌⊎◌, arith}
-use Rattle.std.specs.Prelude.{◌≢◌, slice_get}
+use Rattle.std.specs.Prelude.{◌≢◌, slice_get, slice_index}
 use Rattle.std.specs.List.{Contains}
 use Rattle.std.specs.Option.{option_map}
 use Rattle.std.specs.Vec.{with_item}
@@ -13,6 +13,11 @@ use Rattle.object_fold.specs.declared.tx_state.TxState.{TxState}
 use Rattle.object_fold.specs.Nodes.{ObjectNode}
 use Rattle.object_fold.specs.Maps.{Value, shard_value}
 use Rattle.object_fold.specs.States.{IsShardMap, IsValueQueue, IsTxState}
+use Rattle.part_fold.specs.declared.part_fold.PartFold.{PartFold}
+use Rattle.part_fold.specs.declared.ruled_fold.RuledFold.{RuledFold}
+use Rattle.part_fold.specs.Agreement.{part_at}
+use Rattle.part_fold.specs.PartStates.{IsPart}
+use Rattle.part_fold.specs.Ruled.{IsRuled}
 use Rattle.tree_fold.specs.declared.fold.TreeFold.{TreeFold}
 use Rattle.tree_fold.specs.TreeStates.{IsTree}
 use Rattle.col_core.specs.History.{line}
@@ -31,10 +36,11 @@ use Rattle.script_in_order.specs.CausalFolds.{IsCausalFold, AreCausalFolds}
 use Rattle.script_in_order.proofs.CausalLater.{fold_later}
 use Rattle.script_in_order.specs.declared.folds.FirstNodes.{FirstNodes}
 use Rattle.script_in_order.specs.declared.lines_fold.LinesFold.{LinesFold}
+use Rattle.script_in_order.specs.declared.tx_folds.TxFolds.{TxFolds}
 use Rattle.script_in_order.proofs.LinesFolds.{lines_stay}
 use Rattle.script_in_order.specs.declared.folds.Fold.{Fold}
 use Rattle.script_in_order.specs.declared.folds.Fold.TheVariants as folds
-use Rattle.script_in_order.specs.Folds.{IsKeptLine, IsShardFold, AreShardFolds, IsQueueFold, IsLinesFold, IsFoldOf, AreFolded, ShardsWithin, QueueWithin, IsTreeAt, whole_line, nodes_at}
+use Rattle.script_in_order.specs.Folds.{IsKeptLine, IsShardFold, AreShardFolds, IsQueueFold, IsLinesFold, IsPartFold, ArePartFolds, AreItsParts, AreTxFolds, IsFoldOf, AreFolded, ShardsWithin, QueueWithin, IsTreeAt, whole_line, nodes_at}
 
 module _ (w v : World) (reached : IsReached w) (to : RunsTo w v) where
   line_stays : {F : Type 0} (Holds : F → List ObjectNode → Type 0) (home colour : ℕ) (kept : KeptLine F)
@@ -72,6 +78,21 @@ module _ (w v : World) (reached : IsReached w) (to : RunsTo w v) where
         fold_later w v to.steps reached to.run region colour (omega (arith, a, b)) f.small fold (f.each region fold there);
   }
 
+  parts_stay : (kind : Kind) (parts : List (KeptLine PartFold)) → AreItsParts w kind parts → AreItsParts v kind parts
+  parts_stay (kinds.Parts home colours) parts f = λ place kept there.
+      let right = f place kept there in record {
+        part_is = right.part_is;
+        folded = line_stays IsPart home (slice_index colours place) kept right.folded;
+      }
+  parts_stay _ parts f = tt
+
+  pub tx_stays : (kind : Kind) (fold : TxFolds) → AreTxFolds w kind fold → AreTxFolds v kind fold
+  tx_stays kind fold f = record {
+    map = lines_stay w v reached to IsTxState fold.map f.map;
+    parts = parts_stay kind fold.parts.items f.parts;
+    ruled = lines_stay w v reached to IsRuled fold.ruled f.ruled;
+  }
+
   fold_stays : (kind : Kind) (fold : Fold) → IsFoldOf w kind fold → IsFoldOf v kind fold
   fold_stays kind (folds.Map shards) (home, colours, is, each) = (
     home,
@@ -84,7 +105,7 @@ module _ (w v : World) (reached : IsReached w) (to : RunsTo w v) where
   )
   fold_stays kind (folds.Queue queue) (home, colour, is, f) = (home, colour, is, line_stays IsValueQueue home colour queue f)
   fold_stays kind (folds.Causal regions) (colour, is, f) = (colour, is, causal_stays colour regions.items f)
-  fold_stays kind (folds.Tx fold) (is, f) = (is, lines_stay w v reached to IsTxState fold f)
+  fold_stays kind (folds.Tx fold) (is, f) = (is, tx_stays kind fold f)
   fold_stays kind (folds.Tree fold) (home, colours, is, f) = (
     home,
     colours,
@@ -304,7 +325,7 @@ other_kind : (kind other : Kind) → is_tx kind ≡ true → kind ≡ other → 
 other_kind kind other is e not = let f : true ≡ false = sym is ∙ (ap is_tx e ∙ not) in let g : ⊥ = cc in g
 
 pub only_tx : (w : World) (kind : Kind) → is_tx kind ≡ true → (fold : Fold) → IsFoldOf w kind fold
-    → ((tx : LinesFold TxState) → fold ≡ folds.Tx tx → ⊥) → ⊥
+    → ((tx : TxFolds) → fold ≡ folds.Tx tx → ⊥) → ⊥
 only_tx w kind is (folds.Map shards) (h, cs, e, right) n = other_kind kind (kinds.Map h cs) is e refl
 only_tx w kind is (folds.Queue queue) (h, c, e, right) n = other_kind kind (kinds.Queue h c) is e refl
 only_tx w kind is (folds.Causal regions) (c, e, right) n = other_kind kind (kinds.Causal c) is e refl
@@ -320,15 +341,59 @@ module _ (w : World) (objects : List Object) (all : List Fold) (object : ℕ) (f
   there_of : (fold : Fold) → fold ≡ get_or all object fold → IsFoldOf w has.found.kind fold
   there_of fold there = fold_there w objects all object has.found.kind f its_kind fold there
 
-  pub tx_of : (fold : Fold) (tx : LinesFold TxState) → fold ≡ get_or all object fold → fold ≡ folds.Tx tx
-      → IsLinesFold IsTxState w tx
+  pub tx_of : (fold : Fold) (tx : TxFolds) → fold ≡ get_or all object fold → fold ≡ folds.Tx tx
+      → AreTxFolds w has.found.kind tx
   tx_of fold tx there same = (subst (IsFoldOf w has.found.kind) same (there_of fold there)).1
 
-  pub none_else : (fold : Fold) → fold ≡ get_or all object fold → ((tx : LinesFold TxState) → fold ≡ folds.Tx tx → ⊥) → ⊥
+  pub none_else : (fold : Fold) → fold ≡ get_or all object fold → ((tx : TxFolds) → fold ≡ folds.Tx tx → ⊥) → ⊥
   none_else fold there = only_tx w has.found.kind has.kind fold (there_of fold there)
 
-  pub tx_put : (tx : LinesFold TxState) → IsLinesFold IsTxState w tx → AreFolded w objects (set all object (folds.Tx tx))
+  pub tx_put : (tx : TxFolds) → AreTxFolds w has.found.kind tx → AreFolded w objects (set all object (folds.Tx tx))
   tx_put tx right = fold_put w objects all object has.found.kind f its_kind (folds.Tx tx) (has.kind, right)
+
+-- the map in place of what was folded of it
+pub map_with : (w : World) (kind : Kind) (fold : TxFolds) (map : LinesFold TxState) → AreTxFolds w kind fold
+    → IsLinesFold IsTxState w map → AreTxFolds w kind (record fold { map = map })
+map_with w kind fold map f right = record { map = right; parts = f.parts; ruled = f.ruled }
+
+-- what became of transactions, in place of what was folded of it
+pub ruled_with : (w : World) (kind : Kind) (fold : TxFolds) (ruled : LinesFold RuledFold) → AreTxFolds w kind fold
+    → IsLinesFold IsRuled w ruled → AreTxFolds w kind (record fold { ruled = ruled })
+ruled_with w kind fold ruled f right = record { map = f.map; parts = f.parts; ruled = right }
+
+-- an object of another kind has no parts that could be wrong
+pub no_parts : (w : World) (kind : Kind) (parts : List (KeptLine PartFold))
+    → ((home : ℕ) (colours : List ℕ) → kind ≡ kinds.Parts home colours → ⊥) → AreItsParts w kind parts
+no_parts w (kinds.Parts home colours) parts none = absurd (none home colours refl)
+no_parts w _ parts none = tt
+
+-- one part of a map in place of another
+pub parts_with : (w : World) (home : ℕ) (colours : List ℕ) (parts : List (KeptLine PartFold)) (n : ℕ)
+    (kept : KeptLine PartFold) → ArePartFolds w home colours parts → IsPartFold w home colours n kept
+    → ArePartFolds w home colours (set parts n kept)
+parts_with w home colours parts n kept f right = λ m other there. turn m other (set_cases parts n m kept other there) where
+  turn : (m : ℕ) (other : KeptLine PartFold) → ((m ≡ n) × (kept ≡ other)) ⊎ ((m ≢ n) × (slice_get parts m ≡ Some other))
+      → IsPartFold w home colours m other
+  turn m other (inl p) =
+      subst (λ (k : ℕ). IsPartFold w home colours k other) (sym p.0) (subst (IsPartFold w home colours n) p.1 right)
+  turn m other (inr p) = f m other p.1
+
+-- one part more, of which no node is folded
+pub parts_more : (w : World) (home : ℕ) (colours : List ℕ) (parts : List (KeptLine PartFold)) (kept : KeptLine PartFold)
+    → ArePartFolds w home colours parts → kept.state.part ≡ part_at colours (length parts) → kept.count ≡ 0
+    → IsPart kept.state [] → ArePartFolds w home colours (parts ++ kept ∷ [])
+parts_more w home colours parts kept f is none empty = λ m other there. turn m other (push_cases parts m kept other there)
+  where
+    turn : (m : ℕ) (other : KeptLine PartFold)
+        → ((m ≡ length parts) × (kept ≡ other)) ⊎ ((m ≢ length parts) × (slice_get parts m ≡ Some other))
+        → IsPartFold w home colours m other
+    turn m other (inl p) =
+        subst (λ (k : ℕ). IsPartFold w home colours k other) (sym p.0)
+        (subst (IsPartFold w home colours (length parts)) p.1 (record {
+          part_is = is;
+          folded = line_opened IsPart w home (slice_index colours (length parts)) kept none empty;
+        }))
+    turn m other (inr p) = f m other p.1
 
 -- the fold of a tree
 module _ (w : World) (home : ℕ) (colours : List ℕ) where

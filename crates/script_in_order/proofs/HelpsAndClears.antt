@@ -155,6 +155,7 @@ found_with marks finds = record {
   raises = λ _. true;
   read_helps = λ _ _. true;
   items = true;
+  own = true;
 }
 
 finds_from : (marks : ℕ → Bool) (before finds : List (ℕ → Bool))

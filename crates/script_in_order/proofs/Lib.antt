@@ -34,3 +34,4 @@ mod ReadTold
 mod TxVerdicts
 mod GuardSteps
 mod TreeSteps
+mod PartSteps

@@ -1,5 +1,5 @@
 -- What of each object is folded, and when that is right.
-use Rattle.std.specs.Prelude.{◌≡◌, IsTrue, ℕ, ◌≤◌, ◌<◌, List, [], length, map, take, drop, Some, slice_get}
+use Rattle.std.specs.Prelude.{◌≡◌, IsTrue, ℕ, ◌≤◌, ◌<◌, List, [], length, map, take, drop, Some, slice_get, slice_index}
 use Rattle.std.specs.List.{Contains, fold}
 use Rattle.log_node.specs.declared.ids.Key.{Key}
 use Rattle.object_fold.specs.declared.kept_line.KeptLine.{KeptLine}
@@ -7,6 +7,10 @@ use Rattle.object_fold.specs.declared.queue.ValueQueue.{ValueQueue}
 use Rattle.object_fold.specs.declared.shard_map.ShardMap.{ShardMap}
 use Rattle.object_fold.specs.Nodes.{ObjectNode}
 use Rattle.object_fold.specs.States.{IsShardMap, IsValueQueue, IsTxState}
+use Rattle.part_fold.specs.declared.part_fold.PartFold.{PartFold}
+use Rattle.part_fold.specs.Agreement.{part_at}
+use Rattle.part_fold.specs.PartStates.{IsPart}
+use Rattle.part_fold.specs.Ruled.{IsRuled}
 use Rattle.tree_fold.specs.TreeStates.{IsTree}
 use Rattle.col_core.specs.History.{line}
 use Rattle.playback.specs.Merging.{merged, up_to}
@@ -19,6 +23,7 @@ use Rattle.script_meaning.specs.States.{kind_in}
 use Rattle.script_meaning.specs.Dequeues.{object_node_at}
 use Rattle.script_in_order.specs.CausalFolds.{AreCausalFolds}
 use Rattle.script_in_order.specs.declared.lines_fold.LinesFold.{LinesFold}
+use Rattle.script_in_order.specs.declared.tx_folds.TxFolds.{TxFolds}
 use Rattle.script_in_order.specs.declared.folds.FirstNodes.{FirstNodes}
 use Rattle.script_in_order.specs.declared.folds.Fold.{Fold}
 use Rattle.script_in_order.specs.declared.folds.Fold.TheVariants as folds
@@ -75,11 +80,32 @@ pub record AreReadUpTo (w : World) (client stamp : ℕ) (colours : List ℕ) (fi
   pub cut : (first : FirstNodes) → Contains firsts first
       → take first.count (whole_line w first) ≡ up_to stamp (whole_line w first)
 
+-- the fold is of the part at a place of a map with these colours, and of the first nodes of its line at home
+pub record IsPartFold (w : World) (home : ℕ) (colours : List ℕ) (place : ℕ) (kept : KeptLine PartFold) : Type 0 where
+  pub part_is : kept.state.part ≡ part_at colours place
+  pub folded : IsKeptLine IsPart w home (slice_index colours place) kept
+
+-- there may be one for each place of a colour
+abbrev pub ArePartFolds : World → ℕ → List ℕ → List (KeptLine PartFold) → Type 0
+ArePartFolds w home colours parts =
+    (place : ℕ) (kept : KeptLine PartFold) → slice_get parts place ≡ Some kept → IsPartFold w home colours place kept
+
+-- the parts of an object of this kind, if it is a map that is played by them
+abbrev pub AreItsParts : World → Kind → List (KeptLine PartFold) → Type 0
+AreItsParts w (kinds.Parts home colours) parts = ArePartFolds w home colours parts
+AreItsParts w _ parts = Unit {0}
+
 -- an object is folded from the first nodes of some lines, whose stamps are up to the fold's
 pub record IsLinesFold {F : Type 0} (Holds : F → List ObjectNode → Type 0) (w : World) (fold : LinesFold F) : Type 0 where
   pub there : (first : FirstNodes) → Contains fold.firsts.items first → AreThere w first
   pub low : (key : Key) → Contains (first_keys w fold.firsts.items) key → key.stamp ≤ fold.stamp
   pub folded : Holds fold.kept.state (map (object_node_at w) (first_keys w fold.firsts.items))
+
+-- what is folded of a transactional map of this kind is right
+pub record AreTxFolds (w : World) (kind : Kind) (fold : TxFolds) : Type 0 where
+  pub map : IsLinesFold IsTxState w fold.map
+  pub parts : AreItsParts w kind fold.parts.items
+  pub ruled : IsLinesFold IsRuled w fold.ruled
 
 -- the fold is of an object of this kind, and right
 abbrev pub IsFoldOf : World → Kind → Fold → Type 0
@@ -89,7 +115,7 @@ IsFoldOf w kind (folds.Queue queue) =
     (home : ℕ) × (colour : ℕ) × (kind ≡ kinds.Queue home colour) × IsQueueFold w home colour queue
 IsFoldOf w kind (folds.Causal regions) =
     (colour : ℕ) × (kind ≡ kinds.Causal colour) × AreCausalFolds w colour regions.items
-IsFoldOf w kind (folds.Tx fold) = IsTrue (is_tx kind) × IsLinesFold IsTxState w fold
+IsFoldOf w kind (folds.Tx fold) = IsTrue (is_tx kind) × AreTxFolds w kind fold
 IsFoldOf w kind (folds.Tree fold) =
     (home : ℕ) × (colours : List ℕ) × (kind ≡ kinds.Tree home colours) × IsLinesFold IsTree w fold
 

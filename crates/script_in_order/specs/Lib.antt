@@ -6,6 +6,7 @@ pub mod Stamped
 pub mod Reports
 pub mod Reading
 pub mod Telling
+pub mod Deciding
 pub mod Transacting
 pub mod CausalFolds
 pub mod Folds

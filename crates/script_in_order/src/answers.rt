@@ -13,6 +13,7 @@ use crate::gets::{get, get_keys};
 use crate::guarded::append_next;
 use crate::moves::{pull, trim};
 use crate::object_appends::{delete, enqueue, put, put_all};
+use crate::parts::{decide, peek};
 use crate::queues::dequeue;
 use crate::scans::scan;
 use crate::stops::stop;
@@ -86,6 +87,8 @@ pub fn answer(
         What::Ls { object, path } => list_names(
             alloc, objects, command, *object, path, world, folds,
         ),
+        What::Peek { object, key } => peek(alloc, objects, command, *object, key, world, folds),
+        What::Decide { object, key } => decide(alloc, objects, command, *object, key, world, folds),
         What::Read { .. } | What::Commit { .. } => unreachable!(),
     }
 }

@@ -24,8 +24,9 @@ ghost use Rattle.script_in_order.specs.Folds.{nodes_at, AreThere, IsKeptLine, Is
 
 use crate::causal::values;
 use crate::lines_fold::{LinesFold, LinesRead};
+use crate::tx_folds::TxFolds;
 use log_node::{ColourList, Key, Keys, ListOf, MAX_COLOURS, Names, Node, Shape, Text, Versions};
-use object_fold::{CausalMap, KeptLine, LineFold, ShardMap, TxState, ValueQueue};
+use object_fold::{CausalMap, KeptLine, LineFold, ShardMap, ValueQueue};
 use report_text::KeyAnswer;
 use script_text::{Kind, Object, Script};
 use std::alloc::{AllocError, Global};
@@ -43,7 +44,7 @@ pub enum Fold {
     /// Of a causal map: what each region's column lets play, by region.
     Causal(Vec<CausalMap>),
     /// Of a transactional map.
-    Tx(LinesFold<TxState>),
+    Tx(TxFolds),
     /// Of a tree.
     Tree(LinesFold<TreeFold>),
 }
@@ -56,9 +57,13 @@ pub struct Folds {
 
 impl Model for Folds {
     ghost use Rattle.std.specs.Prelude.{List};
+    ghost use Rattle.std.specs.Coded.{coded_list};
+    ghost use Rattle.script_in_order.specs.contracts.folds.Fold as fold;
     ghost use Rattle.script_in_order.specs.declared.folds.Fold.{Fold};
 
     ghost Value = { List Fold };
+
+    ghost coded = { coded_list fold.the_row.coded };
 
     ghost view = { λ a. a.of.items };
 }
@@ -83,9 +88,9 @@ pub fn node_of(world: &World, key: Key) -> &Node
     }
 }
 
-// Folds on up to the first so many nodes of the line of a column at home. Without memory it stays where it was, or has come
-// a part of the way.
-fn fold_to<F: LineFold>(
+/// Folds on up to the first so many nodes of the line of a column at home. Without memory it stays where it was, or has come
+/// a part of the way.
+pub fn fold_to<F: LineFold>(
     alloc: Global,
     world: &World,
     kept: &mut KeptLine<F>,
@@ -196,7 +201,7 @@ fn open_fold(alloc: Global, kind: &Kind, shape: &Shape) -> Result<Fold, AllocErr
             home: _home,
             colour: _colour,
         } => Ok(Fold::Queue(KeptLine::new(ValueQueue::new(alloc)))),
-        Kind::Tx { .. } | Kind::Parts { .. } => Ok(Fold::Tx(LinesFold::open(alloc))),
+        Kind::Tx { .. } | Kind::Parts { .. } => Ok(Fold::Tx(TxFolds::open(alloc, kind)?)),
         Kind::Tree {
             home: _home,
             colours: _colours,
@@ -321,7 +326,7 @@ impl Folds {
             → AreFolded (world_of world.now) objects self.new }
     {
         match &mut self.of[object as usize] {
-            Fold::Tx(fold) => fold.found(alloc, world, read, keys),
+            Fold::Tx(fold) => fold.map.found(alloc, world, read, keys),
             _ => unreachable!(),
         }
     }

@@ -13,6 +13,7 @@ mod in_order;
 mod lines_fold;
 mod moves;
 mod object_appends;
+mod parts;
 mod points;
 mod queues;
 mod replies;
@@ -28,6 +29,7 @@ mod transactions;
 mod tree_answers;
 mod trees;
 mod tx_answers;
+mod tx_folds;
 
 pub use in_order::run_in_order;
 pub use told::Shown;

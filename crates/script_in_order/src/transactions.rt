@@ -139,7 +139,15 @@ fn commit_on(
     let writes = copied_pairs(alloc, pairs.as_slice())?;
     let text = write_form(alloc, &Form::Transaction { reads, writes })?;
     match &mut folds.of[object as usize] {
-        Fold::Tx(fold) => append_and_tell(alloc, command, colours, set, &text, world, fold),
+        Fold::Tx(fold) => append_and_tell(
+            alloc,
+            command,
+            colours,
+            set,
+            &text,
+            world,
+            &mut fold.map,
+        ),
         _ => unreachable!(),
     }
 }

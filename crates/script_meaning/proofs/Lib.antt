@@ -6,6 +6,7 @@ mod Lists
 mod Object
 mod Move
 mod Read
+mod Part
 mod Stop
 mod Transaction
 mod Tree

@@ -4,6 +4,7 @@ pub mod DoneCommands
 pub mod ExactReports
 pub mod FitCommands
 pub mod GrantedCommands
+pub mod GrantedDecides
 pub mod GrantedReads
 pub mod GrantedSteps
 pub mod HelpGrants

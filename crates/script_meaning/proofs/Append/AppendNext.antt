@@ -236,7 +236,7 @@ module _ (script : Script) (commands : List Command) (state : State) (command : 
           keeps = a.keeps;
           explains = (
             refl,
-            (λ e. absurd (let f : ⊥ = cc in f)),
+            refl,
             by_asks (log_of w) (caller_in w script.objects u) kept what set text (asks w kept) _ a.explains.2,
           );
         };

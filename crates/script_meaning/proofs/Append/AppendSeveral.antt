@@ -30,8 +30,6 @@ use Rattle.script_text.specs.declared.script.Object.{Object}
 use Rattle.script_text.specs.declared.commands.What.TheVariants as whats
 use Rattle.report_text.specs.declared.report.Answer.TheVariants as answers
 use Rattle.lawful_run.specs.Callers.{Caller, node_of}
-use Rattle.lawful_run.specs.Asks.{Stopping}
-use Rattle.lawful_run.specs.Deeds.{manner_of}
 use Rattle.lawful_run.specs.Appends.{BeginsRow, IsSettledIn, IsSettled, IsGoneAtEnd, none_for_several, IsGoneForMemory}
 use Rattle.lawful_run.specs.Refusals.{gone}
 use Rattle.lawful_run.specs.Explains.{Explains}
@@ -330,8 +328,6 @@ module _ (objects : List Object) (S : ℕ → Type 0) (grants : Grants) (w : Wor
       explains = subst (λ (x : Caller). Explains (log_of w3) x kept (whats.Append colours text)
           (answers.StampEnd (ended_colour w3 row (members colours))) [] (with_made (with_row kept) own places))
           (sym (caller_same w w3 objects u shape3))
-          (refl, no_stop, (colours, text, (refl, refl), none_for_several places (gone_at_end kept k e)));
+          (refl, refl, (colours, text, (refl, refl), none_for_several places (gone_at_end kept k e)));
     };
-  } where
-    no_stop : manner_of (whats.Append colours text) ≢ Stopping
-    no_stop e = let f : ⊥ = cc in f
+  }

@@ -50,7 +50,7 @@ pub did_end_one : (objects : List Object) (u c : ℕ) (colours : Colours) (text 
 did_end_one objects u c colours text w one client column refused =
     same_world objects u (whats.Append colours text) w (answers.StampEnd c) (λ kept k. (
       refl,
-      (λ e. absurd (let x : ⊥ = cc in x)),
+      refl,
       (
         colours,
         text,

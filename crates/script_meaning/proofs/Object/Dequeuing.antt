@@ -1,5 +1,5 @@
 -- A dequeue: after its append, a sync and what the queue answers, or that it may not be read.
-use Rattle.std.proofs.Common.{◌≡◌, ◌≢◌, inr, ℕ, ◌+◌, ◌<◌, ◌≤◌, max, true, false, List, [], ◌∷◌, ◌++◌, length, map, take, None, Some, Option, refl, ap, sym, subst, ◌∙◌, arith, append-nil}
+use Rattle.std.proofs.Common.{◌≡◌, inr, ℕ, ◌+◌, ◌<◌, ◌≤◌, max, true, false, List, [], ◌∷◌, ◌++◌, length, map, take, None, Some, Option, refl, ap, sym, subst, ◌∙◌, arith, append-nil}
 use Rattle.std.specs.Prelude.{IsTrue, ◌==◌, unwrap_or, slice_index, if◌then◌else◌}
 use Rattle.std.specs.List.{Contains}
 use mathlib.Core.Path.{fun_ext}
@@ -31,7 +31,7 @@ use Rattle.report_text.specs.declared.report.Answer.{Answer}
 use Rattle.report_text.specs.declared.report.Answer.TheVariants as answers
 use Rattle.report_text.specs.declared.report.PointPiece.{PointPiece}
 use Rattle.lawful_run.specs.Callers.{Caller, node_of}
-use Rattle.lawful_run.specs.Asks.{Manner, Stopping, Dequeuing, may_help}
+use Rattle.lawful_run.specs.Asks.{Manner, Dequeuing, may_help, tells_stamp_end}
 use Rattle.lawful_run.specs.Deeds.{manner_of, colours_synced}
 use Rattle.lawful_run.specs.Appends.{Appends, AppendsOne, AppendsUnshown, one_unshown, HasNoStamp}
 use Rattle.lawful_run.specs.Objects.{IsObjectNode, AreObjectNodes, TakesFront}
@@ -504,7 +504,7 @@ did_end_dequeue objects u c what colours text w dequeuing asks d = record {
         keeps = a.keeps;
         explains = (
           refl,
-          not_stopping,
+          ap tells_stamp_end dequeuing,
           (
             colours,
             text,
@@ -517,9 +517,6 @@ did_end_dequeue objects u c what colours text w dequeuing asks d = record {
         );
       };
 } where
-  not_stopping : manner_of what ≢ Stopping
-  not_stopping e = let x : Dequeuing ≡ Stopping = sym dequeuing ∙ e in absurd (let f : ⊥ = cc in f)
-
   made : (r : ℕ) (e : Entry) → MadeBy u (whats.Append colours text) w (home_of w u) r e
       → MadeBy u what w (home_of w u) r e
   made r e m = record {

@@ -1,13 +1,15 @@
--- After a get of a map there holds what held before.
-use Rattle.std.proofs.Common.{◌≡◌, ℕ, ◌<◌, List, [], ◌∷◌, ◌++◌, length, map, take, Option, Some, refl, ap, sym, subst, ◌∙◌, inl, inr, arith}
+-- After a get or a peek of a map there holds what held before.
+use Rattle.std.proofs.Common.{◌≡◌, ℕ, ◌<◌, List, [], ◌∷◌, ◌++◌, length, map, take, Option, Some, None, refl, ap, sym, subst, ◌∙◌, inl, inr, arith}
 use Rattle.std.specs.Prelude.{◌==◌, if◌then◌else◌}
 use Rattle.std.specs.List.{list_any}
+use Rattle.std.specs.Option.{option_map}
 use Rattle.std.proofs.lemmas.List.{take_all}
 use Rattle.log_node.specs.Vectors.{at}
 use Rattle.log_node.specs.declared.ids.Key.{Key}
 use Rattle.log_node.specs.declared.limits.TheConstants.{MAX_COLOURS}
 use Rattle.object_fold.specs.Nodes.{ObjectNode, shard_of}
 use Rattle.object_fold.specs.Maps.{Value, value_among}
+use Rattle.part_fold.specs.Parts.{Part, place_of, part_value, undecided_after}
 use Rattle.col_core.specs.declared.Entry.{Entry}
 use Rattle.col_core.specs.History.{line}
 use Rattle.col_core.specs.Keeping.{Kept}
@@ -19,9 +21,11 @@ use Rattle.world_laws.specs.Laws.{IsReached, log_of}
 use Rattle.world_laws.proofs.CallerLemmas.{played_client}
 use Rattle.script_text.specs.declared.script.Kind.{Kind}
 use Rattle.script_text.specs.declared.script.Kind.TheVariants as kinds
+use Rattle.script_text.specs.declared.script.Object.{Object}
 use Rattle.script_text.specs.declared.commands.What.TheVariants as whats
 use Rattle.script_text.specs.declared.script.Command.{Command}
 use Rattle.script_text.specs.declared.script.Script.{Script}
+use Rattle.script_text.specs.Apart.{is_parts}
 use Rattle.script_text.specs.Fitting.{AreObjectColours, HasObject, is_map, is_any_map}
 use Rattle.report_text.specs.declared.report.Answer.{Answer}
 use Rattle.report_text.specs.declared.report.Answer.TheVariants as answers
@@ -34,11 +38,12 @@ use Rattle.lawful_run.specs.Deeds.{AsksForKey, manner_of, colours_synced}
 use Rattle.lawful_run.specs.Explains.{Explains}
 use Rattle.lawful_run.specs.Objects.{AreObjectNodes, own_played}
 use Rattle.lawful_run.specs.Reads.{Syncs, ReadsAt, kept_after_piece}
-use Rattle.lawful_run.proofs.CallerLemmas.{explains_get, key_gets, key_synced, one_shard}
+use Rattle.lawful_run.proofs.CallerLemmas.{explains_get, explains_peek, explains_undecided, key_gets, key_synced, one_shard}
 use Rattle.script_meaning.specs.States.{State, Grants, answered, kind_in}
 use Rattle.script_meaning.specs.Stamped.{read_stamp, keys_read, stamped_read}
-use Rattle.script_meaning.specs.Dequeues.{object_node_at, first_nodes, sync_now, base_now}
-use Rattle.script_meaning.specs.Gets.{value_now, got_value, value_up_to, key_answers, keys_answer, got_keys}
+use Rattle.script_meaning.specs.Dequeues.{object_node_at, sync_now, base_now}
+use Rattle.script_meaning.specs.Gets.{value_now, got_value, got, value_up_to, key_answers, keys_answer, got_keys}
+use Rattle.script_meaning.specs.Parts.{part_of, nodes_now, peek_answer, peeked}
 use Rattle.script_meaning.proofs.Run.FitCommands as fits
 use Rattle.script_meaning.proofs.Read.AfterRead.{EndsTold, read_reached, after_read}
 use Rattle.script_meaning.proofs.Read.AfterScan.{filtered_distinct}
@@ -47,9 +52,9 @@ use Rattle.script_meaning.proofs.Object.Dequeuing.{are_objects, listed_objects}
 use Rattle.script_meaning.proofs.Object.Getting.{did_get, did_refuse_get}
 use Rattle.script_meaning.proofs.Run.Invariant.{IsStopped, Runs, IsFit, runs_done, free}
 use Rattle.script_meaning.proofs.Client.Kept.{caller_in, IsKeptBy, KeptAfter}
-use Rattle.script_meaning.proofs.Object.ObjectKinds.{object_has}
+use Rattle.script_meaning.proofs.Object.ObjectKinds.{object_has, parts_of}
 use Rattle.script_meaning.proofs.Client.OwnEvents.{finished_client}
-use Rattle.script_meaning.proofs.Object.ShardSets.{shard_below, shards_below, key_in}
+use Rattle.script_meaning.proofs.Object.ShardSets.{shard_below, shard_there, shards_below, key_in}
 use Rattle.script_meaning.proofs.Read.ShardReads.{value_read}
 use Rattle.script_meaning.proofs.Read.StampedPlays.{MayLook}
 use Rattle.script_meaning.proofs.Read.StampedRaises.{AreDistinct}
@@ -71,6 +76,15 @@ map_same f g [] each = refl
 map_same f g (key ∷ keys) each =
     ap (λ (v : Value). v ∷ map f keys) (each key (inl refl))
     ∙ ap (λ (l : List Value). g key ∷ l) (map_same f g keys (λ k i. each k (inr i)))
+
+-- the nodes that the snapshot of a sync counts
+pub played_now : (objects : List Object) (w : World) → IsReached w → (u c : ℕ)
+    → AreObjectNodes (log_of w) (own_played (log_of w) (caller_in w objects u) (sync_now w u c)) (nodes_now w u c)
+played_now objects w reached u c =
+    let h = home_history w u c in
+    let count = at (played_cut w u c) (home_of w u) in
+    subst (λ (x : List Entry). AreObjectNodes (log_of w) (take count (line x)) (nodes_now w u c))
+    (sym (take_all (length h) h (omega arith))) (are_objects w reached (home_of w u) c count)
 
 module _ (script : Script) (commands : List Command) (state : State) (command : Command) (grants : Grants)
     (runs : Runs script commands state) (fit : IsFit script commands command) where
@@ -104,7 +118,7 @@ module _ (script : Script) (commands : List Command) (state : State) (command : 
       choice (Runs script commands') (may_play w u c) (answered state command (after w (Play u c)) answer [])
       (answered state command w (answers.Trimmed c (base_now w u c)) [])
       (λ ok. runs_done script commands state command runs fit (after w (Play u c)) answer []
-      (did_get script.objects w runs.reached u c few client_ok column_ok command.what getting ok answer says)
+      (did_get script.objects w runs.reached u c few client_ok column_ok command.what ok answer says)
       (choice (Finished S) (may_play w u c) (after_play w u c) w
       (λ _. finished_client S w u (played_client w u c) refl runs.finished) (λ _. runs.finished)))
       (λ refused. runs_done script commands state command runs fit w (answers.Trimmed c (base_now w u c)) []
@@ -132,16 +146,6 @@ module _ (script : Script) (commands : List Command) (state : State) (command : 
     synced = key_synced caller command.what object key (Some (kinds.Map home colours)) asked is_map
         ∙ one_shard colours key small
 
-    abbrev count : ℕ
-    count = at (played_cut w u c) (home_of w u)
-
-    -- the nodes that the sync's snapshot counts
-    played : AreObjectNodes (log_of w) (own_played (log_of w) caller (sync_now w u c)) (first_nodes w u c count)
-    played =
-        let h = home_history w u c in
-        subst (λ (x : List Entry). AreObjectNodes (log_of w) (take count (line x)) (first_nodes w u c count))
-        (sym (take_all (length h) h (omega arith))) (are_objects w runs.reached (home_of w u) c count)
-
     abbrev answer : Answer
     answer = answers.Got (value_now w u colours c key) (sync_now w u c)
 
@@ -149,7 +153,69 @@ module _ (script : Script) (commands : List Command) (state : State) (command : 
     runs_get_value =
         runs_get_by c low (key_gets command.what object key asked) synced answer
         (λ kept syncs. explains_get (log_of w) caller kept command.what object home colours key (sync_now w u c)
-        (first_nodes w u c count) asked is_map small refl syncs played)
+        (nodes_now w u c) asked is_map small refl syncs (played_now script.objects w runs.reached u c))
+
+  -- a peek at a map that is played by its parts
+  module _ (object home : ℕ) (colours key : List ℕ) (asked : AsksForKey command.what object key)
+      (of_parts : kind_in script.objects object ≡ Some (kinds.Parts home colours))
+      (has : HasObject script.objects object is_parts) where
+    abbrev shard : ℕ
+    shard = shard_of colours key
+
+    abbrev part : Part
+    part = part_of colours key
+
+    abbrev shard_sync : SyncPiece
+    shard_sync = sync_now w u shard
+
+    abbrev line_nodes : List ObjectNode
+    line_nodes = nodes_now w u shard
+
+    part_colours : AreObjectColours script.shape.colours colours
+    part_colours = subst (λ (k : Option Kind). AreObjectColours script.shape.colours (object_colours k)) of_parts
+        (object_has script.objects script.shape.regions script.shape.colours fit.kinds object is_parts has)
+
+    shard_low : shard < script.shape.colours
+    shard_low = shard_below script.shape.colours colours part_colours.some part_colours.below key
+
+    shard_small : shard < MAX_COLOURS
+    shard_small = let a = shard_low in let b = fit.few_colours in omega (arith, a, b)
+
+    shard_synced : colours_synced caller command.what ≡ shard ∷ []
+    shard_synced = key_synced caller command.what object key (Some (kinds.Parts home colours)) asked of_parts
+        ∙ one_shard colours key shard_small
+
+    -- it is answered by what the part waits for
+    answers_by : (waits : Option Key) → undecided_after part line_nodes ≡ waits
+        → (kept : Kept) → Syncs (log_of w) caller kept shard (length (home_history w u shard)) (played_cut w u shard)
+        → Explains (log_of w) caller kept command.what
+        (peek_answer waits (part_value part line_nodes key) shard_sync) []
+        (kept_after_piece (log_of w) caller kept shard_sync)
+    answers_by None is kept syncs =
+        explains_peek (log_of w) caller kept command.what object home colours key (place_of (length colours) key) shard_sync
+        (part_value part line_nodes key) line_nodes asked of_parts shard_small refl
+        (shard_there colours part_colours.some key) syncs (played_now script.objects w runs.reached u shard) is refl
+    answers_by (Some waits) is kept syncs =
+        explains_undecided (log_of w) caller kept command.what object home colours key (place_of (length colours) key)
+        shard_sync waits line_nodes asked of_parts shard_small refl (shard_there colours part_colours.some key) syncs
+        (played_now script.objects w runs.reached u shard) is
+
+    pub runs_peek_value : Runs script commands' (peeked state command colours key)
+    runs_peek_value =
+        runs_get_by shard shard_low (key_gets command.what object key asked) shard_synced
+        (peek_answer (undecided_after part line_nodes) (part_value part line_nodes key) shard_sync)
+        (answers_by (undecided_after part line_nodes) refl)
+
+  -- the same, whichever its colours are
+  pub runs_peek : (object : ℕ) (key : List ℕ) → AsksForKey command.what object key
+      → HasObject script.objects object is_parts
+      → Runs script commands' (got grants state command (kind_in script.objects object) key)
+  runs_peek object key asked has =
+      let p = parts_of has.found.kind has.kind in
+      let is : kind_in script.objects object ≡ Some (kinds.Parts p.0 p.1) =
+      ap (option_map (λ (o : Object). o.kind)) has.there ∙ ap Some p.2 in
+      subst (λ (k : Option Kind). Runs script commands' (got grants state command k key)) (sym is)
+      (runs_peek_value object p.0 p.1 key asked is has)
 
   -- several keys
   module _ (object : ℕ) (keys : List (List ℕ)) (one : (key : List ℕ) × In key keys)

@@ -1,4 +1,4 @@
--- A get of an object: after a sync, what it answers, or that the client may not play.
+-- A sync of one colour within a command: what it explains, and a get whose client may not play.
 use Rattle.std.proofs.Common.{◌≡◌, ℕ, ◌<◌, List, [], ◌∷◌, length, true, false, refl, sym, subst, arith}
 use Rattle.std.specs.List.{Contains}
 use Rattle.col_core.specs.Keeping.{Kept}
@@ -25,8 +25,7 @@ use Rattle.script_meaning.proofs.Object.Dequeuing.{same_log, is_trimmed, unplaye
 use Rattle.script_meaning.proofs.Client.Kept.{caller_in, MadeBy, Does}
 
 module _ (objects : List Object) (w : World) (reached : IsReached w) (u c : ℕ) (few : home_of w u < 4)
-    (client_ok : is_client w u ≡ true) (column_ok : is_column w (home_of w u) c ≡ true) (what : What)
-    (getting : manner_of what ≡ Getting) where
+    (client_ok : is_client w u ≡ true) (column_ok : is_column w (home_of w u) c ≡ true) (what : What) where
   abbrev caller : Caller
   caller = caller_in w objects u
 
@@ -54,9 +53,9 @@ module _ (objects : List Object) (w : World) (reached : IsReached w) (u c : ℕ)
       })
 
   -- a node that it has not played is trimmed
-  pub did_refuse_get : colours_synced caller what ≡ c ∷ [] → may_play w u c ≡ false
+  pub did_refuse_get : manner_of what ≡ Getting → colours_synced caller what ≡ c ∷ [] → may_play w u c ≡ false
       → Does objects u what w w (answers.Trimmed c (base_now w u c)) []
-  did_refuse_get synced refused = record {
+  did_refuse_get getting synced refused = record {
     steps = [];
     run = refl;
     shape = refl;

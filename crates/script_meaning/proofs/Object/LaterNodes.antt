@@ -47,16 +47,19 @@ module _ (w v : World) (reached : IsReached w) (to : RunsTo w v) where
       subst (λ (l : List Node). slice_get l id.count ≡ Some node) p.1
       (slice_longer (w.nodes id.client) p.0 id.count node there)
 
+  pub object_stays : (key : Key) (node : Node) → node_by_id w key.id ≡ Some node
+      → object_node_at v key ≡ object_node_at w key
+  object_stays key node there =
+      ap (λ (o : Option Node). let x = unwrap_or o no_row.node in
+      let y : ObjectNode = record { key = key; colours = x.colours; text = x.text } in y)
+      (node_stays key.id node there ∙ sym there)
+
   objects_stay : (keys : List Key) → ((key : Key) → In key keys → (node : Node) × (node_by_id w key.id ≡ Some node))
       → map (object_node_at v) keys ≡ map (object_node_at w) keys
   objects_stay [] listed = refl
   objects_stay (key ∷ keys) listed =
       let n = listed key (inl refl) in
-      let same : object_node_at v key ≡ object_node_at w key =
-      ap (λ (o : Option Node). let x = unwrap_or o no_row.node in
-      let y : ObjectNode = record { key = key; colours = x.colours; text = x.text } in y)
-      (node_stays key.id n.0 n.1 ∙ sym n.1) in
-      ap (λ (x : ObjectNode). x ∷ map (object_node_at v) keys) same
+      ap (λ (x : ObjectNode). x ∷ map (object_node_at v) keys) (object_stays key n.0 n.1)
       ∙ ap (λ (l : List ObjectNode). object_node_at w key ∷ l) (objects_stay keys (λ k i. listed k (inr i)))
 
   -- its first nodes are the same
@@ -125,18 +128,23 @@ all_low stamp (key ∷ old) more low =
     (sym (if_true (nat_le key.stamp stamp) (key ∷ up_to stamp (old ++ more)) (up_to stamp (old ++ more))
     (le-leb key.stamp stamp (low key (inl refl))))) (omega (arith, rest))
 
+-- each key that stands in the line of one of its colours is below a read's stamp, or has it
+pub line_low : (w : World) → IsReached w → (u c : ℕ) (colours : List ℕ) → In c colours → (key : Key)
+    → In key (line (home_history w u c)) → key.stamp ≤ read_stamp w u colours
+line_low w reached u c colours i key j =
+    let h = home_history w u c in
+    let top = above_clock w u colours c i in
+    let x = in_line (entries h) key j in
+    let past = lawful_past_in w (held_of w reached) (home_of w u) c in
+    let low = entry_within (reverse h) past x.0 (subst (λ (l : List Standing). In x.0 l) (entries-of h) x.1) in
+    let is : clock h ≡ past_clock (reverse h) = clock-of h in
+    subst (λ (k : Key). k.stamp ≤ read_stamp w u colours) x.2 (omega (arith, low, is, top))
+
 -- A stamped read takes at least the lines of its colours that stood before it.
 pub read_behind : (w v : World) (reached : IsReached w) → RunsTo w v → (u c : ℕ) (colours : List ℕ) → In c colours
     → length (line (home_history w u c)) ≤ length (up_to (read_stamp w u colours) (line (v.histories (home_of w u) c)))
 read_behind w v reached to u c colours i =
     let h = home_history w u c in
-    let held = held_of w reached in
     let p = (later w v reached to).lines (home_of w u) c in
-    let top = above_clock w u colours c i in
     subst (λ (l : List Key). length (line h) ≤ length (up_to (read_stamp w u colours) l)) p.1
-    (all_low (read_stamp w u colours) (line h) p.0 (λ key j.
-    let x = in_line (entries h) key j in
-    let past = lawful_past_in w held (home_of w u) c in
-    let low = entry_within (reverse h) past x.0 (subst (λ (l : List Standing). In x.0 l) (entries-of h) x.1) in
-    let is : clock h ≡ past_clock (reverse h) = clock-of h in
-    subst (λ (k : Key). k.stamp ≤ read_stamp w u colours) x.2 (omega (arith, low, is, top))))
+    (all_low (read_stamp w u colours) (line h) p.0 (line_low w reached u c colours i))

@@ -14,7 +14,7 @@ use Rattle.script_text.specs.declared.commands.What.TheVariants as whats
 use Rattle.report_text.specs.declared.report.Answer.{Answer}
 use Rattle.report_text.specs.declared.report.Answer.TheVariants as answers
 use Rattle.lawful_run.specs.Callers.{Caller, node_of}
-use Rattle.lawful_run.specs.Asks.{Manner, Appending, Stopping, may_help}
+use Rattle.lawful_run.specs.Asks.{Manner, Appending, Stopping, may_help, tells_stamp_end}
 use Rattle.lawful_run.specs.Deeds.{AsksToAppend, manner_of}
 use Rattle.lawful_run.specs.Appends.{IsGoneForMemory}
 use Rattle.lawful_run.specs.Explains.{Explains, IsNoStopAtOnce}
@@ -66,7 +66,7 @@ module _ (objects : List Object) (u : ℕ) (what : What) (colours : Colours) (te
       (e.0, finds_no_memory log (caller_in w objects u) kept what colours text (asks w kept) after e.1)
   explains_as log w kept (answers.Stood stamp row points) nodes after e =
       (e.0, inl appending, by_asks log (caller_in w objects u) kept what colours text (asks w kept) _ e.2)
-  explains_as log w kept (answers.StampEnd colour) nodes after e = (e.0, not_stopping, by_asks log (caller_in w objects u) kept what colours text (asks w kept) _ e.2)
+  explains_as log w kept (answers.StampEnd colour) nodes after e = (e.0, ap tells_stamp_end appending, by_asks log (caller_in w objects u) kept what colours text (asks w kept) _ e.2)
   explains_as log w kept (answers.Full used) nodes after e = (e.0, no_stop, e.2, by_asks log (caller_in w objects u) kept what colours text (asks w kept) _ e.3)
   explains_as log w kept (answers.Stopped steps) nodes after e = let x = e.3 in absurd (let f : ⊥ = cc in f)
   explains_as log w kept (answers.Synced sync plays) nodes after e = let x = e.0 in absurd (let f : ⊥ = cc in f)
@@ -76,7 +76,10 @@ module _ (objects : List Object) (u : ℕ) (what : What) (colours : Colours) (te
       let x = e.3 in absurd (let f : ⊥ = cc in f)
   explains_as log w kept answers.SameRegion nodes after e = let x = e.3 in absurd (let f : ⊥ = cc in f)
   explains_as log w kept (answers.Based at base) nodes after e = let x = e.2 in absurd (let f : ⊥ = cc in f)
-  explains_as log w kept (answers.Got value sync) nodes after e = let x = e.3.uses in absurd (let f : ⊥ = cc in f)
+  explains_as log w kept (answers.Got value sync) nodes after e = absurd (elim e.1.2 [
+    | inl g ↦ let x = g.2.1.uses in let f : ⊥ = cc in f
+    | inr d ↦ let x = d.1.2 in let f : ⊥ = cc in f
+  ])
   explains_as log w kept (answers.GotMany values sync) nodes after e =
       let x = e.3.uses in absurd (let f : ⊥ = cc in f)
   explains_as log w kept (answers.GotKeys stamp shown raises syncs) nodes after e = let t = e.2 in absurd (elim t.5 [
@@ -89,6 +92,10 @@ module _ (objects : List Object) (u : ℕ) (what : What) (colours : Colours) (te
       let x = e.1.0 in absurd (let f : ⊥ = cc in f)
   explains_as log w kept (answers.Listed names stamp raises syncs) nodes after e =
       let x = e.3 in absurd (let f : ⊥ = cc in f)
+  explains_as log w kept (answers.Undecided stamp sync) nodes after e =
+      let x = e.1.2.3.1.uses in absurd (let f : ⊥ = cc in f)
+  explains_as log w kept (answers.Decided commits stamp sync read_stamp raises syncs ended) nodes after e =
+      let x = e.2.2 in absurd (let f : ⊥ = cc in f)
   explains_as log w kept (answers.Moved lined waiting colour events) nodes after e =
       let x = e.2 in absurd (let f : ⊥ = cc in f)
   explains_as log w kept answers.NoTx nodes after e = let x = e.4 in absurd (let f : ⊥ = cc in f)
@@ -106,7 +113,10 @@ module _ (objects : List Object) (u : ℕ) (what : What) (colours : Colours) (te
     | inl x ↦ let f : ⊥ = cc in f
     | inr y ↦ elim y [
       | inl x ↦ let f : ⊥ = cc in f
-      | inr x ↦ let f : ⊥ = cc in f
+      | inr z ↦ elim z [
+        | inl x ↦ let f : ⊥ = cc in f
+        | inr x ↦ let f : ⊥ = cc in f
+      ]
     ]
   ])
   explains_as log w kept (answers.NotHome home) nodes after e = let x = e.2 in absurd (let f : ⊥ = cc in f)

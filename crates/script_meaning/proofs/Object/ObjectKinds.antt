@@ -13,6 +13,7 @@ use Rattle.script_text.specs.declared.script.Kind.{Kind}
 use Rattle.script_text.specs.declared.script.Kind.TheVariants as kinds
 use Rattle.script_text.specs.declared.script.Object.{Object}
 use Rattle.script_text.specs.declared.commands.What.{What}
+use Rattle.script_text.specs.Apart.{is_parts}
 use Rattle.script_text.specs.Fitting.{AreObjectColours, IsKindWithin, is_tx, is_queue, is_any_map, HasObject}
 use Rattle.report_text.specs.declared.report.Answer.TheVariants as answers
 use Rattle.lawful_run.specs.Callers.{Caller}
@@ -81,6 +82,12 @@ pub queue_colour : (objects : List Object) (regions count : ℕ)
 queue_colour objects regions count all object has =
     let q = queue_of regions count has.found.kind (within objects regions count all object is_queue has) has.kind in
     (q.0, sym (colours_are objects regions count all object is_queue has) ∙ q.1, q.2)
+
+-- the home and the colours of a map that is played by its parts
+pub parts_of : (kind : Kind) → is_parts kind ≡ true
+    → (home : ℕ) × (colours : List ℕ) × (kind ≡ kinds.Parts home colours)
+parts_of (kinds.Parts home colours) t = (home, colours, refl)
+parts_of _ t = absurd (let f : ⊥ = cc in f)
 
 -- Homes
 

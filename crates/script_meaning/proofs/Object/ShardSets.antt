@@ -1,6 +1,6 @@
 -- The sets of the colours of shards.
-use Rattle.std.proofs.Common.{◌≡◌, ◌⊎◌, inl, inr, ℕ, zero, suc, ◌<◌, ◌≤◌, ◌^◌, Bool, true, false, cond, List, [], ◌∷◌, length, map, refl, ap, sym, subst, ◌∙◌, arith, eq-eqb}
-use Rattle.std.specs.Prelude.{◌==◌, ◌||◌, ◌%◌, nat_lt, sum, slice_index_or}
+use Rattle.std.proofs.Common.{◌≡◌, ◌⊎◌, inl, inr, ℕ, zero, suc, ◌<◌, ◌≤◌, ◌^◌, Bool, true, false, cond, List, [], ◌∷◌, length, map, Some, refl, ap, sym, subst, ◌∙◌, arith, eq-eqb}
+use Rattle.std.specs.Prelude.{◌==◌, ◌||◌, ◌%◌, nat_lt, sum, slice_get, slice_index_or}
 use Rattle.std.specs.List.{All, filter, list_any, range_with_len}
 use Rattle.std.proofs.Math.Nat.{mod-lt}
 use Rattle.std.proofs.lemmas.Bool.{or_cases, eqb-true, lt-ltb}
@@ -11,6 +11,7 @@ use Rattle.log_node.specs.declared.limits.TheConstants.{MAX_COLOURS}
 use Rattle.log_node.specs.Sets.{has, members, set_of}
 use Rattle.log_node.proofs.CallerLemmas.{has-set_of}
 use Rattle.object_fold.specs.Nodes.{shard_of}
+use Rattle.part_fold.specs.Parts.{place_of}
 use Rattle.col_core.proofs.CallerLemmas.{by_test, apart, contains_in, In, in_filter, in_filter-back}
 use Rattle.script_text.specs.Fitting.{AreObjectColours, HasColours}
 use Rattle.script_text.proofs.CallerLemmas.{bits_few}
@@ -92,6 +93,15 @@ in_index (x ∷ xs) (suc k) lt = inr (in_index xs k (omega (arith, lt)))
 pub shard_in : (colours : List ℕ) → 1 ≤ length colours → (key : List ℕ) → In (shard_of colours key) colours
 shard_in colours some key =
     in_index colours (sum key % length colours) (mod-lt (sum key) (omega (arith, some)))
+
+-- and stands at the key's place among them
+pub shard_there : (colours : List ℕ) → 1 ≤ length colours → (key : List ℕ)
+    → slice_get colours (place_of (length colours) key) ≡ Some (shard_of colours key)
+shard_there colours some key = found colours (place_of (length colours) key) (mod-lt (sum key) (omega (arith, some))) where
+  found : (xs : List ℕ) (k : ℕ) → k < length xs → slice_get xs k ≡ Some (slice_index_or xs k 0)
+  found [] k lt = absurd (let f : ⊥ = omega (arith, lt) in f)
+  found (x ∷ xs) zero lt = refl
+  found (x ∷ xs) (suc k) lt = found xs k (omega (arith, lt))
 
 -- each colour of the shards is a key's
 pub of_key : (colours : List ℕ) (keys : List (List ℕ)) (c : ℕ) → In c (shards colours keys)

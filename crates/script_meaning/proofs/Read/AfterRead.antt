@@ -1,5 +1,5 @@
 -- What a command has done that makes a stamped read, by how that ended.
-use Rattle.std.proofs.Common.{◌≡◌, ℕ, List, [], true, refl, subst, ap, sym, inr}
+use Rattle.std.proofs.Common.{◌≡◌, ℕ, List, [], true, refl, subst, ap, sym, inl, inr}
 use Rattle.log_node.specs.declared.ids.Counts.{Counts}
 use Rattle.log_node.specs.declared.ids.Key.{Key}
 use Rattle.log_node.specs.Seen.{PlacedNode}
@@ -125,7 +125,7 @@ module _ (objects : List Object) (S : ℕ → Type 0) (state : State) (command :
         record {
           after = h.after;
           keeps = h.keeps;
-          explains = (refl, inr (inr reading), refuses kept colour base h);
+          explains = (refl, inr (inr (inl reading)), refuses kept colour base h);
         })) did.to.finished
     so_by_end Unraised ended = no_memory ended
 

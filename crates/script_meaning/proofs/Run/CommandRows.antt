@@ -18,7 +18,7 @@ use Rattle.lawful_run.specs.Deeds.{AsksForKey}
 use Rattle.lawful_run.proofs.CallerLemmas.{make_asks, remove_asks, move_asks}
 use Rattle.script_meaning.specs.States.{State, Grants, all_granted}
 use Rattle.script_meaning.specs.Stamped.{shown_key, scan_answer}
-use Rattle.script_meaning.specs.Objects.{caller_in, node_said, set_said}
+use Rattle.script_meaning.specs.Objects.{caller_in, exact_text, node_said, set_said}
 use Rattle.script_meaning.specs.Gets.{keys_answer}
 use Rattle.script_meaning.specs.Telling.{all_colours}
 use Rattle.script_meaning.specs.Trees.{names_answer}
@@ -31,11 +31,13 @@ use Rattle.script_meaning.proofs.Object.GetRuns as getting
 use Rattle.script_meaning.proofs.Object.CausalRuns.{runs_get}
 use Rattle.script_meaning.proofs.Object.ObjectForms.{a_key}
 use Rattle.script_meaning.proofs.Object.ShardSets.{shard_members}
+use Rattle.script_meaning.proofs.Part.DecideRuns.{runs_decide}
 use Rattle.script_meaning.proofs.Read.AfterScan as scanning
 use Rattle.script_meaning.proofs.Transaction.CommitRuns as committing
 use Rattle.script_meaning.proofs.Tree.ChangeRuns as changing
 use Rattle.script_meaning.proofs.Tree.NameRuns as listing
 use Rattle.script_meaning.proofs.Run.GrantedCommands.{Extends, HadMemory, append_extends, append_exact, stop_extends, stop_exact, sync_extends, pull_extends, pull_exact, trim_extends, read_extends, reads_exact, kept_extends, kept_exact, commit_extends, commit_exact, changed_extends, changed_exact, deq_extends, deq_exact, got_extends, got_exact, only_extends}
+use Rattle.script_meaning.proofs.Run.GrantedDecides.{decide_extends, decide_exact}
 use Rattle.script_meaning.proofs.Run.Invariant.{Runs, IsFit}
 use Rattle.script_meaning.proofs.Tree.TreeLaws.{TreesReadBack}
 
@@ -94,6 +96,11 @@ module _ (back : ReadsBack) (tree : TreesReadBack) (script : Script) (commands :
       ))
   runs_what (whats.Ls object path) asked within uses =
       listing.runs_names tree.1 script commands state command grants runs fit object path asked uses.0 uses.1
+  runs_what (whats.Peek object key) asked within uses =
+      getting.runs_peek script commands state command grants runs fit object key
+      (subst (λ (w : What). AsksForKey w object key) (sym asked) (record { uses = refl; gets = refl })) uses.0
+  runs_what (whats.Decide object key) asked within uses =
+      runs_decide script commands state command grants runs fit object key asked uses.0
   runs_what what asked within uses =
       appending.runs_said script commands state command grants runs fit asked refl _ uses.0 _ _ refl refl
 
@@ -127,8 +134,10 @@ module _ (objects : List Object) (grants : Grants) (state : State) (command : Co
       changed_extends objects grants state command object (move_of (below_root_of source) (below_root_of target))
   one_command_extends (whats.Ls object path) =
       read_extends objects grants state command (all_colours objects state command object) (λ v. names_answer v path) (λ _ _. [])
+  one_command_extends (whats.Peek object key) = got_extends objects grants state command _ key
+  one_command_extends (whats.Decide object key) = decide_extends objects grants state command object key
   one_command_extends what =
-      append_extends objects grants state command (set_said caller what) (node_said caller what).text (members (set_said caller what))
+      append_extends objects grants state command (set_said caller what) (exact_text (node_said caller what).text) (members (set_said caller what))
 
   pub one_command_exact : (what : What) → HadMemory u (done_one objects grants state command what)
       → done_one objects grants state command what ≡ done_one objects all_granted state command what
@@ -154,5 +163,7 @@ module _ (objects : List Object) (grants : Grants) (state : State) (command : Co
       changed_exact objects grants state command object (move_of (below_root_of source) (below_root_of target))
   one_command_exact (whats.Ls object path) =
       reads_exact objects grants state command (all_colours objects state command object) (λ v. names_answer v path) (λ _ _. [])
+  one_command_exact (whats.Peek object key) = λ _. got_exact objects grants state command _ key
+  one_command_exact (whats.Decide object key) = decide_exact objects grants state command object key
   one_command_exact what =
-      append_exact objects grants state command (set_said caller what) (node_said caller what).text (members (set_said caller what))
+      append_exact objects grants state command (set_said caller what) (exact_text (node_said caller what).text) (members (set_said caller what))

@@ -34,6 +34,7 @@ use Rattle.report_text.specs.declared.report.ReplyLine.{ReplyLine}
 use Rattle.object_fold.specs.Nodes.{shard_of}
 use Rattle.object_fold.specs.Queues.{front_after}
 use Rattle.object_fold.specs.Transactions.{value_of, writes_after}
+use Rattle.part_fold.specs.Parts.{part_value, undecided_after}
 use Rattle.script_meaning.specs.States.{State, Grants, all_granted, answered}
 use Rattle.script_meaning.specs.Helping.{all_cleared}
 use Rattle.script_meaning.specs.Appends.{with_single, Continuation, answered_stood, appended_by_so, appended_so, appended, stopped, has_no_row_left, append_steps, ended_colour, point_in}
@@ -51,6 +52,7 @@ use Rattle.script_meaning.specs.Transactions.{keys_answered, read_in, verdict_te
 use Rattle.script_meaning.specs.Guards.{has_moved, appended_next}
 use Rattle.script_meaning.specs.Trees.{change_tells, changed}
 use Rattle.script_meaning.specs.CausalGets.{causal_values, nodes_up_to_cut}
+use Rattle.script_meaning.specs.Parts.{part_of, nodes_now, peek_answer}
 use Rattle.script_meaning.specs.Meaning.{TellsNoWant}
 use Rattle.script_meaning.proofs.Run.GrantedSteps.{IsClean, RunsTo, stays_there, runs_on, clean_from, complete_exact, taken_exact, clears_run, clears_exact}
 use Rattle.script_meaning.proofs.Run.Invariant.{line_of}
@@ -64,7 +66,7 @@ pub record GoesOn (from : World) (old new : State) : Type 0 where
 abbrev pub Extends : State → State → Type 0
 Extends old new = GoesOn old.world old new
 
-goes_before : {old new : State} (w v : World) → RunsTo w v → GoesOn v old new → GoesOn w old new
+pub goes_before : {old new : State} (w v : World) → RunsTo w v → GoesOn v old new → GoesOn w old new
 goes_before {old} {new} w v r more = record { world = runs_on w v new.world r more.world; replies = more.replies }
 
 pub answer_goes : (state : State) (command : Command) (w' : World) (answer : Answer) (nodes : List PlacedNode) {v : World}
@@ -84,7 +86,7 @@ pub record HadMemory (client : ℕ) (state : State) : Type 0 where
   pub tells : (r : ReplyLine) → In r (state.replies client) → TellsNoWant r.answer
 
 -- by a test that is made with memory granted everywhere too
-by_sides : {client : ℕ} (b : Bool) (x y x' y' : State) → (HadMemory client x → x ≡ x') → (HadMemory client y → y ≡ y')
+pub by_sides : {client : ℕ} (b : Bool) (x y x' y' : State) → (HadMemory client x → x ≡ x') → (HadMemory client y → y ≡ y')
     → HadMemory client (cond b x y) → cond b x y ≡ cond b x' y'
 by_sides true x y x' y' f g had = f had
 by_sides false x y x' y' f g had = g had
@@ -106,11 +108,11 @@ module _ (objects : List Object) (grants : Grants) (state : State) (command : Co
   caller = caller_in w objects u
 
   -- the answer, in a world to which steps have led
-  answers_so : (v : World) (answer : Answer) → GoesOn v state (answered state command v answer [])
+  pub answers_so : (v : World) (answer : Answer) → GoesOn v state (answered state command v answer [])
   answers_so v answer = answer_goes state command v answer [] (stays_there v)
 
   -- no want of memory is answered then
-  told : (v : World) (answer : Answer) → HadMemory u (answered state command v answer []) → TellsNoWant answer
+  pub told : (v : World) (answer : Answer) → HadMemory u (answered state command v answer []) → TellsNoWant answer
   told v answer had =
       let line = line_of command answer [] in
       had.tells line
@@ -131,7 +133,7 @@ module _ (objects : List Object) (grants : Grants) (state : State) (command : Co
       (record { steps = Single u c text ∷ []; run = refl })
       (clears_run grants u (entry_key (single_stamp w u c) (next_id w u)) (c ∷ []) (after w (Single u c text)))
 
-  single_exact : (text : List ℕ) (c : ℕ) → IsClean (with_single grants w u text c)
+  pub single_exact : (text : List ℕ) (c : ℕ) → IsClean (with_single grants w u text c)
       → with_single grants w u text c ≡ with_single all_granted w u text c
   single_exact text c clean =
       clears_exact grants u (entry_key (single_stamp w u c) (next_id w u)) (c ∷ []) (after w (Single u c text)) clean
@@ -307,7 +309,7 @@ module _ (objects : List Object) (grants : Grants) (state : State) (command : Co
   module _ (whole : World → ℕ → List RaisePiece → List SyncPiece → List Key → State)
       (goes : (v : World) (stamp : ℕ) (raises : List RaisePiece) (syncs : List SyncPiece) (keys : List Key)
       → GoesOn v state (whole v stamp raises syncs keys)) where
-    end_goes : (v : World) (ends : ReadEnd) → GoesOn v state (ended_so grants state command (whole v) v ends)
+    pub end_goes : (v : World) (ends : ReadEnd) → GoesOn v state (ended_so grants state command (whole v) v ends)
     end_goes v (Whole stamp raises syncs keys) =
         choice (GoesOn v state) grants.items (whole v stamp raises syncs keys)
         (answered state command v answers.NoMemory []) (λ _. goes v stamp raises syncs keys)
@@ -556,6 +558,11 @@ module _ (objects : List Object) (grants : Grants) (state : State) (command : Co
       let c = shard_of colours key in get_extends c (answers.Got (value_now w u colours c key) (sync_now w u c))
   got_extends (Some (kinds.Causal colour)) key =
       get_extends colour (answers.GotMany (causal_values (nodes_up_to_cut w u colour) key) (sync_now w u colour))
+  got_extends (Some (kinds.Parts home colours)) key =
+      let c = shard_of colours key in
+      let part = part_of colours key in
+      let nodes = nodes_now w u c in
+      get_extends c (peek_answer (undecided_after part nodes) (part_value part nodes key) (sync_now w u c))
   got_extends _ key = nothing_done
 
   pub got_exact : (kind : Option Kind) (key : List ℕ) → got grants state command kind key ≡ got all_granted state command kind key

@@ -19,7 +19,7 @@ use Rattle.script_text.specs.declared.commands.What.{What}
 use Rattle.script_text.specs.declared.commands.What.TheVariants as whats
 use Rattle.script_text.specs.Fitting.{AreObjectColours, HasColours}
 use Rattle.report_text.specs.declared.report.Answer.{Answer}
-use Rattle.lawful_run.specs.Asks.{Committing, Stopping, colours_of_object, may_help, shards}
+use Rattle.lawful_run.specs.Asks.{Committing, Stopping, colours_of_object, may_help, shards, tells_stamp_end}
 use Rattle.lawful_run.specs.Deeds.{colours_synced, manner_of}
 use Rattle.lawful_run.specs.Callers.{Caller}
 use Rattle.lawful_run.specs.Explains.{Explains}
@@ -65,7 +65,7 @@ module _ (objects : List Object) (u : ℕ) (what : What) (committing : manner_of
     refused_as no_memory e =
         (refl, finds_no_memory (log_of w') there kept what set text (asks w' kept same) after e.1)
     refused_as (no_stamp colour) e =
-        (refl, not_stopping, by_asks (log_of w') there kept what set text (asks w' kept same) _ e.2)
+        (refl, ap tells_stamp_end committing, by_asks (log_of w') there kept what set text (asks w' kept same) _ e.2)
     refused_as (no_row used) e = (
       refl,
       λ c t f. not_stopping (ap manner_of f),

@@ -31,8 +31,8 @@ is_one : (kind : Kind)
 is_one kind (inl at) = ap is_tx at.2
 is_one kind (inr at) = ap is_tx at.2
 
-pub returns-in-Tx : goal.returns-in-Tx
-returns-in-Tx c = λ w same. (is_one c.args.kind.now c.in-Tx.is, c.open-in-Tx.ensures.folded w)
+pub returns-in_ok-open-in-Tx : goal.returns-in_ok-open-in-Tx
+returns-in_ok-open-in-Tx c = λ w same. (is_one c.args.kind.now c.in-Tx.is, c.in_ok-open-in-Tx.ensures w)
 
 pub returns-in-Tree : goal.returns-in-Tree
 returns-in-Tree c = λ w same. (c.in-Tree._home, c.in-Tree._colours, c.in-Tree.is, c.open.ensures.folded w)

@@ -8,7 +8,8 @@ use Rattle.script_meaning.proofs.CallerLemmas.{pairs_are}
 use Rattle.script_in_order.specs.declared.folds.Fold.{Fold}
 use Rattle.script_in_order.specs.declared.folds.Fold.TheVariants as folds
 use Rattle.script_in_order.specs.Folds.{AreFolded}
-use Rattle.script_in_order.proofs.FoldsKept.{tx_of, none_else, tx_put}
+use Rattle.script_in_order.specs.declared.tx_folds.TxFolds.{TxFolds}
+use Rattle.script_in_order.proofs.FoldsKept.{map_with, tx_of, none_else, tx_put}
 use Rattle.script_in_order.proofs.ObjectSteps.{kind_is, small}
 use Rattle.script_in_order.proofs.TellSteps.{folds_after}
 use Rattle.script_in_order.proofs.TransactionSteps.{tx_is, whole_members, whole_low, whole_some, set_made, its_set, its_some, its_low, commit_told}
@@ -60,8 +61,8 @@ append_and_tell-requires c =
           has c.shards_of-set.result set_is;
       many = its_some objects c.args.command.now object c.args.pairs.now c.args.reads regions count few c.requires.kinds
           other has c.shards_of-set.result set_is c.requires.uses.1;
-      folded = tx_of w objects c.args.folds.now object c.requires.folded has c.index_mut.result.now c.in-Tx.fold there
-          c.in-Tx.is;
+      folded = (tx_of w objects c.args.folds.now object c.requires.folded has c.index_mut.result.now c.in-Tx.fold there
+          c.in-Tx.is).map;
     }
 
 pub unreachable-requires : goal.unreachable-requires
@@ -91,11 +92,15 @@ pub returns-clause-folded : goal.returns-clause-folded
 returns-clause-folded c =
     let v = world_of c.append_and_tell.new.world in
     let objects = c.args.objects.now in
-    let new : Fold = folds.Tx c.append_and_tell.new.fold in
-    subst (λ (l : List Fold). AreFolded v objects (set l c.args.object new)) (sym c.folds.view_is)
-    (tx_put v objects c.args.folds.now c.args.object
-    (folds_after verdict_tells objects c.args.command.now c.args.object
+    let has = c.requires.uses.0 in
+    let there = subst (λ (l : List Fold). c.index_mut.result.now ≡ get_or l c.args.object c.index_mut.result.now)
+    c.folds.view_is c.index_mut.ensures.value in
+    let all = folds_after verdict_tells objects c.args.command.now c.args.object
     (its_set objects c.args.object c.args.reads c.args.pairs.now) (form_text (forms.Transaction c.args.reads c.args.pairs.now))
     (world_of c.args.world.now) v c.args.folds.now c.append_and_tell.result c.is_whole.ensures.reached
-    (returns-clause-ok c) c.append_and_tell.ensures.err c.requires.folded) c.requires.uses.0 c.append_and_tell.new.fold
-    c.append_and_tell.ensures.folded)
+    (returns-clause-ok c) c.append_and_tell.ensures.err c.requires.folded in
+    let old = tx_of v objects c.args.folds.now c.args.object all has c.index_mut.result.now c.in-Tx.fold there c.in-Tx.is in
+    let new : TxFolds = record c.in-Tx.fold { map = c.append_and_tell.new.fold } in
+    subst (λ (l : List Fold). AreFolded v objects (set l c.args.object (folds.Tx new))) (sym c.folds.view_is)
+    (tx_put v objects c.args.folds.now c.args.object all has new
+    (map_with v has.found.kind c.in-Tx.fold c.append_and_tell.new.fold old c.append_and_tell.ensures.folded))

@@ -1,0 +1,6 @@
+use Rattle.std.proofs.Common.{◌≡◌, ◌%◌, sum, take}
+use Rattle.script_in_order.proofs.tx_folds.place_of.Given as goal
+
+-- the sum of the bytes so far
+abbrev pub invariant-loop-byte : goal.invariant-loop-byte
+invariant-loop-byte l = l.place ≡ sum (take l.byte-index l.key) % l.colours
