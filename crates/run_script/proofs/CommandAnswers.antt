@@ -54,7 +54,7 @@ module _ (log : Log) (caller : Caller) (kept after : Kept) where
 
     pub ended : (colour : ℕ) → HasNoStamp log caller kept (node_of caller kept colours text) colour after
         → Explains log caller kept (whats.Append colours text) (answers.StampEnd colour) [] after
-    ended colour is = (refl, λ e. let f : ⊥ = cc (e) in f, (colours, text, (refl, refl), is))
+    ended colour is = (refl, refl, (colours, text, (refl, refl), is))
 
     pub full : (used : ℕ) → HasNoRowLeft caller kept colours used → after ≡ kept
         → Explains log caller kept (whats.Append colours text) (answers.Full used) [] after
@@ -109,7 +109,7 @@ module _ (log : Log) (caller : Caller) (kept after : Kept) where
 
     pub scan_trimmed : (colour : ℕ) (base : Counts) → RefusesRead log caller kept (members colours) colour base after
         → Explains log caller kept (whats.Scan colours) (answers.Trimmed colour base) [] after
-    scan_trimmed colour base refused = (refl, inr (inr refl), refused)
+    scan_trimmed colour base refused = (refl, inr (inr (inl refl)), refused)
 
     pub scan_no_memory : HidesRead log caller kept (members colours) after
         → Explains log caller kept (whats.Scan colours) answers.NoMemory [] after

@@ -140,15 +140,17 @@ module _ (s : Store) (c d : Client) (on : RestsOn s c d) (answer : Answer) (aske
               (told_home c home (Ok got) tells)) ok.explained
               (λ log kept after r. (
                 refl,
-                object,
-                key,
-                asks object,
-                home,
-                colours,
-                at,
-                synced ∙ ap (λ (k : ℕ). k ∷ []) (sym ok.synced),
+                (
+                  r.1.nodes,
+                  r.1.played,
+                  inl (
+                    Some (kinds.Map home colours),
+                    key,
+                    (object, asks object, at, synced ∙ ap (λ (k : ℕ). k ∷ []) (sym ok.synced)),
+                    r.1.value_is,
+                  ),
+                ),
                 r.0,
-                r.1,
                 r.2,
               ))
           by (Err fault) tells ok err =
@@ -220,8 +222,7 @@ module _ (s : Store) (c d : Client) (on : RestsOn s c d) (answer : Answer) where
       refused (faults.NotHome shown) is far =
           gives_away s c d on objects (whats.Deq object) (inl refl) (Some home) shown (ap object_home at) is
       refused (faults.Append fault) is far =
-          gives_refused s c d on objects (whats.Deq object) (inl refl) (colour ∷ []) dequeue_text
-          (λ e. let f : ⊥ = cc (e) in f) asks fault is far
+          gives_refused s c d on objects (whats.Deq object) (inl refl) (colour ∷ []) dequeue_text refl asks fault is far
       refused (faults.Sync fault) is far = absurd is
       refused (faults.Unread stamp (sync_faults.Trimmed shown base)) is far =
           gives_by s c d on objects (whats.Deq object) (answers.UnreadTrimmed stamp shown base)

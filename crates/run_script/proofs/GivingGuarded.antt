@@ -36,7 +36,7 @@ module _ (s : Store) (c d : Client) (on : RestsOn s c d) (idle : Helps d → Hel
   gives_no_stamp is =
       gives s c d on.client on.same on.goes on.grows on.finished idle only (answers.StampEnd colour) []
       (FindsNoStamp colour text) refl is
-      (λ log caller kept after r. (refl, λ e. let f : ⊥ = cc (e) in f, (r.0, text, (r.1, refl), r.2)))
+      (λ log caller kept after r. (refl, refl, (r.0, text, (r.1, refl), r.2)))
 
   pub gives_not_done : DidNothing s c d → ServesLog s c d only answers.NoMemory []
   gives_not_done is = gives_nothing s c d on.client on.same on.goes on.grows on.finished idle only refl is

@@ -14,7 +14,7 @@ use Rattle.script_text.specs.Commands.{use_of}
 use Rattle.report_text.specs.declared.report.Answer.{Answer}
 use Rattle.report_text.specs.declared.report.Answer.TheVariants as answers
 use Rattle.lawful_run.specs.Appends.{HasNoStamp, HasNoRowLeft}
-use Rattle.lawful_run.specs.Asks.{Appending, Manner, Stopping, home_asked, may_help}
+use Rattle.lawful_run.specs.Asks.{Appending, Manner, home_asked, may_help, tells_stamp_end}
 use Rattle.lawful_run.specs.Deeds.{AsksToAppend, manner_of}
 use Rattle.lawful_run.specs.Callers.{Caller, node_of}
 use Rattle.lawful_run.specs.Explains.{Explains}
@@ -132,7 +132,7 @@ module _ (s : Store) (c d : Client) (on : RestsOn s c d) (objects : List Object)
         (λ log kept after so e. (refl, subst (HasNoMemory log who kept what) (sym e) nothing))
 
     -- of an append
-    module _ (colours text : List ℕ) (not_stop : manner_of what ≢ Stopping)
+    module _ (colours text : List ℕ) (tells : IsTrue (tells_stamp_end (manner_of what)))
         (asks : (kept : Kept) (set : Colours) → If kept → members set ≡ colours → AsksToAppend who kept what set text) where
       pub refused_if : (fault : MultiFault) → StandsNot s c d colours text (faults.Append fault)
           → ExplainsIf If what (fault_answer (faults.Append fault))
@@ -140,14 +140,14 @@ module _ (s : Store) (c d : Client) (on : RestsOn s c d) (objects : List Object)
           told_if If what (answers.Full used) (λ log caller kept after. HasNoRowLeft caller kept is.0 used × (after ≡ kept)) is.2.1
           (λ log kept after so r. (
             refl,
-            λ set asked e. not_stop (ap manner_of e),
+            λ set asked e. let two = sym tells ∙ ap (λ (w : What). tells_stamp_end (manner_of w)) e in let f : ⊥ = cc (two) in f,
             r.1,
             (is.0, text, asks kept is.0 so is.1, r.0),
           ))
       refused_if (append_faults.StampEnd colour) is =
           told_if If what (answers.StampEnd colour)
           (λ log caller kept after. HasNoStamp log caller kept (node_of caller kept is.0 text) colour after) is.2.1
-          (λ log kept after so r. (refl, not_stop, (is.0, text, asks kept is.0 so is.1, r)))
+          (λ log kept after so r. (refl, tells, (is.0, text, asks kept is.0 so is.1, r)))
       refused_if (append_faults.Stopped steps) is = absurd (let e = is.2.0 in let f : ⊥ = cc (e) in f)
       refused_if append_faults.NoMemory is =
           told_if If what answers.NoMemory (AppendFindsNoMemory is.0 text None) is.2
@@ -168,14 +168,14 @@ module _ (s : Store) (c d : Client) (on : RestsOn s c d) (objects : List Object)
     pub gives_none : d ≡ c → GivesOf s objects c d what answers.NoMemory []
     gives_none same = gives_told what answers.NoMemory helping (λ away. inl refl) (none_if Any what same)
 
-    pub gives_refused : (colours text : List ℕ) → manner_of what ≢ Stopping
+    pub gives_refused : (colours text : List ℕ) → IsTrue (tells_stamp_end (manner_of what))
         → ((kept : Kept) (set : Colours) → members set ≡ colours → AsksToAppend who kept what set text)
         → (fault : MultiFault) → StandsNot s c d colours text (faults.Append fault)
         → (IsAway who (home_asked who what) → IsHomeRefusal (fault_answer (faults.Append fault)))
         → GivesOf s objects c d what (fault_answer (faults.Append fault)) []
-    gives_refused colours text not_stop asks fault is away =
+    gives_refused colours text tells asks fault is away =
         gives_told what (fault_answer (faults.Append fault)) helping away
-        (refused_if Any what colours text not_stop (λ kept set so. asks kept set) fault is)
+        (refused_if Any what colours text tells (λ kept set so. asks kept set) fault is)
 
   -- APPENDS
 
@@ -185,14 +185,14 @@ module _ (s : Store) (c d : Client) (on : RestsOn s c d) (objects : List Object)
     may : Helping what
     may = inl (subst (λ (m : Manner). IsTrue (may_help m)) (sym appending) refl)
 
-    not_stop : manner_of what ≢ Stopping
-    not_stop e = let two = sym appending ∙ e in let f : ⊥ = cc (two) in f
+    tells_end : IsTrue (tells_stamp_end (manner_of what))
+    tells_end = subst (λ (m : Manner). IsTrue (tells_stamp_end m)) (sym appending) refl
 
     refused : (fault : ObjectFault) → PutRefused home s c d colours text fault
         → (IsAway who (home_asked who what) → IsHomeRefusal (fault_answer fault))
         → GivesOf s objects c d what (fault_answer fault) []
     refused (faults.NotHome shown) is away = gives_away what may home shown homes is
-    refused (faults.Append fault) is away = gives_refused what may colours text not_stop asks fault is away
+    refused (faults.Append fault) is away = gives_refused what may colours text tells_end asks fault is away
     refused (faults.Sync fault) is away = absurd is
     refused (faults.Unread stamp why) is away = absurd is
     refused faults.NoTx is away = absurd is

@@ -55,6 +55,7 @@ use Rattle.region_fold.specs.declared.transactions.Tx.{Tx}
 use Rattle.region_fold.specs.declared.transactions.TxMap.{TxMap}
 use Rattle.region_fold.specs.Reads.{HasNodesRead, TellRefused}
 use Rattle.region_fold.specs.Transactions.{CommitRefused, Commits, KeysRefused, ReadsKeys, transaction_text}
+use Rattle.tx_parts.specs.declared.players.PartPlayers.{PartPlayers}
 use Rattle.run_script.specs.declared.serving.opened.Opened.{Opened}
 use Rattle.run_script.specs.declared.serving.opened.Opened.TheVariants as opened
 use Rattle.run_script.specs.Opened.{KeepsReadsBut, tx_kind, versions_in}
@@ -131,7 +132,7 @@ module _ (s : Store) (c d : Client) (on : RestsOn s c d) (objects : List Object)
         (λ log caller kept after. RefusesRead log caller kept colours colour base after) may away is
         (λ log kept after r. (
           refl,
-          inr (inr reading),
+          inr (inr (inl reading)),
           subst (λ (m : Manner). Refuses log it kept (colours_synced it what) m colour base after) (sym reading)
               (subst (λ (l : List ℕ). RefusesRead log it kept l colour base after) (sym synced) r),
         ))
@@ -186,16 +187,16 @@ module _ (s : Store) (c d : Client) (on : RestsOn s c d) (objects : List Object)
 
   -- COMMITS
 
-  module _ (object : ℕ) (pairs : List Pair) (alone : Bool) (m n : TxMap) (found : Option Tx)
-      (at : kind_in objects object ≡ Some (tx_kind alone m.home m.colours)) where
+  module _ (object : ℕ) (pairs : List Pair) (players : Option PartPlayers) (m n : TxMap) (found : Option Tx)
+      (at : kind_in objects object ≡ Some (tx_kind players m.home m.colours)) where
     abbrev commit : What
     commit = whats.Commit object pairs
 
     abbrev x : Opened
-    x = opened.Tx alone m found
+    x = opened.Tx players m found
 
     abbrev y : Opened
-    y = opened.Tx alone n None
+    y = opened.Tx players n None
 
     -- a commit uses up what was read
     uses_up : (kept answered : Kept) → kept.reads object ≡ versions_in x → answered.reads ≡ kept.reads
@@ -209,7 +210,7 @@ module _ (s : Store) (c d : Client) (on : RestsOn s c d) (objects : List Object)
           → AsksToAppend it kept commit set (transaction_text rests pairs)
       asks kept set knows members_are =
           commit_asks it kept object pairs rests set (transaction_text rests pairs) (knows ∙ is)
-          (members_are ∙ ap (λ (cs : List ℕ). shards cs (version_keys rests ++ keys_of_pairs pairs)) (sym (ap object_colours at ∙ tx_colours alone m.home m.colours))) refl
+          (members_are ∙ ap (λ (cs : List ℕ). shards cs (version_keys rests ++ keys_of_pairs pairs)) (sym (ap object_colours at ∙ tx_colours players m.home m.colours))) refl
 
       untold : (fault : ObjectFault) → (IsAway it (home_asked it commit) → IsHomeRefusal (fault_answer fault))
           → TellRefused s c d (shards m.colours (version_keys rests ++ keys_of_pairs pairs)) (transaction_text rests pairs) m.colours
@@ -218,7 +219,7 @@ module _ (s : Store) (c d : Client) (on : RestsOn s c d) (objects : List Object)
       untold =
           refused_gives s c d on objects object x y commit refl (λ kept. refl) uses_up
           (shards m.colours (version_keys rests ++ keys_of_pairs pairs)) (transaction_text rests pairs) m.colours
-          (ap rising (ap object_colours at ∙ tx_colours alone m.home m.colours)) asks
+          (ap rising (ap object_colours at ∙ tx_colours players m.home m.colours)) asks
 
       committed : (verdict : Verdict) (a : Appended) (read : StampedRead)
           → (IsAway it (home_asked it commit) → IsHomeRefusal (told_answer verdict_answer (Ok (verdict, a, read))))
@@ -227,7 +228,7 @@ module _ (s : Store) (c d : Client) (on : RestsOn s c d) (objects : List Object)
       committed verdict a read away stands =
           told_gives s c d on objects object x y commit refl (λ kept. refl) uses_up
           (shards m.colours (version_keys rests ++ keys_of_pairs pairs)) (transaction_text rests pairs) m.colours
-          (ap rising (ap object_colours at ∙ tx_colours alone m.home m.colours)) asks
+          (ap rising (ap object_colours at ∙ tx_colours players m.home m.colours)) asks
           (λ own nodes. verdict_of nodes own ≡ Some verdict) m.fold.kept.last stands.set a read
           (told_answer verdict_answer (Ok (verdict, a, read))) away stands.members_are stands.explained (shown verdict) where
             shown : (verdict : Verdict) (log : Log) (kept after : Kept) → TellsBehind log it kept commit a.row
@@ -248,7 +249,7 @@ module _ (s : Store) (c d : Client) (on : RestsOn s c d) (objects : List Object)
         → ServesObject s objects c d object x y commit (fault_answer fault)
     uncommitted (faults.NotHome shown) away is =
         gives_if (answers.NotHome shown) away
-        (away_if s c d on objects (λ kept. kept.reads object ≡ versions_in x) commit (Some m.home) shown (ap object_home at ∙ tx_home alone m.home m.colours) is)
+        (away_if s c d on objects (λ kept. kept.reads object ≡ versions_in x) commit (Some m.home) shown (ap object_home at ∙ tx_home players m.home m.colours) is)
     uncommitted (faults.Append fault) away is = untold is.0 is.1 (faults.Append fault) away is.2
     uncommitted (faults.Sync fault) away is = absurd is
     uncommitted (faults.Unread stamp why) away is = untold is.0 is.1 (faults.Unread stamp why) away is.2
@@ -257,7 +258,7 @@ module _ (s : Store) (c d : Client) (on : RestsOn s c d) (objects : List Object)
         (told_if s c d on objects (λ kept. kept.reads object ≡ versions_in x) commit answers.NoTx
         (λ log caller kept after. after ≡ kept) (did_nothing s c d is.2)
         (λ log kept after knows e. subst (λ (k : Kept). Explains log it kept commit answers.NoTx [] k) (sym e)
-        (explains_no_read log it kept object pairs (ap object_home at ∙ (tx_home alone m.home m.colours ∙ ap Some (sym (on.same.1 ∙ is.0)))) (knows ∙ is.1))))
+        (explains_no_read log it kept object pairs (ap object_home at ∙ (tx_home players m.home m.colours ∙ ap Some (sym (on.same.1 ∙ is.0)))) (knows ∙ is.1))))
     uncommitted faults.NoMemory away is =
         gives_if answers.NoMemory away (none_if s c d on objects (λ kept. kept.reads object ≡ versions_in x) commit is)
 
@@ -312,36 +313,36 @@ module _ (s : Store) (c d : Client) (on : RestsOn s c d) (answer : Answer) where
           (away_from s c d on objects (whats.GetAll object keys) home (Err fault) (fault_answer fault) (ap object_home at) tells refl)
           err)
 
-  pub gives_read : (alone : Bool) (m n : TxMap) (found now : Option Tx) (keys : List (List ℕ))
+  pub gives_read : (players : Option PartPlayers) (m n : TxMap) (found now : Option Tx) (keys : List (List ℕ))
       (call : Result (List Value × Tx × StampedRead) ObjectFault) → now ≡ tx_found call
       → ShowsKeys keys (keys_found call) answer → (c.region ≢ m.home → call ≡ Err (faults.NotHome m.home))
       → IfOk call (λ r. ReadsKeys s c d m.colours m.fold.kept.last keys r.0 r.1 r.2)
       → IfErr call (KeysRefused m.home s c d (rising m.colours))
-      → GivesTo s c d (opened.Tx alone m found) (opened.Tx alone n now) (λ object. whats.Read object keys) answer
-  gives_read alone m n found now keys call is shows tells ok err = record { of = each } where
-    each : (objects : List Object) (object : ℕ) → kind_in objects object ≡ Some (tx_kind alone m.home m.colours)
-        → ServesObject s objects c d object (opened.Tx alone m found) (opened.Tx alone n now) (whats.Read object keys) answer
+      → GivesTo s c d (opened.Tx players m found) (opened.Tx players n now) (λ object. whats.Read object keys) answer
+  gives_read players m n found now keys call is shows tells ok err = record { of = each } where
+    each : (objects : List Object) (object : ℕ) → kind_in objects object ≡ Some (tx_kind players m.home m.colours)
+        → ServesObject s objects c d object (opened.Tx players m found) (opened.Tx players n now) (whats.Read object keys) answer
     each objects object at = by call is shows tells ok err where
       synced_are : colours_synced (caller_of s d objects) (whats.Read object keys) ≡ rising m.colours
-      synced_are = ap rising (ap object_colours at ∙ tx_colours alone m.home m.colours)
+      synced_are = ap rising (ap object_colours at ∙ tx_colours players m.home m.colours)
 
       by : (call : Result (List Value × Tx × StampedRead) ObjectFault) → now ≡ tx_found call
           → ShowsKeys keys (keys_found call) answer → (c.region ≢ m.home → call ≡ Err (faults.NotHome m.home))
           → IfOk call (λ r. ReadsKeys s c d m.colours m.fold.kept.last keys r.0 r.1 r.2)
           → IfErr call (KeysRefused m.home s c d (rising m.colours))
-          → ServesObject s objects c d object (opened.Tx alone m found) (opened.Tx alone n now) (whats.Read object keys) answer
+          → ServesObject s objects c d object (opened.Tx players m found) (opened.Tx players n now) (whats.Read object keys) answer
       by (Ok r) is shows tells ok err =
           let raises = map raise_piece r.2.raises in
           let syncs = map sync_piece r.2.syncs in
           let caller = caller_of s d objects in
-          subst (λ (a : Answer). ServesObject s objects c d object (opened.Tx alone m found) (opened.Tx alone n now) (whats.Read object keys) a)
+          subst (λ (a : Answer). ServesObject s objects c d object (opened.Tx players m found) (opened.Tx players n now) (whats.Read object keys) a)
           (sym shows.2)
-          (read_gives s c d on objects object keys (opened.Tx alone m found) (opened.Tx alone n now)
+          (read_gives s c d on objects object keys (opened.Tx players m found) (opened.Tx players n now)
           (answers.GotKeys r.2.stamp shows.0 raises syncs) r.1.versions
           (HasNodesRead (rising m.colours) m.fold.kept.last r.2
           (λ nodes. (r.0 ≡ values_after nodes keys) × (r.1.versions ≡ versions_after nodes keys)))
-          (ap (λ (o : Option Tx). versions_in (opened.Tx alone n o)) is)
-          (away_from s c d on objects (whats.Read object keys) m.home (Ok r) _ (ap object_home at ∙ tx_home alone m.home m.colours) tells tt) ok.1
+          (ap (λ (o : Option Tx). versions_in (opened.Tx players n o)) is)
+          (away_from s c d on objects (whats.Read object keys) m.home (Ok r) _ (ap object_home at ∙ tx_home players m.home m.colours) tells tt) ok.1
           (λ log kept read x. (
             subst (λ (v : List Version). Explains log caller kept (whats.Read object keys)
                 (answers.GotKeys r.2.stamp shows.0 raises syncs) [] (with_read read object (Some v))) (sym x.4.1)
@@ -351,59 +352,59 @@ module _ (s : Store) (c d : Client) (on : RestsOn s c d) (answer : Answer) where
             reads_keep log caller kept (rising m.colours) r.2.stamp raises syncs read x.1.0,
           )))
       by (Err fault) is shows tells ok err =
-          subst (λ (a : Answer). ServesObject s objects c d object (opened.Tx alone m found) (opened.Tx alone n now) (whats.Read object keys) a)
+          subst (λ (a : Answer). ServesObject s objects c d object (opened.Tx players m found) (opened.Tx players n now) (whats.Read object keys) a)
           (sym shows)
-          (lets_go s c d on objects object keys (opened.Tx alone m found) (opened.Tx alone n now) (fault_answer fault)
-          (ap (λ (o : Option Tx). versions_in (opened.Tx alone n o)) is) (no_keys fault)
+          (lets_go s c d on objects object keys (opened.Tx players m found) (opened.Tx players n now) (fault_answer fault)
+          (ap (λ (o : Option Tx). versions_in (opened.Tx players n o)) is) (no_keys fault)
           (refused_gives_of s c d on objects (whats.Read object keys) refl (rising m.colours) synced_are m.home
-          (ap object_home at ∙ tx_home alone m.home m.colours) fault
-          (away_from s c d on objects (whats.Read object keys) m.home (Err fault) (fault_answer fault) (ap object_home at ∙ tx_home alone m.home m.colours) tells refl)
+          (ap object_home at ∙ tx_home players m.home m.colours) fault
+          (away_from s c d on objects (whats.Read object keys) m.home (Err fault) (fault_answer fault) (ap object_home at ∙ tx_home players m.home m.colours) tells refl)
           (as_several m.home s c d (rising m.colours) fault err)))
 
-  pub gives_commit : (alone : Bool) (m n : TxMap) (found : Option Tx) (pairs : List Pair)
+  pub gives_commit : (players : Option PartPlayers) (m n : TxMap) (found : Option Tx) (pairs : List Pair)
       (call : Result (Verdict × Appended × StampedRead) ObjectFault) → answer ≡ told_answer verdict_answer call
       → (c.region ≢ m.home → call ≡ Err (faults.NotHome m.home))
       → IfOk call (λ r. (rests : Tx) × (found ≡ Some rests) × Commits s c d m.colours m.fold.kept.last rests.versions pairs r.0 r.1 r.2)
       → IfErr call (CommitRefused m.home s c d m.colours (option_map (λ (t : Tx). t.versions) found) pairs)
-      → GivesTo s c d (opened.Tx alone m found) (opened.Tx alone n None) (λ object. whats.Commit object pairs) answer
-  gives_commit alone m n found pairs call shown tells ok err = record { of = each } where
-    each : (objects : List Object) (object : ℕ) → kind_in objects object ≡ Some (tx_kind alone m.home m.colours)
-        → ServesObject s objects c d object (opened.Tx alone m found) (opened.Tx alone n None) (whats.Commit object pairs) answer
+      → GivesTo s c d (opened.Tx players m found) (opened.Tx players n None) (λ object. whats.Commit object pairs) answer
+  gives_commit players m n found pairs call shown tells ok err = record { of = each } where
+    each : (objects : List Object) (object : ℕ) → kind_in objects object ≡ Some (tx_kind players m.home m.colours)
+        → ServesObject s objects c d object (opened.Tx players m found) (opened.Tx players n None) (whats.Commit object pairs) answer
     each objects object at =
-        subst (λ (a : Answer). ServesObject s objects c d object (opened.Tx alone m found) (opened.Tx alone n None) (whats.Commit object pairs) a)
+        subst (λ (a : Answer). ServesObject s objects c d object (opened.Tx players m found) (opened.Tx players n None) (whats.Commit object pairs) a)
         (sym shown)
         (by call tells ok err) where
           by : (call : Result (Verdict × Appended × StampedRead) ObjectFault)
               → (c.region ≢ m.home → call ≡ Err (faults.NotHome m.home))
               → IfOk call (λ r. (rests : Tx) × (found ≡ Some rests) × Commits s c d m.colours m.fold.kept.last rests.versions pairs r.0 r.1 r.2)
               → IfErr call (CommitRefused m.home s c d m.colours (option_map (λ (t : Tx). t.versions) found) pairs)
-              → ServesObject s objects c d object (opened.Tx alone m found) (opened.Tx alone n None) (whats.Commit object pairs) (told_answer verdict_answer call)
+              → ServesObject s objects c d object (opened.Tx players m found) (opened.Tx players n None) (whats.Commit object pairs) (told_answer verdict_answer call)
           by (Ok r) tells ok err =
-              committed s c d on objects object pairs alone m n found at ok.0.versions
-              (ap (λ (o : Option Tx). versions_in (opened.Tx alone m o)) ok.1) r.0 r.1 r.2
-              (away_from s c d on objects (whats.Commit object pairs) m.home (Ok r) _ (ap object_home at ∙ tx_home alone m.home m.colours) tells tt) ok.2
+              committed s c d on objects object pairs players m n found at ok.0.versions
+              (ap (λ (o : Option Tx). versions_in (opened.Tx players m o)) ok.1) r.0 r.1 r.2
+              (away_from s c d on objects (whats.Commit object pairs) m.home (Ok r) _ (ap object_home at ∙ tx_home players m.home m.colours) tells tt) ok.2
           by (Err fault) tells ok err =
-              uncommitted s c d on objects object pairs alone m n found at fault
-              (away_from s c d on objects (whats.Commit object pairs) m.home (Err fault) (fault_answer fault) (ap object_home at ∙ tx_home alone m.home m.colours)
+              uncommitted s c d on objects object pairs players m n found at fault
+              (away_from s c d on objects (whats.Commit object pairs) m.home (Err fault) (fault_answer fault) (ap object_home at ∙ tx_home players m.home m.colours)
               tells refl) err
 
 -- MEMORY WAS REFUSED BEFORE ANYTHING WAS ASKED
 
-module _ (s : Store) (c : Client) (is : IsClient s c) (alone : Bool) (m n : TxMap) (found : Option Tx) where
+module _ (s : Store) (c : Client) (is : IsClient s c) (players : Option PartPlayers) (m n : TxMap) (found : Option Tx) where
   pub gives_unread : (keys : List (List ℕ))
-      → GivesTo s c c (opened.Tx alone m found) (opened.Tx alone n None) (λ object. whats.Read object keys) answers.NoMemory
+      → GivesTo s c c (opened.Tx players m found) (opened.Tx players n None) (λ object. whats.Read object keys) answers.NoMemory
   gives_unread keys = record {
     of = λ objects object at.
         let on = rests_same s c is in
-        lets_go s c c on objects object keys (opened.Tx alone m found) (opened.Tx alone n None) answers.NoMemory refl
+        lets_go s c c on objects object keys (opened.Tx players m found) (opened.Tx players n None) answers.NoMemory refl
         (λ stamp shown raises syncs e. let f : ⊥ = cc (e) in f)
         (gives_none s c c on objects (whats.Read object keys) (inl refl) refl);
   }
 
   pub gives_uncommitted : (pairs : List Pair)
-      → GivesTo s c c (opened.Tx alone m found) (opened.Tx alone n None) (λ object. whats.Commit object pairs) answers.NoMemory
+      → GivesTo s c c (opened.Tx players m found) (opened.Tx players n None) (λ object. whats.Commit object pairs) answers.NoMemory
   gives_uncommitted pairs = record {
     of = λ objects object at.
         let on = rests_same s c is in
-        uncommitted s c c on objects object pairs alone m n found at faults.NoMemory (λ far. inl refl) refl;
+        uncommitted s c c on objects object pairs players m n found at faults.NoMemory (λ far. inl refl) refl;
   }

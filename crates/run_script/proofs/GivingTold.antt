@@ -14,7 +14,7 @@ use Rattle.script_text.specs.declared.script.Object.{Object}
 use Rattle.script_text.specs.declared.commands.What.{What}
 use Rattle.report_text.specs.declared.report.Answer.{Answer}
 use Rattle.report_text.specs.declared.report.Answer.TheVariants as answers
-use Rattle.lawful_run.specs.Asks.{Committing, Manner, home_asked, may_help, rising}
+use Rattle.lawful_run.specs.Asks.{Committing, Manner, home_asked, may_help, rising, tells_stamp_end}
 use Rattle.lawful_run.specs.Callers.{Caller, node_of}
 use Rattle.lawful_run.specs.Deeds.{AsksToAppend, colours_synced, manner_of}
 use Rattle.lawful_run.specs.Explains.{Explains}
@@ -119,7 +119,7 @@ module _ (s : Store) (c d : Client) (on : RestsOn s c d) (objects : List Object)
     refused_gives (faults.Append fault) away is =
         gives_found (fault_answer (faults.Append fault)) away
         (refused_if s c d on objects Found what own text
-        (λ stopping. let two = sym committing ∙ stopping in let f : ⊥ = cc (two) in f) asks fault is)
+        (subst (λ (m : Manner). IsTrue (tells_stamp_end m)) (sym committing) refl) asks fault is)
     refused_gives (faults.Sync fault) away is = absurd is
     refused_gives (faults.Unread stamp (sync_faults.Trimmed colour base)) away is =
         gives_found (answers.UnreadTrimmed stamp colour base) away

@@ -16,8 +16,10 @@ mod GivingTold
 mod GivingGuarded
 mod GivingTrees
 mod GivingReads
+mod GivingParts
 mod ReadsFound
 mod ObjectFrames
+mod PartsKept
 mod Yielding
 mod Dealing
 mod Pieces

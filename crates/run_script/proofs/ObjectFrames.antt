@@ -1,6 +1,6 @@
 -- A client's objects while it is served: each stays open, and what is asked of one is answered by that one.
 use Rattle.std.proofs.Common.{◌≡◌, ◌⊎◌, ℕ, zero, suc, List, [], ◌∷◌, length, map, set, get_or, Some, slice_get, refl, ap, sym, subst, ◌∙◌, inl, inr, arith}
-use Rattle.std.specs.Prelude.{Bool, false, true, IsTrue, ◌<◌, ◌≤◌}
+use Rattle.std.specs.Prelude.{Bool, IsTrue, ◌<◌, ◌≤◌}
 use Rattle.std.specs.List.{All}
 use Rattle.std.proofs.lemmas.Simd.{map-map}
 use Rattle.std.proofs.lemmas.Option.{slice_get-map, get_or_from_slice_get, slice_get_within}
@@ -31,9 +31,10 @@ use Rattle.atomic_map.proofs.CallerLemmas.{map_later as atomic_later}
 use Rattle.region_fold.proofs.CallerLemmas.{map_later as tx_later}
 use Rattle.run_script.specs.declared.serving.opened.Opened.{Opened}
 use Rattle.run_script.specs.declared.serving.opened.Opened.TheVariants as opened
-use Rattle.run_script.specs.Opened.{AreKept, AreOf, HasBy, HasCommand, IsOpenedOf, IsOfOne, IsUnfolded, kind_opened, tx_kind, object_in, object_asked}
+use Rattle.run_script.specs.Opened.{AreKept, AreOf, HasBy, HasCommand, IsOpenedOf, IsOfOne, IsUnfolded, kind_opened, object_in, object_asked}
 use Rattle.run_script.specs.Serving.{ServesLog, ServesObject, GivesTo}
 use Rattle.run_script.proofs.ByPlace.{mapped, unmapped}
+use Rattle.run_script.proofs.PartsKept.{tx_players_later}
 
 -- THEY STAY OPEN
 
@@ -41,7 +42,8 @@ pub kept_later : ReadsGoOn → (s : Store) (c d : Client) (x : Opened) → IsCli
     → IsOpenedOf d x
 kept_later law s c d (opened.Map single several) is on kept =
     (map_later s c d single is on kept.0, atomic_later law s c d on several is kept.1, kept.2, kept.3)
-kept_later law s c d (opened.Tx alone map found) is on kept = (tx_later law s c d on map is kept.0, kept.1)
+kept_later law s c d (opened.Tx players map found) is on kept =
+    (tx_later law s c d on map is kept.0, kept.1, tx_players_later law s c d map map players is on (refl, refl) kept.2)
 kept_later law s c d (opened.Causal of) is on kept = causal_later s c d of is on kept
 kept_later law s c d (opened.Queue of) is on kept = queue_later s c d of is on kept
 kept_later law s c d (opened.Tree of) is on kept = tree_later law s c d on of is kept
@@ -106,11 +108,6 @@ map_colours c regions home colours few within = record {
   within = within.1.below;
   few = λ n d lt. let low = within.1.below n d lt in omega (arith, low, few);
 }
-
-pub tx_within : (alone : Bool) (c : Client) (regions home : ℕ) (colours : List ℕ) → length (tracks_of c) ≤ MAX_COLOURS
-    → IsKindWithin regions (length (tracks_of c)) (tx_kind alone home colours) → HasColoursOf c colours
-tx_within false c regions home colours few within = map_colours c regions home colours few within
-tx_within true c regions home colours few within = map_colours c regions home colours few within
 
 pub one_colour : (c : Client) (colour given : ℕ) → colour ≡ given → length (tracks_of c) ≤ MAX_COLOURS
     → colour < length (tracks_of c) → (given < length (tracks_of c)) × (given < MAX_COLOURS)

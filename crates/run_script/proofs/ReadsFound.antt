@@ -1,6 +1,6 @@
 -- What the reads of a client's objects found, while it is served.
 use Rattle.std.proofs.Common.{◌≡◌, ◌≢◌, ℕ, zero, suc, List, [], ◌∷◌, set, Option, Some, None, slice_get, refl, ap, sym, subst, ◌∙◌, inl, eq-eqb}
-use Rattle.std.specs.Prelude.{IsTrue, Bool, false, true, ◌==◌}
+use Rattle.std.specs.Prelude.{IsTrue, false, ◌==◌}
 use Rattle.std.specs.List.{All}
 use Rattle.std.proofs.lemmas.Option.{get_or_from_slice_get, slice_get_within}
 use Rattle.log_node.specs.declared.forms.Version.{Version}
@@ -29,6 +29,7 @@ use Rattle.client_law.specs.Knowing.{log_seen}
 use Rattle.log_client.specs.declared.store.Store.{Store}
 use Rattle.log_client.specs.declared.client.Client.{Client}
 use Rattle.log_client.specs.Clients.{caller_of, seen_of}
+use Rattle.tx_parts.specs.declared.players.PartPlayers.{PartPlayers}
 use Rattle.run_script.specs.declared.serving.opened.Opened.{Opened}
 use Rattle.run_script.specs.declared.serving.opened.Opened.TheVariants as opened
 use Rattle.run_script.specs.Opened.{HaveReads, IsUnfolded, KeepsReadsBut, found_in, kind_opened, tx_kind, versions_in}
@@ -39,19 +40,21 @@ use Rattle.run_script.proofs.Giving.{knowing}
 -- WHERE NOTHING IS FOUND
 
 -- the home and the colours of a transactional map, whether it keeps them to itself or not
-pub tx_home : (alone : Bool) (home : ℕ) (colours : List ℕ) → object_home (Some (tx_kind alone home colours)) ≡ Some home
-tx_home false home colours = refl
-tx_home true home colours = refl
+pub tx_home : (players : Option PartPlayers) (home : ℕ) (colours : List ℕ)
+    → object_home (Some (tx_kind players home colours)) ≡ Some home
+tx_home None home colours = refl
+tx_home (Some players) home colours = refl
 
-pub tx_colours : (alone : Bool) (home : ℕ) (colours : List ℕ) → object_colours (Some (tx_kind alone home colours)) ≡ colours
-tx_colours false home colours = refl
-tx_colours true home colours = refl
+pub tx_colours : (players : Option PartPlayers) (home : ℕ) (colours : List ℕ)
+    → object_colours (Some (tx_kind players home colours)) ≡ colours
+tx_colours None home colours = refl
+tx_colours (Some players) home colours = refl
 
 -- nothing is found of an object that is no transactional map
 pub finds_none : (x : Opened) → is_tx (kind_opened x) ≡ false → versions_in x ≡ None
 finds_none (opened.Map single several) other = refl
-finds_none (opened.Tx false map found) other = absurd (let f : ⊥ = cc (other) in f)
-finds_none (opened.Tx true map found) other = absurd (let f : ⊥ = cc (other) in f)
+finds_none (opened.Tx None map found) other = absurd (let f : ⊥ = cc (other) in f)
+finds_none (opened.Tx (Some players) map found) other = absurd (let f : ⊥ = cc (other) in f)
 finds_none (opened.Causal of) other = refl
 finds_none (opened.Queue of) other = refl
 finds_none (opened.Tree of) other = refl

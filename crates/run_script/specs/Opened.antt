@@ -1,10 +1,11 @@
 -- The objects of a script as a client has opened them, beside which it keeps them.
-use Rattle.std.specs.Prelude.{◌≡◌, Bool, false, true, ℕ, ◌≤◌, List, length, map, Option, Some, None, slice_get, IsTrue, IfSome}
+use Rattle.std.specs.Prelude.{◌≡◌, Bool, ℕ, ◌≤◌, List, length, map, Option, Some, None, slice_get, IsTrue, IfSome}
 use Rattle.std.specs.Option.{option_map}
 use Rattle.log_node.specs.declared.limits.TheConstants.{MAX_COLOURS}
 use Rattle.log_node.specs.declared.forms.Version.{Version}
 use Rattle.object_form.specs.Forms.{AreVersions}
 use Rattle.col_core.specs.Keeping.{Kept, updated}
+use Rattle.script_text.specs.declared.table.TheConstants.{PARTS}
 use Rattle.script_text.specs.Table.{is_of}
 use Rattle.script_text.specs.Fitting.{IsKindWithin, kinds_asked, HasWords}
 use Rattle.script_text.specs.Commands.{use_of}
@@ -23,18 +24,25 @@ use Rattle.causal_map.specs.CausalMaps.{IsCausalMapOf}
 use Rattle.atomic_map.specs.Several.{IsAtomicMapOf}
 use Rattle.region_fold.specs.Transactions.{IsTxMapOf}
 use Rattle.region_fold.specs.declared.transactions.Tx.{Tx}
+use Rattle.region_fold.specs.declared.transactions.TxMap.{TxMap}
+use Rattle.tx_parts.specs.declared.players.PartPlayers.{PartPlayers}
+use Rattle.tx_parts.specs.MapPlayers.{ArePlayersOf}
 use Rattle.run_script.specs.declared.serving.opened.Opened.{Opened}
 use Rattle.run_script.specs.declared.serving.opened.Opened.TheVariants as opened
 
--- a transactional map with this home and these colours, which may keep them to itself
-abbrev pub tx_kind : Bool → ℕ → List ℕ → Kind
-tx_kind false home colours = kinds.Tx home colours
-tx_kind true home colours = kinds.Parts home colours
+-- a transactional map with this home and these colours, which it keeps to itself where it has players of them
+abbrev pub tx_kind : Option PartPlayers → ℕ → List ℕ → Kind
+tx_kind None home colours = kinds.Tx home colours
+tx_kind (Some players) home colours = kinds.Parts home colours
+
+-- a transactional map that keeps its colours to itself
+abbrev pub is_parts : Kind → Bool
+is_parts = is_of PARTS
 
 -- what was opened
 abbrev pub kind_opened : Opened → Kind
 kind_opened (opened.Map single several) = kinds.Map single.home single.colours
-kind_opened (opened.Tx alone map found) = tx_kind alone map.home map.colours
+kind_opened (opened.Tx players map found) = tx_kind players map.home map.colours
 kind_opened (opened.Causal of) = kinds.Causal of.colour
 kind_opened (opened.Queue of) = kinds.Queue of.home of.colour
 kind_opened (opened.Tree of) = kinds.Tree of.home of.colours
@@ -43,11 +51,16 @@ kind_opened (opened.Tree of) = kinds.Tree of.home of.colours
 abbrev pub AreOf : List Object → List Opened → Type 0
 AreOf objects xs = map (λ (o : Object). o.kind) objects ≡ map kind_opened xs
 
+-- the players are kept beside the client, and are of the map's home and colours
+abbrev pub ArePlayersIn : Client → TxMap → PartPlayers → Type 0
+ArePlayersIn c map players = ArePlayersOf c players × (players.home ≡ map.home) × (players.colours ≡ map.colours)
+
 -- What is folded of an object is of what the client has played or read, and a commit may rest on what a read found.
 abbrev pub IsOpenedOf : Client → Opened → Type 0
 IsOpenedOf c (opened.Map single several) =
     IsMapOf c single × IsAtomicMapOf c several × (several.home ≡ single.home) × (several.colours ≡ single.colours)
-IsOpenedOf c (opened.Tx alone map found) = IsTxMapOf c map × IfSome found (λ (t : Tx). AreVersions t.versions)
+IsOpenedOf c (opened.Tx players map found) =
+    IsTxMapOf c map × IfSome found (λ (t : Tx). AreVersions t.versions) × IfSome players (ArePlayersIn c map)
 IsOpenedOf c (opened.Causal of) = IsCausalMapOf c of
 IsOpenedOf c (opened.Queue of) = IsQueueOf c of
 IsOpenedOf c (opened.Tree of) = IsTreeOf c of
@@ -61,7 +74,7 @@ AreKept c xs = (n : ℕ) (x : Opened) → slice_get xs n ≡ Some x → IsOpened
 -- what the last read of it found, and no commit has used up
 abbrev pub versions_in : Opened → Option (List Version)
 versions_in (opened.Map single several) = None
-versions_in (opened.Tx alone map found) = option_map (λ (t : Tx). t.versions) found
+versions_in (opened.Tx players map found) = option_map (λ (t : Tx). t.versions) found
 versions_in (opened.Causal of) = None
 versions_in (opened.Queue of) = None
 versions_in (opened.Tree of) = None

@@ -1,7 +1,7 @@
 -- What a reader takes from the report of a run.
 use Rattle.std.specs.Prelude.{ℕ, List}
 use Rattle.lawful_run.specs.Readings.{ReturnedAppendsStand, ClosingLinesRise, OneKey, OneCommand, OneOrder, NothingElseStands, ShownAsAppended, ShownOnce}
-use Rattle.lawful_run.specs.ObjectReadings.{ScansAreWhole, GetsAreFolds, CausalGetsAreFolds, DequeuesAreFolds, ReadsAreFolds, VerdictsAreFolds, ChangesAreFolds, ListsAreFolds}
+use Rattle.lawful_run.specs.ObjectReadings.{ScansAreWhole, GetsAreFolds, CausalGetsAreFolds, DequeuesAreFolds, ReadsAreFolds, VerdictsAreFolds, ChangesAreFolds, ListsAreFolds, UndecidedAreFolds, DecisionsAreFolds}
 use Rattle.script_text.specs.declared.script.Script.{Script}
 use Rattle.script_text.specs.Grammar.{IsScript}
 use Rattle.script_text.specs.Fitting.{IsFitting}
@@ -27,3 +27,5 @@ pub record LawsForReaders : Type 0 where
   pub verdicts : VerdictsAreFolds
   pub changes : ChangesAreFolds
   pub lists : ListsAreFolds
+  pub undecided : UndecidedAreFolds
+  pub decisions : DecisionsAreFolds

@@ -1,9 +1,13 @@
 -- What calls of objects are answered.
-use Rattle.std.specs.Prelude.{◌≡◌, ℕ, ◌≤◌, List, [], length, map, Option, Some, None, Result, Ok, Err, vec_capacity}
+use Rattle.std.specs.Prelude.{◌≡◌, ℕ, ◌<◌, ◌≤◌, List, [], ◌∷◌, length, map, Option, Some, None, Result, Ok, Err, IfOk, vec_capacity}
 use Rattle.object_fold.specs.Maps.{Value}
+use Rattle.append_core.specs.declared.several.MultiFault.{MultiFault}
 use Rattle.append_core.specs.declared.several.MultiFault.TheVariants as append_faults
+use Rattle.append_core.specs.declared.stood.Point.{Point}
 use Rattle.report_text.specs.declared.report.Answer.{Answer}
 use Rattle.report_text.specs.declared.report.Answer.TheVariants as answers
+use Rattle.report_text.specs.declared.report.Ended.{Ended}
+use Rattle.report_text.specs.declared.report.Ended.TheVariants as ends
 use Rattle.report_text.specs.declared.report.KeyAnswer.{KeyAnswer}
 use Rattle.report_text.specs.declared.report.PointPiece.{PointPiece}
 use Rattle.report_text.specs.declared.report.RaisePiece.{RaisePiece}
@@ -18,6 +22,9 @@ use Rattle.log_client.specs.declared.object_fault.ObjectFault.TheVariants as fau
 use Rattle.log_client.specs.Appends.{piece_of}
 use Rattle.log_client.specs.StampedReads.{raise_piece, sync_piece}
 use Rattle.region_fold.specs.declared.transactions.Tx.{Tx}
+use Rattle.tx_parts.specs.declared.answers.Decided.{Decided}
+use Rattle.tx_parts.specs.declared.answers.Peek.{Peek}
+use Rattle.tx_parts.specs.declared.answers.Peek.TheVariants as peeks
 use Rattle.run_script.specs.declared.serving.reads.ReadRoom.{ReadRoom}
 
 -- the answer to a call that was refused
@@ -48,6 +55,16 @@ get_answer (Err fault) = fault_answer fault
 abbrev pub many_answer : Result (List (List ℕ) × Synced) ObjectFault → Answer
 many_answer (Ok got) = answers.GotMany got.0 (sync_piece got.1)
 many_answer (Err fault) = fault_answer fault
+
+-- to a peek, by what it showed
+abbrev pub peek_shown : Peek → SyncPiece → Answer
+peek_shown (peeks.Value value) sync = answers.Got value sync
+peek_shown (peeks.Undecided key) sync = answers.Undecided key.stamp sync
+
+-- to a peek
+abbrev pub peek_answer : Result (Peek × Synced) ObjectFault → Answer
+peek_answer (Ok r) = peek_shown r.0 (sync_piece r.1)
+peek_answer (Err fault) = fault_answer fault
 
 -- STAMPED READS
 
@@ -92,3 +109,30 @@ told_answer shown (Err fault) = fault_answer fault
 abbrev pub names_answer : Result (Option (List (List ℕ)) × StampedRead) ObjectFault → Answer
 names_answer (Ok r) = answers.Listed r.0 r.1.stamp (map raise_piece r.1.raises) (map sync_piece r.1.syncs)
 names_answer (Err fault) = fault_answer fault
+
+-- DECISIONS
+
+-- the append of a decision, which has one colour, ended so
+abbrev pub ShowsEnd : Result Appended MultiFault → Ended → Type 0
+ShowsEnd (Ok a) ended =
+    (point : Point) → a.stood.points ≡ point ∷ [] → ended ≡ ends.Stood a.stood.key.stamp (piece_of point)
+ShowsEnd (Err (append_faults.StampEnd colour)) ended = ended ≡ ends.StampEnd colour
+ShowsEnd (Err append_faults.NoMemory) ended = ended ≡ ends.NoMemory
+ShowsEnd (Err fault) ended = Unit {0}
+
+-- this is the answer to a decide that made this decision, or none
+abbrev pub ShowsDecision : Synced → Option Decided → Answer → Type 0
+ShowsDecision synced None answer = answer ≡ answers.Got None (sync_piece synced)
+ShowsDecision synced (Some decided) answer =
+    (ended : Ended) × ShowsEnd decided.appended ended
+    × (answer ≡ answers.Decided decided.commits decided.key.stamp (sync_piece synced) decided.read.stamp
+    (map raise_piece decided.read.raises) (map sync_piece decided.read.syncs) ended)
+
+-- this is the answer to a decide
+abbrev pub ShowsDecide : Result (Synced × Option Decided) ObjectFault → Answer → Type 0
+ShowsDecide (Ok r) answer = ShowsDecision r.0 r.1 answer
+ShowsDecide (Err fault) answer = answer ≡ fault_answer fault
+
+-- where the decision's node stands, it stands at a point
+abbrev pub HasPoint : Decided → Type 0
+HasPoint decided = IfOk decided.appended (λ a. 0 < length a.stood.points)

@@ -8,6 +8,7 @@ mod gets;
 mod moves;
 mod object_answers;
 mod opened;
+mod parts;
 mod puts;
 mod reads;
 mod replies;

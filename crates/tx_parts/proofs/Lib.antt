@@ -1,4 +1,5 @@
 mod LaterPlays
 mod ReadAmong
 mod PlayerAnswers
+mod MapAnswers
 pub mod CallerLemmas

@@ -40,6 +40,7 @@ use Rattle.lawful_run.specs.Appends.{HasNoRowLeft}
 use Rattle.lawful_run.specs.Asks.{rising}
 use Rattle.lawful_run.specs.Callers.{Caller}
 use Rattle.lawful_run.specs.Objects.{AreObjectNodes, IsObjectNode}
+use Rattle.lawful_run.specs.Parts.{IsRuledAs, WaitsFor}
 use Rattle.lawful_run.specs.Reads.{HidesRead, RefusesRead, Syncs, greatest_played, greatest_stamp}
 use Rattle.lawful_run.proofs.CallerLemmas.{get_within, prefix_get, prefix_length}
 use Rattle.client_law.specs.Knowing.{Rest, log_seen}
@@ -66,8 +67,8 @@ use Rattle.region_fold.proofs.CallerLemmas.{colours_later, kept_later}
 use Rattle.tx_parts.specs.declared.answers.Decided.{Decided}
 use Rattle.tx_parts.specs.declared.answers.Peek.{Peek}
 use Rattle.tx_parts.specs.declared.player.PartPlayer.{PartPlayer}
-use Rattle.tx_parts.specs.Deciding.{DecideRefused, DecidesOne, EndsAs, IsRuledAs, NotRuled, PlaysUntold, ReadsOutcome, Rules, refusal_of, said_text}
-use Rattle.tx_parts.specs.Players.{IsPlayerOf, IsSamePlayer, Peeks, Plays, PlaysAs, Shows, WaitsFor, own_part}
+use Rattle.tx_parts.specs.Deciding.{DecideRefused, DecidesOne, EndsAs, NotRuled, PlaysUntold, ReadsOutcome, Rules, refusal_of, said_text}
+use Rattle.tx_parts.specs.Players.{IsPlayerOf, IsSamePlayer, Peeks, Plays, PlaysAs, Shows, own_part}
 use Rattle.tx_parts.proofs.LaterPlays.{plays_later, read_on_later, untold_later}
 use Rattle.tx_parts.proofs.ReadAmong.{apart, found, own_read}
 
@@ -221,7 +222,7 @@ module _ (s : Store) (c m : Client) (p : PartPlayer) (y : Synced) (is : IsClient
   counts_are objects kept keeps =
       ap (λ (v : Counts). at v m.region) (keeps.starts p.colour) ∙ sym (line_counted s m p.colour is lt)
 
-  module _ (key : Key) (waits : WaitsFor (own_part p) (Some key) nodes) where
+  module _ (key : Key) (waits : WaitsFor (Some key) (own_part p) nodes) where
     -- WHERE NOTHING WAS DECIDED
 
     untold : IsExplained s c m (PlaysUntold p)
@@ -329,7 +330,7 @@ module _ (s : Store) (c m : Client) (p : PartPlayer) (y : Synced) (is : IsClient
           ap (λ (k : Key). outcome (verdict_of h.2 k)) r.of_key ∙ (told.1 ∙ ap (λ (b : Bool). Some b) (sym commits))
 
       abbrev Waits : List ObjectNode → Type 0
-      Waits = WaitsFor (own_part p) (Some decided.key)
+      Waits = WaitsFor (Some decided.key) (own_part p)
 
       -- what was played and read
       abbrev Read : Log → Caller → Kept → Kept → Type 0
@@ -415,15 +416,15 @@ module _ (s : Store) (c m : Client) (p q : PartPlayer) (y : Synced) (x : RestsOn
       plays s c m p y x.client its_within answers e (Shows (own_part p) key peek)
       (subst (λ (a : Part). Shows a key peek (object_nodes (own_line m p.colour))) its_part shows)
 
-  pub waits_for : (key : Option Key) → WaitsFor q.part.state.part key (object_nodes (own_line m p.colour))
-      → Plays s c m p y (WaitsFor (own_part p) key)
+  pub waits_for : (key : Option Key) → WaitsFor key q.part.state.part (object_nodes (own_line m p.colour))
+      → Plays s c m p y (WaitsFor key (own_part p))
   waits_for key waits =
-      plays s c m p y x.client its_within answers e (WaitsFor (own_part p) key)
-      (subst (λ (a : Part). WaitsFor a key (object_nodes (own_line m p.colour))) its_part waits)
+      plays s c m p y x.client its_within answers e (WaitsFor key (own_part p))
+      (subst (λ (a : Part). WaitsFor key a (object_nodes (own_line m p.colour))) its_part waits)
 
-  module _ (key : Key) (waits : WaitsFor q.part.state.part (Some key) (object_nodes (own_line m p.colour))) where
-    its_waits : WaitsFor (own_part p) (Some key) (object_nodes (own_line m p.colour))
-    its_waits = subst (λ (a : Part). WaitsFor a (Some key) (object_nodes (own_line m p.colour))) its_part waits
+  module _ (key : Key) (waits : WaitsFor (Some key) q.part.state.part (object_nodes (own_line m p.colour))) where
+    its_waits : WaitsFor (Some key) (own_part p) (object_nodes (own_line m p.colour))
+    its_waits = subst (λ (a : Part). WaitsFor (Some key) a (object_nodes (own_line m p.colour))) its_part waits
 
     pub decides_on : (d : Client) (decided : Decided) → q.map ≡ p.map
         → Rules s m d q.colours q.colour q.map.kept.last key decided → DecidesOne s c d p y decided

@@ -19,6 +19,7 @@ use Rattle.lawful_run.specs.Appends.{HasNoStamp}
 use Rattle.lawful_run.specs.Asks.{rising}
 use Rattle.lawful_run.specs.Callers.{Caller, node_of}
 use Rattle.lawful_run.specs.Objects.{AreObjectNodes}
+use Rattle.lawful_run.specs.Parts.{IsRuledAs, WaitsFor}
 use Rattle.lawful_run.specs.Reads.{HidesRead, RefusesRead}
 use Rattle.log_client.specs.declared.store.Store.{Store}
 use Rattle.log_client.specs.declared.client.Client.{Client}
@@ -37,13 +38,9 @@ use Rattle.log_client.specs.Refusals.{RefusedBy, never}
 use Rattle.region_fold.specs.Reads.{HasNodesRead}
 use Rattle.tx_parts.specs.declared.answers.Decided.{Decided}
 use Rattle.tx_parts.specs.declared.player.PartPlayer.{PartPlayer}
-use Rattle.tx_parts.specs.Players.{Plays, PlaysAs, WaitsFor, own_part}
+use Rattle.tx_parts.specs.Players.{Plays, PlaysAs, own_part}
 
 -- DECISIONS
-
--- among these nodes the transaction with this key commits, or does not, as is said
-abbrev pub IsRuledAs : Key → Bool → List ObjectNode → Type 0
-IsRuledAs key commits nodes = outcome (verdict_of nodes key) ≡ Some commits
 
 -- the text of the decision's node
 abbrev pub said_text : Decided → List ℕ
@@ -62,7 +59,7 @@ EndsAs set text (Err (faults.Stopped steps)) log caller kept after = ⊥
 -- the append of the node that says so ended thus.
 abbrev pub DecidesAs : Colours → PartPlayer → Synced → Decided → Log → Caller → Kept → Kept → Type 0
 DecidesAs set p y decided log caller kept after =
-    (played : Kept) × PlaysAs y (WaitsFor (own_part p) (Some decided.key)) log caller kept played
+    (played : Kept) × PlaysAs y (WaitsFor (Some decided.key) (own_part p)) log caller kept played
     × (read : Kept)
     × HasNodesRead (rising p.colours) p.map.kept.last decided.read (IsRuledAs decided.key decided.commits) log caller played read
     × EndsAs set (said_text decided) decided.appended log caller read after
@@ -76,7 +73,7 @@ pub record DecidesOne (s : Store) (c d : Client) (p : PartPlayer) (y : Synced) (
 
 -- a decide answered with a decision, or with none, where the player's line waits for nothing
 abbrev pub Decides : Store → Client → Client → PartPlayer → Synced → Option Decided → Type 0
-Decides s c d p y None = Plays s c d p y (WaitsFor (own_part p) None)
+Decides s c d p y None = Plays s c d p y (WaitsFor None (own_part p))
 Decides s c d p y (Some decided) = DecidesOne s c d p y decided
 
 -- where the node stands it stands in this colour alone
@@ -105,7 +102,7 @@ pub record PlaysUntold (p : PartPlayer) (log : Log) (caller : Caller) (kept play
   pub line_is : AreObjectNodes log
       (take (at (played.starts p.colour) caller.own) (line (log.histories caller.own p.colour))) nodes
   pub key : Key
-  pub waits : WaitsFor (own_part p) (Some key) nodes
+  pub waits : WaitsFor (Some key) (own_part p) nodes
 
 -- Why nothing was decided on a transaction for which the line waits: the read was refused, or memory for it or for the text of
 -- the decision. No node was appended.

@@ -1,2 +1,3 @@
 pub mod Players
 pub mod Deciding
+pub mod MapPlayers

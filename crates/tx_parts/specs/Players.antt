@@ -1,9 +1,8 @@
 -- What a player keeps beside its client, and what its peeks answer.
-use Rattle.std.specs.Prelude.{◌≡◌, ℕ, List, Option, Some, None, slice_get}
-use Rattle.log_node.specs.declared.ids.Key.{Key}
+use Rattle.std.specs.Prelude.{◌≡◌, ℕ, List, Some, slice_get}
 use Rattle.object_fold.specs.Nodes.{ObjectNode}
 use Rattle.part_fold.specs.Agreement.{part_at}
-use Rattle.part_fold.specs.Parts.{Part, part_value, undecided_after}
+use Rattle.part_fold.specs.Parts.{Part}
 use Rattle.part_fold.specs.PartStates.{IsPart}
 use Rattle.part_fold.specs.Ruled.{IsRuled}
 use Rattle.col_core.specs.Log.{Log}
@@ -11,6 +10,7 @@ use Rattle.col_core.specs.Keeping.{Kept}
 use Rattle.lawful_run.specs.Asks.{rising}
 use Rattle.lawful_run.specs.Callers.{Caller}
 use Rattle.lawful_run.specs.Objects.{AreObjectNodes, own_played}
+use Rattle.lawful_run.specs.Parts.{HasPartValue, WaitsFor}
 use Rattle.lawful_run.specs.Reads.{Syncs, kept_after_piece}
 use Rattle.log_client.specs.declared.store.Store.{Store}
 use Rattle.log_client.specs.declared.client.Client.{Client}
@@ -56,14 +56,10 @@ pub record Plays (s : Store) (c d : Client) (p : PartPlayer) (y : Synced) (Has :
   pub synced : y.snapshot.colour ≡ p.colour
   pub explained : IsExplained s c d (PlaysAs y Has)
 
--- the first transaction of the part's line of which it is not known whether it commits, or none
-abbrev pub WaitsFor : Part → Option Key → List ObjectNode → Type 0
-WaitsFor part key nodes = undecided_after part nodes ≡ key
-
 -- what the part's line tells of a key: that transaction, and where there is none the key's value
 abbrev pub Shows : Part → List ℕ → Peek → List ObjectNode → Type 0
-Shows part key (peeks.Undecided waits) nodes = WaitsFor part (Some waits) nodes
-Shows part key (peeks.Value value) nodes = WaitsFor part None nodes × (value ≡ part_value part nodes key)
+Shows part key (peeks.Undecided waits) nodes = WaitsFor (Some waits) part nodes
+Shows part key (peeks.Value value) nodes = HasPartValue key value part nodes
 
 -- a peek at a key showed this
 abbrev pub Peeks : Store → Client → Client → PartPlayer → List ℕ → Peek → Synced → Type 0

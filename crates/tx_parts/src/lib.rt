@@ -4,6 +4,8 @@
 
 mod answers;
 mod player;
+mod players;
 
 pub use answers::{Decided, Peek};
 pub use player::PartPlayer;
+pub use players::PartPlayers;

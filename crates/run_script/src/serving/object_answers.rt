@@ -9,6 +9,7 @@ ghost use Rattle.run_script.specs.Serving.{ServesObject};
 
 use crate::serving::gets::{deq, get};
 use crate::serving::opened::Opened;
+use crate::serving::parts::{decide, peek};
 use crate::serving::puts::{del, enq, put, put_all};
 use crate::serving::reads::{commit, get_all, read};
 use crate::serving::trees::{change, list};
@@ -112,6 +113,14 @@ pub fn object_answer<R: Wait, G: Gate>(
             object: _object,
             path,
         } => list(rt, alloc, store, gate, client, opened, path),
+        What::Peek {
+            object: _object,
+            key,
+        } => peek(rt, alloc, store, gate, client, opened, key),
+        What::Decide {
+            object: _object,
+            key,
+        } => decide(rt, alloc, store, gate, client, opened, key),
         What::Append { .. } | What::Stop { .. } | What::Sync { .. } => unreachable!(),
         What::Scan { .. } | What::Pull { .. } | What::Trim { .. } => unreachable!(),
         What::Only { .. } => unreachable!(),

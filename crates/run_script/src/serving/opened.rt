@@ -1,20 +1,21 @@
 // The objects of a script as a client opens them.
 ghost use Rattle.std.specs.Prelude.{◌≡◌, IfOk};
 ghost use Rattle.std.specs.List.{All};
-ghost use Rattle.run_script.specs.Opened.{kind_opened, tx_kind, AreOf, IsUnfolded};
+ghost use Rattle.run_script.specs.Opened.{kind_opened, AreOf, IsUnfolded};
 
 use atomic_map::AtomicMap;
 use causal_map::CausalMap;
 use log_map::LogMap;
-use log_node::{ColourList, ListOf};
+use log_node::{ColourList, ListOf, MAX_COLOURS};
 use log_queue::LogQueue;
 use log_tree::LogTree;
 use region_fold::{Tx, TxMap};
 use script_text::{Kind, Object};
 use std::alloc::{AllocError, Global};
+use tx_parts::PartPlayers;
 
-/// An object of a script, as one client has opened it; of a transactional map whether it keeps its colours to itself, and what
-/// its last read found, until a commit uses it up.
+/// An object of a script, as one client has opened it; of a transactional map what its last read found, until a commit uses it
+/// up, and players of its colours where it keeps these to itself.
 #[derive(Drop)]
 pub enum Opened {
     Map {
@@ -22,7 +23,7 @@ pub enum Opened {
         several: AtomicMap,
     },
     Tx {
-        alone: bool,
+        players: Option<PartPlayers>,
         map: TxMap,
         found: Option<Tx>,
     },
@@ -39,13 +40,30 @@ fn copied(alloc: Global, colours: &[u8]) -> Result<ColourList, AllocError>
 }
 
 // Opens a transactional map.
-fn open_tx(alloc: Global, alone: bool, home: u8, colours: &[u8]) -> Result<Opened, AllocError>
-    ensures kind { IfOk result (λ x. kind_opened x ≡ tx_kind alone home colours.now) }
+fn open_tx(alloc: Global, home: u8, colours: &[u8]) -> Result<Opened, AllocError>
+    ensures kind { IfOk result (λ x. kind_opened x ≡ Kind.Tx home colours.now) }
     ensures unfolded { IfOk result IsUnfolded }
 {
     let map = TxMap::open(alloc, home, copied(alloc, colours)?);
     Ok(Opened::Tx {
-        alone,
+        players: None,
+        map,
+        found: None,
+    })
+}
+
+// Opens one that keeps its colours to itself. No script has one of more colours than there may be.
+fn open_parts(alloc: Global, home: u8, colours: &[u8]) -> Result<Opened, AllocError>
+    ensures kind { IfOk result (λ x. kind_opened x ≡ Kind.Parts home colours.now) }
+    ensures unfolded { IfOk result IsUnfolded }
+{
+    if colours.len() > MAX_COLOURS as usize {
+        return Err(AllocError);
+    }
+    let players = PartPlayers::open(alloc, home, copied(alloc, colours)?);
+    let map = TxMap::open(alloc, home, copied(alloc, colours)?);
+    Ok(Opened::Tx {
+        players: Some(players),
         map,
         found: None,
     })
@@ -64,8 +82,8 @@ fn open(alloc: Global, kind: &Kind) -> Result<Opened, AllocError>
             let several = AtomicMap::open(alloc, *home, again);
             Ok(Opened::Map { single, several })
         }
-        Kind::Tx { home, colours } => open_tx(alloc, false, *home, colours.as_slice()),
-        Kind::Parts { home, colours } => open_tx(alloc, true, *home, colours.as_slice()),
+        Kind::Tx { home, colours } => open_tx(alloc, *home, colours.as_slice()),
+        Kind::Parts { home, colours } => open_parts(alloc, *home, colours.as_slice()),
         Kind::Causal { colour } => {
             let map = CausalMap::open(alloc, *colour);
             Ok(Opened::Causal(map))

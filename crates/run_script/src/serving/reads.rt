@@ -15,7 +15,7 @@ use crate::serving::opened::Opened;
 use crate::serving::replies::refused;
 use crate::serving::scans::{raises_shown, syncs_shown};
 use fuzzy_io::Gate;
-use log_client::{Appended, Client, ObjectFault, StampedRead, Store};
+use log_client::{Appended, Client, ObjectFault, StampedRead, Store, reads_go_on};
 use log_node::{Keys, ListOf, Pairs};
 use object_fold::{TxState, Values};
 use region_fold::Tx;
@@ -153,6 +153,7 @@ pub fn read<R: Wait, G: Gate>(
     ensures gives { GivesTo store.now client.old client.new opened.old opened.new
         (λ object. What.Read object keys) result }
 {
+    reads_go_on();
     match opened {
         Opened::Tx { map, found, .. } => {
             *found = None;
@@ -226,6 +227,7 @@ pub fn commit<R: Wait, G: Gate>(
     ensures gives { GivesTo store.now client.old client.new opened.old opened.new
         (λ object. What.Commit object pairs) result }
 {
+    reads_go_on();
     match opened {
         Opened::Tx { map, found, .. } => {
             let tx = mem::replace(found, None);

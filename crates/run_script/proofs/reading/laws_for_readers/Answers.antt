@@ -20,4 +20,6 @@ returns g = record {
   verdicts = g.verdicts_are_folds.ensures;
   changes = g.changes_are_folds.ensures;
   lists = g.lists_are_folds.ensures;
+  undecided = g.undecided_are_folds.ensures;
+  decisions = g.decisions_are_folds.ensures;
 }

@@ -1,6 +1,6 @@
 use Rattle.std.proofs.Common.{refl, subst}
 use Rattle.log_client.specs.Objects.{HasColoursOf}
-use Rattle.run_script.proofs.ObjectFrames.{tx_within}
+use Rattle.run_script.proofs.ObjectFrames.{map_colours}
 use Rattle.run_script.proofs.serving.opened.open_tx.Goals as goal
 
 pub returns-clause-unfolded : goal.returns-clause-unfolded
@@ -9,7 +9,8 @@ returns-clause-unfolded c = (
   λ client regions few within.
       let e = c.open-map.ensures in (
         e.map client (subst (HasColoursOf client) e.of.1
-            (tx_within c.args.alone client regions c.open-map.result.home c.open-map.result.colours few within)),
+            (map_colours client regions c.open-map.result.home c.open-map.result.colours few within)),
+        tt,
         tt,
       ),
 )
