@@ -1,17 +1,15 @@
 -- What a decision says stays true.
-use Rattle.std.proofs.Common.{◌≡◌, ◌⊎◌, inl, inr, Bool, true, ℕ, ◌≤◌, List, map, Some, ap, sym, subst, ◌∙◌, arith}
+use Rattle.std.proofs.Common.{◌≡◌, Bool, ℕ, ◌≤◌, List, map, ap, sym, subst, ◌∙◌, arith}
 use Rattle.std.specs.Prelude.{IsTrue}
 use Rattle.std.specs.List.{All, AllPairs, AllZip}
 use Rattle.log_node.specs.declared.ids.Key.{Key}
 use Rattle.log_node.specs.Order.{key_below}
 use Rattle.log_node.proofs.CallerLemmas.{key-stamps}
 use Rattle.object_fold.specs.Nodes.{ObjectNode}
-use Rattle.object_fold.specs.Transactions.{verdict_of}
 use Rattle.part_fold.specs.Agreement.{outcome}
 use Rattle.col_core.specs.RegionOrder.{IsRegionOrder}
 use Rattle.col_core.proofs.CallerLemmas.{all_in, contains_in, In, in_contains}
 use Rattle.script_text.specs.declared.script.Script.{Script}
-use Rattle.script_text.specs.Fitting.{IsFitting}
 use Rattle.report_text.specs.declared.report.Answer.{Answer}
 use Rattle.report_text.specs.declared.report.Answer.TheVariants as answers
 use Rattle.report_text.specs.declared.report.SyncPiece.{SyncPiece}
@@ -20,7 +18,7 @@ use Rattle.lawful_run.specs.Callers.{caller_of}
 use Rattle.lawful_run.specs.Asks.{rising}
 use Rattle.lawful_run.specs.Explains.{Explains}
 use Rattle.lawful_run.specs.Lawful.{LawfulRun}
-use Rattle.lawful_run.specs.ObjectReadings.{AreClosing, AreNodesOf, IsClosing, IsNodeOf}
+use Rattle.lawful_run.specs.ObjectReadings.{AreNodesOf, IsClosing, IsNodeOf}
 use Rattle.lawful_run.specs.Parts.{Decides, IsRuledAs}
 use Rattle.lawful_run.specs.Reads.{kept_after_piece}
 use Rattle.part_law.specs.Laws.{DecisionsAreTrue}

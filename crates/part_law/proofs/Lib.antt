@@ -8,6 +8,7 @@ mod Lists
 mod Colours
 mod Deciding
 mod Standing
+mod AllNodes
 mod Peeks
 mod LogReading
 mod Decisions

@@ -36,7 +36,8 @@ use Rattle.part_law.specs.Laws.{PeeksAgree}
 use Rattle.part_law.proofs.Colours.{object_of, shard_is}
 use Rattle.part_law.proofs.Lists.{zip_made, zip_map, zip_of}
 use Rattle.part_law.proofs.Reading.{AreLogged, IsLogged, Reading, Reason, all_logged}
-use Rattle.part_law.proofs.Standing.{Cited, agreeing, in_lines, same_node}
+use Rattle.part_law.proofs.AllNodes.{agreeing}
+use Rattle.part_law.proofs.Standing.{Cited, in_lines, same_node}
 
 -- What a peek is answered by, of a key of an object that keeps its colours to itself.
 record Peeked (caller : Caller) (colours key : List ℕ) (sync : SyncPiece) (value : Value) (nodes : List ObjectNode)

@@ -361,6 +361,12 @@ pub ruled_with : (w : World) (kind : Kind) (fold : TxFolds) (ruled : LinesFold R
     → IsLinesFold IsRuled w ruled → AreTxFolds w kind (record fold { ruled = ruled })
 ruled_with w kind fold ruled f right = record { map = f.map; parts = f.parts; ruled = right }
 
+-- an object of another kind has no parts that could be wrong
+pub no_parts : (w : World) (kind : Kind) (parts : List (KeptLine PartFold))
+    → ((home : ℕ) (colours : List ℕ) → kind ≡ kinds.Parts home colours → ⊥) → AreItsParts w kind parts
+no_parts w (kinds.Parts home colours) parts none = absurd (none home colours refl)
+no_parts w _ parts none = tt
+
 -- one part of a map in place of another
 pub parts_with : (w : World) (home : ℕ) (colours : List ℕ) (parts : List (KeptLine PartFold)) (n : ℕ)
     (kept : KeptLine PartFold) → ArePartFolds w home colours parts → IsPartFold w home colours n kept

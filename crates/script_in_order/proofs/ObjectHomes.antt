@@ -26,6 +26,12 @@ module _ (own : ℕ) (objects : List Object) (object : ℕ)
       is ∙ ap (λ (h : ℕ). Some (kinds.Map h colours))
       (near_home own home (ap (λ (k : Option Kind). other_home own (object_home k)) (sym is) ∙ near))
 
+  pub parts_home : (home : ℕ) (colours : List ℕ) → kind_in objects object ≡ Some (kinds.Parts home colours)
+      → kind_in objects object ≡ Some (kinds.Parts own colours)
+  parts_home home colours is =
+      is ∙ ap (λ (h : ℕ). Some (kinds.Parts h colours))
+      (near_home own home (ap (λ (k : Option Kind). other_home own (object_home k)) (sym is) ∙ near))
+
   queue_home : (home colour : ℕ) → kind_in objects object ≡ Some (kinds.Queue home colour)
       → kind_in objects object ≡ Some (kinds.Queue own colour)
   queue_home home colour is =

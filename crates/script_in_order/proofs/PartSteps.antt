@@ -1,7 +1,8 @@
 -- Peeks and decides, by what their calls did.
-use Rattle.std.proofs.Common.{◌≡◌, ◌≢◌, ◌⊎◌, inl, inr, ℕ, ◌+◌, ◌<◌, zero, suc, Bool, true, false, cond, List, [], ◌∷◌, length, map, get_or, Option, Some, None, refl, ap, sym, subst, ◌∙◌, arith}
+use Rattle.std.proofs.Common.{◌≡◌, ◌≢◌, inl, inr, ℕ, ◌<◌, ◌≤◌, zero, suc, Bool, true, false, cond, List, [], ◌∷◌, length, map, set, get_or, Option, Some, None, refl, ap, sym, subst, ◌∙◌, arith}
 use Rattle.std.specs.Prelude.{IsTrue, slice_get, slice_index, if◌then◌else◌}
 use Rattle.std.specs.List.{AllPairs}
+use Rattle.std.specs.Option.{option_map}
 use Rattle.std.specs.Vec.{with_item}
 use Rattle.std.proofs.lemmas.Bool.{cases_Bool}
 use Rattle.log_node.specs.declared.ids.Counts.{Counts}
@@ -11,17 +12,23 @@ use Rattle.log_node.specs.Vectors.{at}
 use Rattle.log_node.proofs.CallerLemmas.{key-irrefl, same_key-is}
 use Rattle.object_fold.specs.declared.kept_line.KeptLine.{KeptLine}
 use Rattle.object_fold.specs.Folds.{IsAbsent}
-use Rattle.object_fold.specs.Nodes.{ObjectNode, shard_of}
+use Rattle.object_fold.specs.Nodes.{shard_of}
 use Rattle.part_fold.specs.Decisions.{decision_text}
 use Rattle.part_fold.specs.declared.part_fold.PartFold.{PartFold}
 use Rattle.part_fold.specs.Agreement.{part_at}
 use Rattle.part_fold.specs.Parts.{Part, part_value, place_of, undecided_after}
 use Rattle.part_fold.specs.PartStates.{IsPart}
 use Rattle.part_fold.specs.Ruled.{AreApart}
-use Rattle.col_core.proofs.CallerLemmas.{In, contains_in, if_true, if_false}
+use Rattle.col_core.specs.History.{line}
+use Rattle.col_core.proofs.CallerLemmas.{In, choice, contains_in, if_true, if_false}
 use Rattle.world_laws.specs.declared.steps.Step.TheVariants.{Play}
-use Rattle.world_laws.specs.Worlds.{World, after, home_of, may_play, may_single, next_id, single_stamp}
+use Rattle.world_laws.specs.Laws.{IsReached}
+use Rattle.world_laws.specs.Worlds.{World, after, after_play, home_of, may_play, may_single, next_id, single_stamp}
+use Rattle.world_laws.proofs.CallerLemmas.{run_reached}
+use Rattle.script_text.specs.declared.script.Kind.{Kind}
 use Rattle.script_text.specs.declared.script.Kind.TheVariants as kinds
+use Rattle.script_text.specs.Apart.{is_parts}
+use Rattle.script_text.specs.Fitting.{AreObjectColours, HasObject, is_tx}
 use Rattle.script_text.specs.declared.script.Object.{Object}
 use Rattle.script_text.specs.declared.script.Command.{Command}
 use Rattle.report_text.specs.declared.report.Answer.{Answer}
@@ -36,18 +43,68 @@ use Rattle.script_meaning.specs.States.{State, Grants, all_granted, answered, ki
 use Rattle.script_meaning.specs.Appends.{appended_one, point_in, with_single}
 use Rattle.script_meaning.specs.Dequeues.{base_now, object_node_at, sync_now}
 use Rattle.script_meaning.specs.Parts.{commits_among, decided, decided_by, decided_in, decision_ended, nodes_now, part_of, peek_answer, peeked}
-use Rattle.script_meaning.specs.Stamped.{ReadEnd, Whole, Refused, Unraised, StampedRead, ended_so, stamped_read}
-use Rattle.script_meaning.proofs.CallerLemmas.{single_same}
+use Rattle.script_meaning.specs.Stamped.{ReadEnd, Whole, Refused, Unraised, StampedRead, ended_so, keys_read, stamped_read}
+use Rattle.script_meaning.proofs.CallerLemmas.{RunsTo, decided_to, keys_ordered, parts_of, shard_below, single_same, single_to, stays_there}
 use Rattle.script_in_order.specs.Deciding.{DecidesBehind, EndsDecision}
 use Rattle.script_in_order.specs.declared.tx_folds.TxFolds.{TxFolds}
 use Rattle.script_in_order.specs.Doing.{DoneBy, with_replies}
-use Rattle.script_in_order.specs.Folds.{IsKeptLine, IsPartFold, AreTxFolds, nodes_at}
+use Rattle.script_in_order.specs.declared.folds.Fold.{Fold}
+use Rattle.script_in_order.specs.declared.folds.Fold.TheVariants as folds
+use Rattle.script_in_order.specs.Folds.{IsKeptLine, IsPartFold, AreFolded, AreTxFolds, nodes_at}
 use Rattle.script_in_order.specs.Stamped.{ReadsStamped}
-use Rattle.script_in_order.proofs.DequeueSteps.{Entered, entered, ended, entered_of, first_point, stood_so}
-use Rattle.script_in_order.proofs.FoldsKept.{parts_with}
+use Rattle.script_in_order.proofs.DequeueSteps.{Entered, entered, ended, entered_of, first_point, stood_so, unanswered}
+use Rattle.script_in_order.proofs.FoldsKept.{none_else, parts_with, tx_of, tx_put}
 use Rattle.script_in_order.proofs.GetSteps.{played_nodes}
 use Rattle.script_in_order.proofs.HelpsAndClears.{found_with, finds_all}
+use Rattle.script_in_order.proofs.ObjectSteps.{has_kind}
 use Rattle.script_in_order.proofs.StampedWholes.{finds_same}
+
+-- THE SHARD OF A KEY
+
+pub shard_is : (colours slice key bytes : List ℕ) (colour : ℕ) → colour ≡ shard_of slice bytes → slice ≡ colours
+    → bytes ≡ key → colour ≡ shard_of colours key
+shard_is colours slice key bytes colour is same of =
+    is ∙ (ap (λ (l : List ℕ). shard_of l bytes) same ∙ ap (shard_of colours) of)
+
+pub shard_within : (count : ℕ) (colours key : List ℕ) (colour : ℕ) → AreObjectColours count colours
+    → colour ≡ shard_of colours key → colour < count
+shard_within count colours key colour own is =
+    subst (λ (c : ℕ). c < count) (sym is) (shard_below count colours own.some own.below key)
+
+-- THE FOLD OF A MAP THAT IS PLAYED BY ITS PARTS
+
+parts_tx : (kind : Kind) → is_parts kind ≡ true → is_tx kind ≡ true
+parts_tx (kinds.Parts home colours) t = refl
+parts_tx _ t = absurd (let f : ⊥ = cc in f)
+
+module _ (w : World) (objects : List Object) (all : List Fold) (object : ℕ) (f : AreFolded w objects all)
+    (has : HasObject objects object is_parts) where
+  abbrev has_tx : HasObject objects object is_tx
+  has_tx = record { found = has.found; there = has.there; kind = parts_tx has.found.kind has.kind }
+
+  pub no_other : (fold : Fold) → fold ≡ get_or all object fold → ((tx : TxFolds) → fold ≡ folds.Tx tx → ⊥) → ⊥
+  no_other = none_else w objects all object f has_tx
+
+  module _ (home : ℕ) (colours : List ℕ) (is : kind_in objects object ≡ Some (kinds.Parts home colours)) where
+    its_kind : has.found.kind ≡ kinds.Parts home colours
+    its_kind =
+        let e : Some has.found.kind ≡ Some (kinds.Parts home colours) =
+        sym (ap (option_map (λ (o : Object). o.kind)) has.there) ∙ is in cc (e)
+
+    pub parts_at : (fold : Fold) (tx : TxFolds) → fold ≡ get_or all object fold → fold ≡ folds.Tx tx
+        → AreTxFolds w (kinds.Parts home colours) tx
+    parts_at fold tx there same =
+        subst (λ (k : Kind). AreTxFolds w k tx) its_kind (tx_of w objects all object f has_tx fold tx there same)
+
+    pub parts_put : (tx : TxFolds) → AreTxFolds w (kinds.Parts home colours) tx
+        → AreFolded w objects (set all object (folds.Tx tx))
+    parts_put tx right = tx_put w objects all object f has_tx tx (subst (λ (k : Kind). AreTxFolds w k tx) (sym its_kind) right)
+
+-- no other kind is of such a map
+pub only_parts : (objects : List Object) (object : ℕ) (other : Object) → HasObject objects object is_parts
+    → ((home : ℕ) (colours : List ℕ) → (get_or objects object other).kind ≡ kinds.Parts home colours → ⊥) → ⊥
+only_parts objects object other has none =
+    let p = parts_of (get_or objects object other).kind (has_kind objects object other has) in none p.0 p.1 p.2
 
 -- A PEEK
 
@@ -81,21 +138,27 @@ module _ (command : Command) (w new : World) (colours key : List ℕ) (colour : 
             ∙ ap (λ (b : Counts). answered (with_replies w replies) command w (answers.Trimmed colour b) []) (sym same);
       }))
 
-  pub peek_done : (answer : Answer) → may_play w command.client colour ≡ true → new ≡ after w (Play command.client colour)
-      → answer ≡ peek_answer (undecided_after (part_of colours key) (nodes_now w command.client colour))
-      (part_value (part_of colours key) (nodes_now w command.client colour) key) (sync_now w command.client colour)
+  -- what the part of a key's shard answers
+  abbrev answer_in : List ℕ → ℕ → Answer
+  answer_in bytes c =
+      let nodes = nodes_now w command.client c in
+      peek_answer (undecided_after (part_of colours bytes) nodes) (part_value (part_of colours bytes) nodes bytes)
+      (sync_now w command.client c)
+
+  pub peek_done : (answer : Answer) (bytes : List ℕ) → may_play w command.client colour ≡ true
+      → new ≡ after w (Play command.client colour) → bytes ≡ key → answer ≡ answer_in bytes (shard_of colours bytes)
       → DoneBy (λ _ state. peeked state command colours key) command w new answer []
-  peek_done answer may there answer_is =
+  peek_done answer bytes may there same answer_is =
+      let its : answer ≡ answer_in key colour =
+      answer_is ∙ (ap (λ (k : List ℕ). answer_in k (shard_of colours k)) same ∙ ap (answer_in key) (sym is)) in
       subst (λ (c : ℕ). DoneBy (λ _ state. peeked_on state command colours key c) command w new answer []) is (record {
         grants = all_granted;
         begun = refl;
         is = λ replies.
             let shown : World → Answer → State = λ x a. answered (with_replies w replies) command x a [] in
-            let nodes = nodes_now w command.client colour in
-            let given = peek_answer (undecided_after (part_of colours key) nodes) (part_value (part_of colours key) nodes key)
-            (sync_now w command.client colour) in
+            let given = answer_in key colour in
             if_true (may_play w command.client colour) (shown (after w (Play command.client colour)) given) _ may
-            ∙ (ap (λ (x : World). shown x given) (sym there) ∙ ap (shown new) (sym answer_is));
+            ∙ (ap (λ (x : World). shown x given) (sym there) ∙ ap (shown new) (sym its));
       })
 
 -- THE PART OF A KEY'S SHARD
@@ -108,6 +171,25 @@ part_played w client colour own sync kept home same count f =
     subst (IsPart kept.state)
     (ap (λ (n : ℕ). nodes_at w (record { region = own; colour = colour; count = n })) count
     ∙ played_nodes w client colour own sync home same) f.folded
+
+-- which is no further than that
+pub within_line : (w : World) (client colour own : ℕ) (kept : KeptLine PartFold) (count : ℕ) → own ≡ home_of w client
+    → count ≡ length (line (w.histories own colour)) → IsKeptLine IsPart w (home_of w client) colour kept
+    → kept.count ≤ count
+within_line w client colour own kept count home is f =
+    let low : kept.count ≤ length (line (w.histories own colour)) =
+    subst (λ (r : ℕ). kept.count ≤ length (line (w.histories r colour))) (sym home) f.within in
+    omega (arith, low, is)
+
+-- one of which no node is folded
+pub part_opened : (colours : List ℕ) (place at count : ℕ) (kept : KeptLine PartFold) (state : PartFold) → kept.state ≡ state
+    → state.part ≡ record { place = place; colours = count } → place ≡ at → count ≡ length colours
+    → kept.state.part ≡ part_at colours at
+part_opened colours place at count kept state is part same many =
+    ap (λ (s : PartFold). s.part) is
+    ∙ (part
+    ∙ (ap (λ (n : ℕ). let p : Part = record { place = n; colours = count } in p) same
+    ∙ ap (λ (n : ℕ). let p : Part = record { place = at; colours = n } in p) many))
 
 -- as it stands at the key's place
 module _ (w : World) (client : ℕ) (colours key : List ℕ) (fold : TxFolds)
@@ -139,16 +221,33 @@ module _ (w : World) (client : ℕ) (colours key : List ℕ) (fold : TxFolds)
     ruled = f.ruled;
   }
 
--- what it answers
-pub part_answer : (part other : Part) (nodes : List ObjectNode) (key bytes : List ℕ) (sync asked : SyncPiece) (answer : Answer)
-    → part ≡ other → key ≡ bytes → sync ≡ asked
-    → answer ≡ peek_answer (undecided_after part nodes) (part_value part nodes key) sync
-    → answer ≡ peek_answer (undecided_after other nodes) (part_value other nodes bytes) asked
-part_answer part other nodes key bytes sync asked answer same of as is =
-    is
-    ∙ (ap (λ (p : Part). peek_answer (undecided_after p nodes) (part_value p nodes key) sync) same
-    ∙ (ap (λ (k : List ℕ). peek_answer (undecided_after other nodes) (part_value other nodes k) sync) of
-    ∙ ap (peek_answer (undecided_after other nodes) (part_value other nodes bytes)) as))
+-- a client's sync of a key's shard, and the transaction for which the part waits
+module _ (w : World) (client : ℕ) (colours key bytes : List ℕ) (colour : ℕ) (is : colour ≡ shard_of colours key)
+    (same : bytes ≡ key) where
+  its_shard : shard_of colours bytes ≡ colour
+  its_shard = ap (shard_of colours) same ∙ sym is
+
+  pub synced_here : (sync : SyncPiece) → sync ≡ sync_now w client (shard_of colours bytes) → sync ≡ sync_now w client colour
+  synced_here sync at_bytes = at_bytes ∙ ap (sync_now w client) its_shard
+
+  pub waits_here : (waits : Option Key)
+      → waits ≡ undecided_after (part_of colours bytes) (nodes_now w client (shard_of colours bytes))
+      → waits ≡ undecided_after (part_of colours key) (nodes_now w client colour)
+  waits_here waits at_bytes =
+      at_bytes
+      ∙ (ap (λ (k : List ℕ). undecided_after (part_of colours k) (nodes_now w client (shard_of colours bytes))) same
+      ∙ ap (λ (c : ℕ). undecided_after (part_of colours key) (nodes_now w client c)) its_shard)
+
+-- a play leaves the shape
+pub play_shape : (w v : World) (client colour : ℕ) → v ≡ after w (Play client colour) → v.shape ≡ w.shape
+play_shape w v client colour is =
+    ap (λ (x : World). x.shape) is
+    ∙ choice (λ (x : World). x.shape ≡ w.shape) (may_play w client colour) (after_play w client colour) w (λ _. refl)
+    (λ _. refl)
+
+pub play_reached : (w v : World) (client colour : ℕ) → IsReached w → v ≡ after w (Play client colour) → IsReached v
+play_reached w v client colour reached is =
+    subst IsReached (sym is) (run_reached w (Play client colour ∷ []) reached)
 
 -- THE NODES THAT A DECIDE READS
 
@@ -166,7 +265,7 @@ absent_behind w key (k ∷ keys) below = (
   absent_behind w key keys (λ x i. below x (inr i)),
 )
 
-pub apart_rising : (w : World) (keys : List Key) → AllPairs (λ a b. IsTrue (key_below a b)) keys
+apart_rising : (w : World) (keys : List Key) → AllPairs (λ a b. IsTrue (key_below a b)) keys
     → AreApart (map (object_node_at w) keys)
 apart_rising w [] rising = tt
 apart_rising w (key ∷ keys) rising = (
@@ -176,6 +275,12 @@ apart_rising w (key ∷ keys) rising = (
       (rising zero (suc c.0) k (omega arith) (let l = c.1 in omega (arith, l)))),
   apart_rising w keys (λ i j d lt there. rising (suc i) (suc j) d (omega (arith, lt)) (omega (arith, there))),
 )
+
+-- so what became of one of them is told
+pub told_apart : (w : World) → IsReached w → (client stamp : ℕ) (colours : List ℕ)
+    → AreApart (map (object_node_at w) (keys_read w client stamp colours))
+told_apart w reached client stamp colours =
+    apart_rising w (keys_read w client stamp colours) (keys_ordered w reached client stamp colours).rising
 
 -- THE APPEND OF A DECISION
 
@@ -255,13 +360,27 @@ module _ (command : Command) (text : List ℕ) (colour : ℕ) (w new : World) wh
         ∙ ap (without_in state told) (sym same);
   }
 
+  -- steps lead there
+  pub decision_to : (last : Ended) → Ends last → RunsTo w new
+  decision_to last d =
+      let g : Grants = record all_granted { helps = d.helps; own = d.own } in
+      let v = with_single g w client text colour in
+      let told : Ended → Answer = λ _. answers.NoMemory in
+      let yes = stood_in (unanswered w) told v (single_stamp w client colour) (point_of v) in
+      let no = none_in (unanswered w) told w in
+      subst (RunsTo w) (ap (λ (s : State). s.world) (d.is g refl refl (unanswered w) told))
+      (choice (λ (s : State). RunsTo w s.world) g.own (cond (may_single w client colour) yes no)
+      (without_in (unanswered w) told w)
+      (λ _. choice (λ (s : State). RunsTo w s.world) (may_single w client colour) yes no
+      (λ _. single_to g w command text colour) (λ _. stays_there w)) (λ _. stays_there w))
+
 -- BEHIND THE SYNC
 
 -- a read that found no memory before its first raise ends as one whose first raise finds none
-unraised : (g : Grants) (helps : ℕ → ℕ → Bool) (w : World) (client : ℕ) (colours : List ℕ) → colours ≢ []
-    → stamped_read (record g { raises = λ _. false; helps = helps }) w client colours ≡ record { world = w; ends = Unraised }
-unraised g helps w client [] some = absurd (some refl)
-unraised g helps w client (c ∷ colours) some = refl
+unraised : (g : Grants) (helps : ℕ → ℕ → Bool) (w : World) (u : ℕ) (colours : List ℕ) → colours ≢ []
+    → stamped_read (record g { raises = λ _. false; helps = helps }) w u colours ≡ record { world = w; ends = Unraised }
+unraised g helps w u [] some = absurd (some refl)
+unraised g helps w u (c ∷ colours) some = refl
 
 module _ (command : Command) (own : List ℕ) (sync : SyncPiece) (waits : Key) where
   abbrev Decides : World → World → Answer → Type 0
@@ -348,6 +467,28 @@ module _ (command : Command) (own : List ℕ) (sync : SyncPiece) (waits : Key) w
               ∙ (ap (λ (t : List ℕ). decision_ended all state command x sync.colour t (told commits)) (sym text_is)
               ∙ said.is all refl refl state (told commits)));
         }
+
+-- by the colours that were read, as they are listed
+pub ruled_so : (command : Command) (own : List ℕ) (sync : SyncPiece) (waits : Key) (old x : World) (stamp : ℕ)
+    (raises : List RaisePiece) (syncs : List SyncPiece) (cs : List ℕ) → cs ≡ rising own
+    → ReadsStamped old x command.client (rising own)
+    (Whole stamp raises syncs (keys_read x command.client stamp (rising own)))
+    → (new : World) (commits : Bool) (text : List ℕ) (last : Ended)
+    → commits ≡ commits_among (map (object_node_at x) (keys_read x command.client stamp cs)) waits
+    → text ≡ decision_text (record { key = waits; commits = commits }) → EndsDecision command sync.colour text x new last
+    → DecidesBehind command own sync waits old new (answers.Decided commits waits.stamp sync stamp raises syncs last)
+ruled_so command own sync waits old x stamp raises syncs cs is reads new commits text last commits_are =
+    ruled command own sync waits old x stamp raises syncs (keys_read x command.client stamp (rising own)) reads new commits
+    text last
+    (commits_are
+    ∙ ap (λ (l : List ℕ). commits_among (map (object_node_at x) (keys_read x command.client stamp l)) waits) is)
+
+-- steps lead there
+pub behind_to : (command : Command) (own : List ℕ) (sync : SyncPiece) (waits : Key) (old new : World) (answer : Answer)
+    → DecidesBehind command own sync waits old new answer → RunsTo old new
+behind_to command own sync waits old new answer d =
+    subst (RunsTo old) (ap (λ (s : State). s.world) (d.is (unanswered old)))
+    (decided_to d.grants (unanswered old) command own sync old (Some waits))
 
 -- ALL OF IT
 

@@ -25,7 +25,7 @@ use crate::object_appends::all_colours;
 use crate::stamped::{Stamped, stamped_read};
 use crate::syncs::trimmed_base;
 use crate::tx_folds::TxFolds;
-use log_node::{ColourList, Colours, Key, Text};
+use log_node::{Colours, Key, Text};
 use object_fold::shard_of;
 use part_fold::{Decision, RuledFold, write_decision};
 use report_text::{Answer, Ended, SyncPiece};
@@ -38,7 +38,7 @@ use world_code::World;
 fn peek_in(
     alloc: Global,
     command: &Command,
-    colours: &ColourList,
+    colours: &[u8],
     key: &Text,
     world: &mut World,
     fold: &mut TxFolds,
@@ -54,7 +54,7 @@ fn peek_in(
         AreTxFolds (world_of world.new) (Kind.Parts (home_of w command.now.client) colours.now) fold.new }
 {
     world.is_whole();
-    let colour = shard_of(colours.as_slice(), key.as_bytes());
+    let colour = shard_of(colours, key.as_bytes());
     if let Some(base) = trimmed_base(world, command.client, colour) {
         return Ok(Answer::Trimmed { colour, base });
     }
@@ -93,7 +93,7 @@ pub fn peek(
         unreachable!()
     };
     match &mut folds.of[object as usize] {
-        Fold::Tx(fold) => peek_in(alloc, command, colours, key, world, fold),
+        Fold::Tx(fold) => peek_in(alloc, command, colours.as_slice(), key, world, fold),
         _ => unreachable!(),
     }
 }
@@ -142,17 +142,17 @@ fn append_decision(
     ensures { EndsDecision command.now colour text.now (world_of world.old) (world_of world.new) result }
 {
     match append_one(alloc, command, colour, text, world) {
-        Ok(
+        Ok(answer) => match answer {
             Answer::Stood {
                 stamp,
                 row: _row,
                 points,
+            } => Ended::Stood {
+                stamp,
+                point: points.as_slice()[0],
             },
-        ) => Ended::Stood {
-            stamp,
-            point: points.as_slice()[0],
+            _ => Ended::StampEnd { colour },
         },
-        Ok(_) => Ended::StampEnd { colour },
         Err(_) => Ended::NoMemory,
     }
 }
@@ -179,6 +179,7 @@ fn decide_by(
         → DecidesBehind command.now own sync waits old (world_of world.new) result }
     ensures folded { IsLinesFold IsRuled (world_of world.new) ruled.new }
 {
+    world.agrees();
     match read {
         Stamped::Unraised => Answer::NoMemory,
         Stamped::Refused { colour, base } => Answer::Trimmed { colour, base },
@@ -240,7 +241,7 @@ fn decide_on(
 fn decide_in(
     alloc: Global,
     command: &Command,
-    colours: &ColourList,
+    colours: &[u8],
     all: Colours,
     key: &Text,
     world: &mut World,
@@ -261,7 +262,7 @@ fn decide_in(
         AreTxFolds (world_of world.new) (Kind.Parts (home_of w command.now.client) colours.now) fold.new }
 {
     world.is_whole();
-    let colour = shard_of(colours.as_slice(), key.as_bytes());
+    let colour = shard_of(colours, key.as_bytes());
     if let Some(base) = trimmed_base(world, command.client, colour) {
         return Ok(Answer::Trimmed { colour, base });
     }
@@ -306,7 +307,7 @@ pub fn decide(
         unreachable!()
     };
     match &mut folds.of[object as usize] {
-        Fold::Tx(fold) => decide_in(alloc, command, colours, all, key, world, fold),
+        Fold::Tx(fold) => decide_in(alloc, command, colours.as_slice(), all, key, world, fold),
         _ => unreachable!(),
     }
 }

@@ -183,7 +183,7 @@ impl TxFolds {
         alloc: Global,
         world: &World,
         client: u8,
-        colours: &ColourList,
+        colours: &[u8],
         key: &[u8],
     ) -> Result<Answer, AllocError>
         requires client { client < length world.now.shape.homes }
@@ -201,7 +201,7 @@ impl TxFolds {
         if place >= self.parts.len() {
             return Err(AllocError);
         }
-        let colour = shard_of(colours.as_slice(), key);
+        let colour = shard_of(colours, key);
         peek_part(alloc, world, client, colour, key, &mut self.parts[place])
     }
 
@@ -213,7 +213,7 @@ impl TxFolds {
         alloc: Global,
         world: &World,
         client: u8,
-        colours: &ColourList,
+        colours: &[u8],
         key: &[u8],
     ) -> Result<(Option<Key>, SyncPiece), AllocError>
         requires client { client < length world.now.shape.homes }
@@ -230,7 +230,7 @@ impl TxFolds {
         if place >= self.parts.len() {
             return Err(AllocError);
         }
-        let colour = shard_of(colours.as_slice(), key);
+        let colour = shard_of(colours, key);
         part_waits(alloc, world, client, colour, &mut self.parts[place])
     }
 }

@@ -1,8 +1,9 @@
 -- For those who do the commands: each state to which commands lead has a world of the script's shape that steps have
 -- made.
-use Rattle.std.proofs.Common.{◌≡◌, ℕ, List, [], ◌++◌, Some, refl, ◌∙◌, ap, sym}
+use Rattle.std.proofs.Common.{◌≡◌, ℕ, List, [], ◌++◌, Option, Some, refl, ◌∙◌, ap, sym}
 use Rattle.log_node.specs.declared.forms.Version.{Version}
 use Rattle.log_node.specs.declared.ids.Colours.{Colours}
+use Rattle.log_node.specs.declared.ids.Key.{Key}
 use Rattle.object_form.specs.Forms.{AreVersions}
 use Rattle.object_form.specs.Laws.{ReadsBack}
 use Rattle.world_laws.specs.Worlds.{World}
@@ -11,12 +12,15 @@ use Rattle.script_text.specs.declared.script.Command.{Command}
 use Rattle.script_text.specs.declared.script.Script.{Script}
 use Rattle.script_text.specs.declared.script.Object.{Object}
 use Rattle.script_text.specs.Fitting.{IsFitting}
+use Rattle.report_text.specs.declared.report.SyncPiece.{SyncPiece}
 use Rattle.script_meaning.specs.States.{State, Grants, no_reads, StopsAreLast}
 use Rattle.script_meaning.specs.Meaning.{LeadTo, nothing, next, done}
 use Rattle.script_meaning.specs.Appends.{with_single, appended}
+use Rattle.script_meaning.specs.Parts.{decided_by}
 use Rattle.script_meaning.specs.Telling.{ReadAnswer, appended_and_told}
 use Rattle.script_meaning.proofs.Run.GrantedCommands.{append_extends, telling_extends, single_runs}
 use Rattle.script_meaning.proofs.Run.DoneCommands.{done_extends}
+use Rattle.script_meaning.proofs.Run.GrantedDecides.{by_goes}
 use Rattle.script_meaning.proofs.Run.InvariantHolds.{runs_lead}
 pub use Rattle.script_meaning.proofs.Tree.TreeLaws.{TreesReadBack}
 pub use Rattle.script_meaning.proofs.World.Lines.{final_stays}
@@ -25,14 +29,14 @@ pub use Rattle.script_meaning.proofs.Run.HelpGrants.{single_same, all_cleared_sa
 pub use Rattle.script_meaning.proofs.Object.CausalAnswers.{causal_answer, one_answer}
 pub use Rattle.script_meaning.proofs.Object.CausalNodes.{AtPlace, at_place, causal_node_is, place_within}
 pub use Rattle.script_meaning.proofs.World.ChainNodes.{line_node}
-pub use Rattle.script_meaning.proofs.Read.StampedEnds.{rising_line, keys_listed, keys_stand}
+pub use Rattle.script_meaning.proofs.Read.StampedEnds.{rising_line, keys_ordered, keys_listed, keys_stand}
 pub use Rattle.script_meaning.proofs.Read.StampedReads.{stamp_low}
 pub use Rattle.script_meaning.proofs.Object.ShardSets.{keys_set, shard_members, set_has, shard_below, shards_below, shards_has, key_in, rising_some, rising_below, own_below}
 pub use Rattle.script_meaning.proofs.Run.GrantedSteps.{RunsTo, stays_there}
 pub use Rattle.script_meaning.proofs.Transaction.VersionsFit.{can_read}
 pub use Rattle.script_meaning.proofs.Run.GrantedReads.{read_runs}
 pub use Rattle.script_meaning.proofs.Object.LaterNodes.{line_longer, nodes_stay, new_behind, whole_stamp, read_behind}
-pub use Rattle.script_meaning.proofs.Object.ObjectKinds.{object_has, queue_colour, queue_one, some_of}
+pub use Rattle.script_meaning.proofs.Object.ObjectKinds.{object_has, parts_of, queue_colour, queue_one, some_of}
 pub use Rattle.script_meaning.proofs.World.Playing.{at_or}
 pub use Rattle.script_meaning.proofs.Object.ObjectForms.{key_is_word, key_some, pairs_are}
 
@@ -72,6 +76,11 @@ append_to grants state command colours text ms = (append_extends [] grants state
 pub done_to : (objects : List Object) (grants : Grants) (state : State) (command : Command)
     → RunsTo state.world (done objects grants state command).world
 done_to objects grants state command = (done_extends objects grants state command).world
+
+-- what a decide leads to behind its sync
+pub decided_to : (grants : Grants) (state : State) (command : Command) (colours : List ℕ) (sync : SyncPiece) (w : World)
+    (waits : Option Key) → RunsTo w (decided_by grants state command colours sync w waits).world
+decided_to grants state command colours sync w waits = (by_goes [] grants state command colours sync w waits).world
 
 -- what a command leads to that is told what becomes of its node
 pub told_to : (tells : ReadAnswer) (objects : List Object) (grants : Grants) (state : State) (command : Command) (object : ℕ)

@@ -111,7 +111,7 @@ module _ (objects : List Object) (grants : Grants) (state : State) (command : Co
     by_end_exact waits x (Refused colour base) had = (tt, refl)
     by_end_exact waits x Unraised had = absurd (told_so objects grants state command x had)
 
-    by_goes : (waits : Option Key) → GoesOn v state (decided_by grants state command colours sync v waits)
+    pub by_goes : (waits : Option Key) → GoesOn v state (decided_by grants state command colours sync v waits)
     by_goes None = answers_so objects grants state command v (answers.Got None sync)
     by_goes (Some waits) =
         let read = stamped_read behind v u (rising colours) in
