@@ -103,5 +103,9 @@ pub fn open(alloc: Global, kind: &Kind) -> Result<Opened, AllocError>
 pub fn unopened(alloc: Global, objects: &[Object]) -> Result<Vec<Option<Opened>>, AllocError>
     ensures { IfOk result (λ slots. AreUnopened objects.now slots.items) }
 {
-    objects.iter().map(|_object| None).collect(alloc)
+    let mut slots = Vec::with_capacity(alloc, objects.len())?;
+    for _object in objects {
+        slots.push_reserved(None);
+    }
+    Ok(slots)
 }

@@ -1,4 +1,4 @@
-use Rattle.std.proofs.Common.{◌∙◌, List, None, set, sym, subst}
+use Rattle.std.proofs.Common.{◌∙◌, List, None, set, sym, subst, arith}
 use Rattle.std.proofs.lemmas.List.{get_or_read}
 use Rattle.std.proofs.lemmas.Option.{slice_get_within}
 use Rattle.log_node.specs.Seen.{PlacedNode}
@@ -28,7 +28,9 @@ bounds-objects-number g c =
 pub index_mut-slot-requires : goal.index_mut-slot-requires
 index_mut-slot-requires g c =
     let o = is_there c.args.objects.now c.args.what c.in-Some.number c.requires.uses (sym c.object_asked.ensures ∙ c.in-Some.is) in
-    slot_within c.args.objects.now c.args.slots.now.items c.in-Some.number o.0 c.requires.of o.1
+    let low = slot_within c.args.objects.now c.args.slots.now.items c.in-Some.number o.0 c.requires.of o.1 in
+    let long = c.args.slots.now.ok.0 in
+    omega (arith, low, long)
 
 pub slot_answer-answer-requires-clause-openable : goal.slot_answer-answer-requires-clause-openable
 slot_answer-answer-requires-clause-openable g c κs within =
