@@ -17,7 +17,7 @@ pub use Rattle.lawful_run.proofs.ObjectAnswers.{explains_change, explains_names}
 pub use Rattle.lawful_run.proofs.PartAnswers.{explains_peek, explains_undecided, explains_settled, explains_decided, explains_decide_refused, explains_decide_hidden}
 pub use Rattle.lawful_run.proofs.Places.{more_places, range_more, same_places}
 pub use Rattle.lawful_run.proofs.ReadsKept.{explained_ids, explained_keeps, reads_keep}
-pub use Rattle.lawful_run.proofs.Shards.{key_gets, key_synced, not_several, one_shard}
+pub use Rattle.lawful_run.proofs.Shards.{asked_kind, decide_kind, key_gets, key_synced, not_several, one_shard}
 pub use Rattle.lawful_run.proofs.Shown.{legal_at, stands_in}
 pub use Rattle.lawful_run.proofs.Standing.{Stands}
 pub use Rattle.lawful_run.proofs.Traces.{at_updated, read as read_quiet}

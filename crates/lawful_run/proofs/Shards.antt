@@ -1,5 +1,5 @@
 -- The shards of keys, and which of them commands sync that ask for one key.
-use Rattle.std.proofs.Common.{◌≡◌, ◌⊎◌, inl, inr, Bool, true, false, cond, ℕ, zero, suc, ◌+◌, ◌<◌, ◌≤◌, List, [], ◌∷◌, length, Option, refl, sym, ap, ◌∙◌, arith}
+use Rattle.std.proofs.Common.{◌≡◌, ◌⊎◌, inl, inr, Bool, true, false, cond, ℕ, zero, suc, ◌+◌, ◌<◌, ◌≤◌, List, [], ◌∷◌, length, Option, Some, refl, sym, ap, ◌∙◌, arith}
 use Rattle.std.specs.Prelude.{◌==◌, ◌||◌}
 use Rattle.std.specs.List.{filter, range_with_len}
 use Rattle.std.proofs.lemmas.Bool.{eqb-true, cases_lt}
@@ -7,12 +7,14 @@ use Rattle.log_node.specs.declared.limits.TheConstants.{MAX_COLOURS}
 use Rattle.log_node.proofs.CallerLemmas.{members-one, members-set_of}
 use Rattle.object_fold.specs.Nodes.{shard_of}
 use Rattle.script_text.specs.declared.script.Kind.{Kind}
+use Rattle.script_text.specs.declared.script.Kind.TheVariants as kinds
 use Rattle.script_text.specs.declared.commands.What.{What}
 use Rattle.script_text.specs.declared.uses.Use.{Use}
 use Rattle.report_text.specs.declared.report.SyncPiece.{SyncPiece}
 use Rattle.lawful_run.specs.Callers.{Caller}
 use Rattle.lawful_run.specs.Asks.{kind_of_object, object_colours, kind_asked, kind_used, shards, Getting}
 use Rattle.lawful_run.specs.Deeds.{AsksForKey, Deed, colours_reached, colours_synced, manner_of}
+use Rattle.lawful_run.specs.Parts.{AsksOf, AsksToDecide}
 
 -- one key has one shard
 pub one_shard : (colours key : List ℕ) → shard_of colours key < MAX_COLOURS
@@ -63,3 +65,13 @@ shard_synced caller what object key colours kind sync asks at own low shard =
     key_synced caller what object key kind asks at
     ∙ (ap (λ (cs : List ℕ). shards cs (key ∷ [])) own
     ∙ (one_shard colours key low ∙ ap (λ (c : ℕ). c ∷ []) (sym shard)))
+
+-- the kind of the object of a command that asks for a key
+pub asked_kind : (caller : Caller) (what : What) (sync : SyncPiece) (kind : Option Kind) (key : List ℕ)
+    → AsksOf caller what sync kind key → kind_asked caller what ≡ kind
+asked_kind caller what sync kind key asks = ap (kind_used caller) asks.1.uses ∙ asks.2
+
+-- and of a decide
+pub decide_kind : (caller : Caller) (what : What) (sync : SyncPiece) (colours : List ℕ)
+    → (asks : AsksToDecide caller what sync colours) → kind_asked caller what ≡ Some (kinds.Parts asks.3 colours)
+decide_kind caller what sync colours asks = ap (kind_asked caller) asks.2 ∙ asks.4

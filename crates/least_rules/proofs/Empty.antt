@@ -13,6 +13,7 @@ use Rattle.col_core.specs.Rows.{FitsRows}
 use Rattle.col_core.specs.Computed.{dated}
 use Rattle.col_core.specs.Keeping.{Kept, nothing_kept}
 use Rattle.col_core.proofs.CallerLemmas.{cut-is_greatest, cut_unique}
+use Rattle.script_text.specs.declared.script.Kind.{Kind}
 use Rattle.script_text.specs.declared.script.Object.{Object}
 use Rattle.script_text.specs.declared.script.Script.{Script}
 use Rattle.script_text.specs.declared.commands.What.{What}
@@ -25,21 +26,26 @@ use Rattle.report_text.specs.declared.report.Report.{Report}
 use Rattle.lawful_run.specs.Callers.{Caller, caller_of}
 use Rattle.lawful_run.specs.Asks.{home_asked}
 use Rattle.lawful_run.specs.Lawful.{IsHelp}
+use Rattle.lawful_run.specs.Parts.{HasValue}
 use Rattle.lawful_run.specs.Refusals.{IsAway, IsHomeRefusal}
+use Rattle.lawful_run.proofs.CallerLemmas.{asked_kind}
 use Rattle.run_rules.specs.Told.{Account, Step, IsTold, kept_at, is_several, kept_after_raises, kept_after_syncs, OfEachStep}
 use Rattle.run_rules.specs.Telling.{step_of}
 use Rattle.run_rules.specs.Naming.{Names}
 use Rattle.run_rules.specs.Rules.{IsReplyTo, UsesNode, Stands, StopsAsTold}
-use Rattle.run_rules.specs.Shown.{Shows, AnswersRight, HasCause, begins_row, StandsNext, TreeAnswers}
-use Rattle.run_rules.specs.Keeping.{Keeps, RulesTo, one, two, three, four, five, six, seven, eight, nine, ten, eleven, twelve}
-use Rattle.run_rules.proofs.CallerLemmas.{rule4, rule9, rule10, rule11, rule12, rule13}
+use Rattle.run_rules.specs.Shown.{Shows, AnswersRight, HasCause, begins_row, StandsNext, TreeAnswers, PartAnswers}
+use Rattle.run_rules.specs.Keeping.{Keeps, RulesTo, one, two, three, four, five, six, seven, eight, nine, ten, eleven, twelve, thirteen}
+use Rattle.run_rules.proofs.CallerLemmas.{rule4, rule9, rule10, rule11, rule12, rule13, rule14}
 use Rattle.wrong_reports.specs.Cases.{a, e, x, asks, counts, look, replies}
 use Rattle.least_rules.specs.Breaking.{Breaks}
 use Rattle.wrong_reports.specs.Replies.{more_plays_than_nodes, a_look_at_what_is_not_there, a_snapshot_of_what_is_not_there}
-use Rattle.wrong_reports.specs.Objects.{a_value_of_nothing, refused_at_home}
+use Rattle.wrong_reports.specs.Objects.{a_value_of_nothing, map, refused_at_home}
+use Rattle.wrong_reports.specs.Parts.{undecided_where_nothing_waits}
 use Rattle.wrong_reports.specs.Guarded.{a_moved_that_was_not}
 use Rattle.wrong_reports.specs.Reads.{raise}
 use Rattle.wrong_reports.specs.Trees.{a_path_that_is_not_missing}
+use Rattle.part_fold.specs.Agreement.{part_at}
+use Rattle.part_fold.specs.Parts.{undecided_after}
 use Rattle.tree_fold.specs.Paths.{Path}
 use Rattle.tree_fold.specs.Readings.{path_of}
 use Rattle.tree_fold.specs.Trees.{tree_after, is_there}
@@ -188,6 +194,15 @@ module _ (version : ℕ) (objects : List Object) (n : ℕ) (what : What) (line :
     }),
   )
 
+  -- and with the thirteenth, where it is to no command of a tree
+  rules_13 : RulesTo s r its 12 → TreeAnswers its.log its_caller (kept_at step) what line.answer → RulesTo s r its 13
+  rules_13 before tree = (
+    before,
+    thirteen (record {
+      tree = of_step (λ c t. TreeAnswers its.log c (kept_at t) t.command.what t.reply.answer) tree;
+    }),
+  )
+
   keeps : (m : ℕ) → RulesTo s r its m → Keeps s r m
   keeps m rules = (its, its_told, rules)
 
@@ -247,7 +262,7 @@ value_of_nothing = breaks_next a_value_of_nothing 9 (omega arith) (omega arith)
     (replies 7 words.Get (answers.Got (Some (codes "v")) (look x 0 (counts 0 0)))) 9
     (rules_9 1 a_value_of_nothing.script.objects 7 (whats.Get 0 (codes "k"))
     (replies 7 words.Get (answers.Got (Some (codes "v")) (look x 0 (counts 0 0)))) (record {
-      replied = record { line = refl; word = refl; answer = (refl, 0, codes "k", record { uses = refl; gets = refl }, e, x ∷ [], refl, refl) };
+      replied = record { line = refl; word = refl; answer = (refl, (codes "k", (0, record { uses = refl; gets = refl }, refl, refl))) };
       names = ((omega arith, omega arith), omega arith);
       used = tt;
       stands = tt;
@@ -265,10 +280,17 @@ value_of_nothing = breaks_next a_value_of_nothing 9 (omega arith) (omega arith)
     (λ keeps.
     let t = client_tells a_value_of_nothing.script a_value_of_nothing.report keeps.0 keeps.1
     (λ c t. AnswersRight keeps.0.log t.untold c (kept_at t) t.command.what t.reply.answer) (rule10 keeps.2.1).right 0 _ refl in
-    let g = t.1.6 in
-    let nodes = no_nodes keeps.0.log g.nodes g.played in
-    let f : Some (codes "v") ≡ None =
-    g.value_is ∙ ap (λ ns. shard_value t.1.4 0 ns t.1.1) nodes ∙ no_value t.1.4 0 t.1.1 in cc (f))
+    let p = t.1 in
+    let nodes = no_nodes keeps.0.log p.0 p.1 in
+    elim p.2 [
+      | inl g ↦
+          let kind : Some map ≡ g.0 = asked_kind (caller_of a_value_of_nothing.script 0) (whats.Get 0 (codes "k"))
+          (look x 0 (counts 0 0)) g.0 g.1 g.2 in
+          let value = subst (λ (k : Option Kind). HasValue k x g.1 (Some (codes "v")) p.0) (sym kind) g.3 in
+          let f : Some (codes "v") ≡ None =
+          value ∙ ap (λ ns. shard_value (x ∷ []) x ns g.1) nodes ∙ no_value (x ∷ []) x g.1 in cc (f)
+      | inr g ↦ let w = g.1.2 in cc (w)
+    ])
 
 pub at_home : Breaks refused_at_home 11
 at_home = breaks_next refused_at_home 10 (omega arith) (omega arith)
@@ -445,3 +467,44 @@ not_missing = breaks_next a_path_that_is_not_missing 12 (omega arith) (omega ari
     let root : [] ≡ shows.0 = some_same [] shows.0 (ap path_of (same_path _ _ _ _ t.1.2) ∙ shows.1) in
     let f : true ≡ false = subst (λ (p : Path). is_there (tree_after t.1.3.2) p ≡ false) (sym root) shows.2 in
     cc (f))
+
+-- PARTS
+-- a peek that is undecided in an empty column
+abbrev peeks : What
+peeks = whats.Peek 0 (codes "k")
+
+abbrev undecided : ReplyLine
+undecided = replies 7 words.Peek (answers.Undecided 1 (look x 0 (counts 0 0)))
+
+pub nothing_waits : Breaks undecided_where_nothing_waits 14
+nothing_waits = breaks_next undecided_where_nothing_waits 13 (omega arith) (omega arith)
+    (keeps 2 undecided_where_nothing_waits.script.objects 7 peeks undecided 13
+    (rules_13 2 undecided_where_nothing_waits.script.objects 7 peeks undecided
+    (rules_12 2 undecided_where_nothing_waits.script.objects 7 peeks undecided
+    (rules_11 2 undecided_where_nothing_waits.script.objects 7 peeks undecided (record {
+      replied = record {
+        line = refl;
+        word = refl;
+        answer = (refl, e, x ∷ [], codes "k", (0, record { uses = refl; gets = refl }, refl, refl));
+      };
+      names = ((omega arith, omega arith), omega arith);
+      used = tt;
+      stands = tt;
+      stops = tt;
+      ids = refl;
+      rows = refl;
+      made = refl;
+    }) (record {
+      unseen = omega arith;
+      there = omega arith;
+      cut = cut-is_greatest 0 (dated 0 []);
+      not_trimmed = refl;
+      within = omega arith;
+    }) tt tt (λ t. absurd (let f : ⊥ = cc (t) in f)) (λ away. absurd (away refl))) tt) tt))
+    (λ keeps.
+    let t = client_tells undecided_where_nothing_waits.script undecided_where_nothing_waits.report keeps.0 keeps.1
+    (λ c t. PartAnswers keeps.0.log c (kept_at t) t.command.what t.reply.answer) (rule14 keeps.2.1).part 0 _ refl in
+    let p = t.1 in
+    let u = p.2 in
+    let f : None ≡ Some u.4 =
+    ap (undecided_after (part_at u.1 u.6.0)) (sym (no_nodes keeps.0.log p.0 p.1)) ∙ u.6.2 in cc (f))

@@ -75,7 +75,7 @@ breaks_first case broken = record {
 }
 
 -- a rule is the least where those before it are kept, and not it with them
-pub breaks_next : (case : Case) (n : ℕ) → 1 ≤ n → n + 1 ≤ 13 → Keeps case.script case.report n
+pub breaks_next : (case : Case) (n : ℕ) → 1 ≤ n → n + 1 ≤ 14 → Keeps case.script case.report n
     → (Keeps case.script case.report (n + 1) → ⊥) → Breaks case (n + 1)
 breaks_next case n some few keeps broken = record {
   number = (omega (arith, some), few);

@@ -33,6 +33,7 @@ pub use replies::{
     an_append_that_shows_a_node_breaks_rule_1, an_event_that_is_not_there_breaks_rule_4,
     another_commands_answer_breaks_rule_1, more_plays_than_nodes_breaks_rule_9,
     no_stamp_with_stamps_left_breaks_rule_11, refused_at_home_breaks_rule_11,
+    undecided_where_nothing_waits_breaks_rule_14,
 };
 pub use rows::an_outcome_of_other_marks_breaks_rule_3;
 pub use stops::{a_row_left_open_breaks_rule_8, a_stop_before_its_steps_breaks_rule_7};

@@ -15,6 +15,7 @@ ghost use Rattle.wrong_reports.specs.Naming.{a_full_that_needs_no_row, an_event_
 ghost use Rattle.wrong_reports.specs.Naming.{no_stamp_with_stamps_left};
 ghost use Rattle.wrong_reports.specs.Reads.{a_scan_of_more_nodes};
 ghost use Rattle.wrong_reports.specs.Trees.{a_path_that_is_not_missing};
+ghost use Rattle.wrong_reports.specs.Parts.{undecided_where_nothing_waits};
 ghost use Rattle.wrong_reports.specs.Guarded.{a_moved_that_was_not};
 
 /// Each command is answered.
@@ -177,4 +178,10 @@ pub fn no_stamp_with_stamps_left_breaks_rule_11()
 #[tactic(auto, using(crate::proofs::NodeLines::under_another_stamp))]
 pub fn a_node_under_another_stamp_breaks_rule_9()
     ensures { Breaks a_node_under_another_stamp 9 }
+{}
+
+/// A peek is undecided only where a transaction waits.
+#[tactic(auto, using(crate::proofs::Empty::nothing_waits))]
+pub fn undecided_where_nothing_waits_breaks_rule_14()
+    ensures { Breaks undecided_where_nothing_waits 14 }
 {}

@@ -1,37 +1,30 @@
--- What peeks and decides ask for, by the kind of their object.
+-- What a decide syncs and appends on, by its object.
 use Rattle.std.proofs.Common.{◌≡◌, ◌∙◌, ℕ, List, ◌∷◌, Option, Some, ap, sym}
 use Rattle.object_fold.specs.Nodes.{shard_of}
 use Rattle.col_core.specs.Keeping.{Kept}
 use Rattle.script_text.specs.declared.commands.What.{What}
 use Rattle.script_text.specs.declared.script.Kind.{Kind}
-use Rattle.script_text.specs.declared.script.Kind.TheVariants as kinds
 use Rattle.report_text.specs.declared.report.SyncPiece.{SyncPiece}
 use Rattle.lawful_run.specs.Callers.{Caller}
-use Rattle.lawful_run.specs.Asks.{kind_asked, kind_used, object_colours, rising}
+use Rattle.lawful_run.specs.Asks.{kind_asked, object_colours, rising}
 use Rattle.lawful_run.specs.Deeds.{colours_synced}
-use Rattle.lawful_run.specs.Parts.{AsksOf, AsksToDecide}
+use Rattle.lawful_run.specs.Parts.{AsksToDecide}
+use Rattle.lawful_run.proofs.CallerLemmas.{decide_kind}
 use Rattle.run_rules.specs.Told.{colours_asked}
 
-module _ (caller : Caller) (what : What) (sync : SyncPiece) where
-  -- the object's kind, of a command that asks for a key
-  pub kind_of : (kind : Option Kind) (key : List ℕ) → AsksOf caller what sync kind key → kind_asked caller what ≡ kind
-  kind_of kind key asks = ap (kind_used caller) asks.1.uses ∙ asks.2
+module _ (caller : Caller) (what : What) (sync : SyncPiece) (colours : List ℕ)
+    (asks : AsksToDecide caller what sync colours) where
+  -- the object's colours
+  pub decide_own : object_colours (kind_asked caller what) ≡ colours
+  decide_own = ap object_colours (decide_kind caller what sync colours asks)
 
-  module _ (colours : List ℕ) (asks : AsksToDecide caller what sync colours) where
-    -- and of a decide
-    pub decide_kind : kind_asked caller what ≡ Some (kinds.Parts asks.3 colours)
-    decide_kind = ap (kind_asked caller) asks.2 ∙ asks.4
+  -- it syncs its key's shard, and then all colours
+  pub decide_synced : colours_synced caller what ≡ sync.colour ∷ rising colours
+  decide_synced =
+      ap (colours_synced caller) asks.2
+      ∙ (ap (λ (k : Option Kind). shard_of (object_colours k) asks.1 ∷ rising (object_colours k)) asks.4
+      ∙ ap (λ (c : ℕ). c ∷ rising colours) (sym asks.5))
 
-    pub decide_own : object_colours (kind_asked caller what) ≡ colours
-    decide_own = ap object_colours decide_kind
-
-    -- it syncs its key's shard, and then all colours
-    pub decide_synced : colours_synced caller what ≡ sync.colour ∷ rising colours
-    decide_synced =
-        ap (colours_synced caller) asks.2
-        ∙ (ap (λ (k : Option Kind). shard_of (object_colours k) asks.1 ∷ rising (object_colours k)) asks.4
-        ∙ ap (λ (c : ℕ). c ∷ rising colours) (sym asks.5))
-
-    -- and appends on colours that do not rest on what its client keeps
-    pub decide_asked : (a b : Kept) → colours_asked caller a what ≡ colours_asked caller b what
-    decide_asked a b = ap (colours_asked caller a) asks.2 ∙ sym (ap (colours_asked caller b) asks.2)
+  -- and appends on colours that do not rest on what its client keeps
+  pub decide_asked : (a b : Kept) → colours_asked caller a what ≡ colours_asked caller b what
+  decide_asked a b = ap (colours_asked caller a) asks.2 ∙ sym (ap (colours_asked caller b) asks.2)

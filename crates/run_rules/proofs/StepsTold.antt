@@ -50,7 +50,8 @@ use Rattle.run_rules.specs.Answering.{AsksKeys, CanEnd, CanGet}
 use Rattle.run_rules.specs.Rules.{with_room, StopsAsTold}
 use Rattle.run_rules.specs.Shown.{OfMap, OfNodesRead, OfParts, own_key}
 use Rattle.run_rules.specs.Keeping.{hides, is_sync}
-use Rattle.run_rules.proofs.Deciding.{kind_of, decide_asked, decide_kind, decide_own}
+use Rattle.lawful_run.proofs.CallerLemmas.{asked_kind, decide_kind}
+use Rattle.run_rules.proofs.Deciding.{decide_asked, decide_own}
 use Rattle.run_rules.proofs.EndsTold.{end_told}
 use Rattle.run_rules.proofs.Facts.{Facts, asked_colours}
 use Rattle.run_rules.proofs.Room.{stops_with, no_stamp_with}
@@ -85,7 +86,7 @@ of_parts _ said = tt
 can_get : (caller : Caller) (what : What) (value : Value) (sync : SyncPiece) (objects : List ObjectNode)
     → AnswersGet caller what sync value objects → CanGet caller what sync value (kind_asked caller what)
 can_get caller what value sync objects (inl (kind, key, asks, has)) =
-    subst (CanGet caller what sync value) (sym (kind_of caller what sync kind key asks)) (by kind has asks) where
+    subst (CanGet caller what sync value) (sym (asked_kind caller what sync kind key asks)) (by kind has asks) where
       by : (kind : Option Kind) → HasValue kind sync.colour key value objects → AsksOf caller what sync kind key
           → CanGet caller what sync value kind
       by (Some (kinds.Map home colours)) has asks = (key, asks)

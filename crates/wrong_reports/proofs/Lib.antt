@@ -26,4 +26,5 @@ mod WrongRefusals
 mod WrongLooks
 mod WrongGuarded
 mod WrongTrees
+mod WrongParts
 mod FollowingLaws

@@ -1,6 +1,6 @@
 -- What is read off a lawful run of a few commands.
 use Rattle.std.proofs.Common.{◌≡◌, ◌⊎◌, inl, inr, ℕ, zero, suc, ◌<◌, List, [], ◌∷◌, ◌++◌, length, Some, None, refl}
-use Rattle.std.proofs.Common.{sym, subst, slice_get, arith}
+use Rattle.std.proofs.Common.{ap, sym, subst, ◌∙◌, slice_get, arith}
 use Rattle.std.specs.Prelude.{map, Option}
 use Rattle.std.specs.List.{All}
 use Rattle.log_node.specs.declared.ids.Colours.{Colours}
@@ -9,18 +9,23 @@ use Rattle.log_node.specs.declared.forms.Version.{Version}
 use Rattle.log_node.specs.declared.forms.Form.TheVariants as forms
 use Rattle.log_node.specs.Sets.{members}
 use Rattle.object_form.specs.Forms.{form_text}
+use Rattle.script_text.specs.declared.script.Kind.{Kind}
+use Rattle.script_text.specs.declared.script.Kind.TheVariants as kinds
+use Rattle.script_text.specs.declared.commands.What.{What}
 use Rattle.script_text.specs.declared.commands.What.TheVariants as whats
 use Rattle.script_text.specs.declared.script.Command.{Command}
 use Rattle.report_text.specs.declared.report.ReplyLine.{ReplyLine}
 use Rattle.report_text.specs.declared.report.ColumnReport.{ColumnReport}
+use Rattle.report_text.specs.declared.report.SyncPiece.{SyncPiece}
 use Rattle.col_core.specs.Log.{Log}
 use Rattle.col_core.specs.Keeping.{Kept, nothing_kept}
 use Rattle.lawful_run.specs.Callers.{Caller}
-use Rattle.lawful_run.specs.Asks.{kind_of_object, colours_of_object, shards, keys_of_pairs}
+use Rattle.lawful_run.specs.Asks.{kind_of_object, kind_asked, kind_used, colours_of_object, shards, keys_of_pairs}
 use Rattle.lawful_run.specs.Deeds.{saying_of, SaysNode, AsksToAppend}
 use Rattle.lawful_run.specs.Columns.{IsColumnReport}
 use Rattle.lawful_run.specs.Explains.{Explained, Answers, start, next}
 use Rattle.lawful_run.specs.Lawful.{LawfulRun}
+use Rattle.lawful_run.specs.Parts.{AsksOf, AsksToDecide}
 use Rattle.wrong_reports.specs.Cases.{Case}
 
 no_end : {A : Type 0} (xs : List A) (x : A) → [] ≡ xs ++ x ∷ [] → ⊥
@@ -127,3 +132,13 @@ versions_named caller kept object pairs colours text = by (kept.reads object) re
       → NamesVersions caller kept object pairs colours text
   by None is asks = absurd asks
   by (Some versions) is asks = (versions, is, asks.0, asks.1)
+
+-- the kind of the object of a command that asks for a key
+pub asked_kind : (caller : Caller) (what : What) (sync : SyncPiece) (kind : Option Kind) (key : List ℕ)
+    → AsksOf caller what sync kind key → kind_asked caller what ≡ kind
+asked_kind caller what sync kind key asks = ap (kind_used caller) asks.1.uses ∙ asks.2
+
+-- and of a decide
+pub decide_kind : (caller : Caller) (what : What) (sync : SyncPiece) (colours : List ℕ)
+    → (asks : AsksToDecide caller what sync colours) → kind_asked caller what ≡ Some (kinds.Parts asks.3 colours)
+decide_kind caller what sync colours asks = ap (kind_asked caller) asks.2 ∙ asks.4

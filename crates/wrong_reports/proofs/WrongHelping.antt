@@ -200,7 +200,7 @@ left_open run =
     i in cc (f)) (in_rows one) (sym one.id_is)).decided refl
 
 pub stamps_end : IsUnlawful a_stop_for_the_stamps_end
-stamps_end run = (only run.log _ _ _ _ (run.clients 0 _ refl).explained).explained.1 refl
+stamps_end run = let f = (only run.log _ _ _ _ (run.clients 0 _ refl).explained).explained.1 in cc (f)
 
 pub open_somewhere : IsUnlawful a_helped_append_open_in_a_colour
 open_somewhere run =

@@ -1,5 +1,5 @@
 -- Syncs, reads, pulls and trims that look elsewhere or at another time than they may.
-use Rattle.std.proofs.Common.{◌≡◌, inl, inr, ℕ, ◌<◌, ◌≤◌, List, [], ◌∷◌, ◌++◌, length, length-append, map, take, Some, None, refl, ap, sym, subst}
+use Rattle.std.proofs.Common.{◌≡◌, inl, inr, ℕ, ◌<◌, ◌≤◌, List, [], ◌∷◌, ◌++◌, length, length-append, map, take, Option, Some, None, refl, ap, sym, subst}
 use Rattle.std.proofs.Common.{◌∙◌, arith, lit<, slice_get, codes}
 use Rattle.std.proofs.Math.Nat.{le-max_right}
 use Rattle.std.proofs.lemmas.Bool.{eqb-true}
@@ -25,6 +25,7 @@ use Rattle.col_core.specs.Keeping.{Kept, nothing_kept, updated, updated_at, with
 use Rattle.col_core.proofs.CallerLemmas.{choice}
 use Rattle.report_text.specs.declared.report.RaisePiece.{RaisePiece}
 use Rattle.report_text.specs.declared.report.SyncPiece.{SyncPiece}
+use Rattle.script_text.specs.declared.script.Kind.{Kind}
 use Rattle.script_text.specs.declared.script.Kind.TheVariants as kinds
 use Rattle.script_text.specs.declared.commands.What.TheVariants as whats
 use Rattle.lawful_run.specs.Callers.{Caller, caller_of, node_of}
@@ -32,8 +33,9 @@ use Rattle.col_core.specs.Ids.{IsStepOf}
 use Rattle.lawful_run.specs.Asks.{kind_of_object}
 use Rattle.lawful_run.specs.Deeds.{AsksForKey, Deed, ShardsOf}
 use Rattle.lawful_run.specs.Reads.{HidesRead, ShowsKey, Syncs, RaisesClock, kept_after_place, Raises, ClearSyncs}
+use Rattle.lawful_run.specs.Parts.{HasValue}
 use Rattle.lawful_run.specs.Refusals.{FindsNoMemory, nothing, gone, gave, hidden}
-use Rattle.wrong_reports.specs.Cases.{IsUnlawful, a, b, e, x, id, by, counts, enters}
+use Rattle.wrong_reports.specs.Cases.{IsUnlawful, a, b, e, x, id, by, counts, enters, look}
 use Rattle.wrong_reports.specs.Rows.{proposed}
 use Rattle.wrong_reports.specs.Naming.{one_node, trim, trimmed}
 use Rattle.wrong_reports.specs.Shown.{shown}
@@ -46,8 +48,8 @@ use Rattle.wrong_reports.specs.Looks.{a_trim_told_as_a_give, a_carry_beyond_the_
 use Rattle.wrong_reports.specs.Looks.{a_carry_that_was_seen, a_get_of_another_colour, a_causal_get_of_another_colour}
 use Rattle.wrong_reports.specs.Looks.{a_dequeue_of_another_colour, a_refused_read_that_keeps_an_earlier_one}
 use Rattle.wrong_reports.specs.Looks.{a_raise_before_its_clients_node_is_settled, a_value_of_another_text}
-use Rattle.wrong_reports.specs.Objects.{one_pair}
-use Rattle.wrong_reports.proofs.Tools.{only, ends_with, column_at, some_same, versions_named}
+use Rattle.wrong_reports.specs.Objects.{map as map_on_x, one_pair}
+use Rattle.wrong_reports.proofs.Tools.{only, ends_with, column_at, some_same, versions_named, asked_kind}
 use Rattle.wrong_reports.proofs.Told.{two, trim_says, stood_says, several_says}
 use Rattle.wrong_reports.proofs.WrongReads.{scan_says}
 use Rattle.wrong_reports.proofs.WrongMoves.{pull_says}
@@ -309,9 +311,10 @@ carry_seen run =
 
 -- OBJECTS
 pub get_elsewhere : IsUnlawful a_get_of_another_colour
-get_elsewhere run =
-    let c = (only run.log _ _ _ _ (run.clients 0 _ refl).explained).explained.7 in
-    cc (c)
+get_elsewhere run = elim (only run.log _ _ _ _ (run.clients 0 _ refl).explained).explained.1.2 [
+  | inl g ↦ let c = g.2.3 in cc (c)
+  | inr g ↦ let w = g.1.2 in cc (w)
+]
 
 same_object : (object other : ℕ) (key more : List ℕ) → AsksForKey (whats.Get object key) other more → object ≡ other
 same_object object other key more asks = let e = asks.uses in cc (e)
@@ -333,10 +336,6 @@ asked_key : (object other : ℕ) (key more : List ℕ) → AsksForKey (whats.Get
 asked_key object other key more asks =
     let e : ShardsOf (key ∷ []) ≡ ShardsOf (more ∷ []) = ap (λ (d : Deed). d.syncs) asks.gets in cc (e)
 
-colours_are : (home other : ℕ) (colours more : List ℕ)
-    → Some (kinds.Map home colours) ≡ Some (kinds.Map other more) → colours ≡ more
-colours_are home other colours more e = cc (e)
-
 puts : (key : Key) (c : Colours)
     → shard_value (0 ∷ []) 0 (record { key = key; colours = c; text = codes "p:k=v" } ∷ []) (codes "k") ≡ Some (codes "v")
 puts key c = refl
@@ -348,26 +347,26 @@ pub another_text : IsUnlawful a_value_of_another_text
 another_text run =
     let t = two run.log _ _ _ _ _ _ (run.clients 0 _ refl).explained in
     let next = (stood_says run.log _ _ _ _ _ _ _ _ _ _ _ t.first).0.next in
-    let s = t.second.explained in
+    let p = t.second.explained.1 in
     let h = (column_at a_value_of_another_text run 0 one_node refl).history in
     let caller = caller_of a_value_of_another_text.script 0 in
-    let object : 0 ≡ s.1 = same_object _ _ _ _ s.3 in
-    let asked : codes "k" ≡ s.2 = asked_key _ _ _ _ s.3 in
-    let colours : 0 ∷ [] ≡ s.5 = colours_are _ _ _ _ (ap (λ o. kind_of_object caller o) object ∙ s.6) in
-    let g = s.9 in
     let keys : take 1 (line (take 1 (run.log.histories 0 0))) ≡ the_key ∷ [] =
     ap (λ (es : List Entry). take 1 (line (take 1 es))) (sym h) in
-    let one = one_object run.log _ g.nodes keys g.played in
+    let one = one_object run.log _ p.0 keys p.1 in
     let node = some_same _ _ (sym next ∙ one.1.there) in
     let text : one.0.text ≡ codes "p:k=v" = one.1.text ∙ ap (λ (n : Node). n.text) (sym node) in
     let is = node_is one.0 the_key (codes "p:k=v") one.1.key_is text in
-    w_is_no_v (g.value_is ∙ ap (λ ns. shard_value s.5 0 ns s.2) (one.2
-    ∙ ap (λ n. n ∷ []) is)
-    ∙ ap (λ cs. shard_value cs 0 (record { key = the_key; colours = one.0.colours; text = codes "p:k=v" } ∷ []) s.2)
-    (sym colours)
-    ∙ ap (λ k. shard_value (0 ∷ []) 0 (record { key = the_key; colours = one.0.colours; text = codes "p:k=v" } ∷ []) k)
-    (sym asked)
-    ∙ puts the_key one.0.colours)
+    elim p.2 [
+      | inl g ↦
+          let kind : Some map_on_x ≡ g.0 = asked_kind caller (whats.Get 0 (codes "k")) (look x 1 (counts 1 0)) g.0 g.1 g.2 in
+          let value = subst (λ (k : Option Kind). HasValue k x g.1 (Some (codes "w")) p.0) (sym kind) g.3 in
+          let asked : codes "k" ≡ g.1 = asked_key _ _ _ _ g.2.1 in
+          w_is_no_v (value ∙ ap (λ ns. shard_value (0 ∷ []) 0 ns g.1) (one.2 ∙ ap (λ n. n ∷ []) is)
+          ∙ ap (λ k. shard_value (0 ∷ []) 0 (record { key = the_key; colours = one.0.colours; text = codes "p:k=v" } ∷ []) k)
+          (sym asked)
+          ∙ puts the_key one.0.colours)
+      | inr g ↦ let w = g.1.2 in cc (w)
+    ]
 
 -- a read that found no memory finds nothing
 reads_none : (log : Log) (caller : Caller) (kept after : Kept) (keys : List (List ℕ)) → kept.reads 0 ≡ None

@@ -188,6 +188,9 @@ refused_for_trim run = elim (only run.log _ _ _ _ (run.clients 0 _ refl).explain
   | inl m ↦ cc (m)
   | inr n ↦ elim n [
     | inl m ↦ cc (m)
-    | inr m ↦ cc (m)
+    | inr o ↦ elim o [
+      | inl m ↦ cc (m)
+      | inr m ↦ cc (m)
+    ]
   ]
 ]

@@ -1,5 +1,5 @@
 -- Objects' replies that are wrong.
-use Rattle.std.proofs.Common.{◌≡◌, inl, inr, ℕ, List, [], ◌∷◌, Some, None, refl, ap, sym, subst, ◌∙◌, arith, codes}
+use Rattle.std.proofs.Common.{◌≡◌, inl, inr, ℕ, List, [], ◌∷◌, Option, Some, None, refl, ap, sym, subst, ◌∙◌, arith, codes}
 use Rattle.std.specs.List.{AllZip}
 use Rattle.std.proofs.lemmas.List.Sorted.{length_permutation}
 use Rattle.object_fold.specs.Nodes.{ObjectNode}
@@ -15,13 +15,15 @@ use Rattle.col_core.specs.Keeping.{Kept, with_read}
 use Rattle.col_core.specs.Cuts.{chain}
 use Rattle.col_core.specs.Log.{first}
 use Rattle.lawful_run.specs.Objects.{IsChainNode, AreObjectNodes}
-use Rattle.wrong_reports.specs.Cases.{IsUnlawful}
-use Rattle.wrong_reports.specs.Objects.{one_pair, refused_at_home, answered_away_from_home, another_home, a_value_of_nothing}
+use Rattle.lawful_run.specs.Parts.{HasValue}
+use Rattle.script_text.specs.declared.script.Kind.{Kind}
+use Rattle.wrong_reports.specs.Cases.{IsUnlawful, x, counts, look}
+use Rattle.wrong_reports.specs.Objects.{map, one_pair, refused_at_home, answered_away_from_home, another_home, a_value_of_nothing}
 use Rattle.wrong_reports.specs.Objects.{a_value_of_another_key, a_causal_value_of_nothing}
 use Rattle.wrong_reports.specs.Objects.{a_dequeue_answered_as_an_append, a_dequeue_of_nothing}
 use Rattle.wrong_reports.specs.Objects.{a_read_that_is_forgotten, a_commit_that_keeps_its_read}
 use Rattle.lawful_run.specs.Callers.{caller_of}
-use Rattle.wrong_reports.proofs.Tools.{only, ends_with, versions_named}
+use Rattle.wrong_reports.proofs.Tools.{only, ends_with, versions_named, asked_kind}
 use Rattle.wrong_reports.proofs.Told.{two}
 
 pub at_home : IsUnlawful refused_at_home
@@ -54,10 +56,18 @@ no_value colours colour key = by (shard_of colours key == colour) where
 
 pub value_of_nothing : IsUnlawful a_value_of_nothing
 value_of_nothing run =
-    let s = (only run.log _ _ _ _ (run.clients 0 _ refl).explained).explained in
-    let nodes = no_nodes run.log _ s.9.played in
-    let f : Some (codes "v") ≡ None = s.9.value_is ∙ ap (λ ns. shard_value s.5 0 ns s.2) nodes ∙ no_value s.5 0 s.2 in
-    cc (f)
+    let p = (only run.log _ _ _ _ (run.clients 0 _ refl).explained).explained.1 in
+    let nodes = no_nodes run.log p.0 p.1 in
+    elim p.2 [
+      | inl g ↦
+          let kind : Some map ≡ g.0 = asked_kind (caller_of a_value_of_nothing.script 0) (whats.Get 0 (codes "k"))
+          (look x 0 (counts 0 0)) g.0 g.1 g.2 in
+          let value = subst (λ (k : Option Kind). HasValue k x g.1 (Some (codes "v")) p.0) (sym kind) g.3 in
+          let f : Some (codes "v") ≡ None =
+          value ∙ ap (λ ns. shard_value (x ∷ []) x ns g.1) nodes ∙ no_value (x ∷ []) x g.1 in
+          cc (f)
+      | inr g ↦ let w = g.1.2 in cc (w)
+    ]
 
 pub same_asked : (object other : ℕ) (keys more : List (List ℕ))
     → whats.GetAll object keys ≡ whats.GetAll other more → keys ≡ more

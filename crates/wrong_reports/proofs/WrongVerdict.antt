@@ -31,39 +31,51 @@ use Rattle.wrong_reports.proofs.Told.{Two, two}
 abbrev pub the_key : Key
 the_key = key 1 (id a 0)
 
--- nothing is read of an empty line
-pub none_read : (stamp : ℕ) (keys : List Key) → IsRegionOrder ([] ∷ []) stamp keys → keys ≡ []
-none_read stamp [] order = refl
-none_read stamp (k ∷ keys) order =
+-- nothing is read of empty lines
+pub read_nothing : (lines : List (List Key)) → ((l : List Key) (k : Key) → Contains lines l → Contains l k → ⊥)
+    → (stamp : ℕ) (keys : List Key) → IsRegionOrder lines stamp keys → keys ≡ []
+read_nothing lines empty stamp [] order = refl
+read_nothing lines empty stamp (k ∷ keys) order =
     let other = order.no_other k (0, (let l : 0 < length (k ∷ keys) = omega arith in l), refl) in
-    absurd (empty other.1 k other.2 other.3) where
-      empty : (l : List Key) (k : Key) → Contains ([] ∷ []) l → Contains l k → ⊥
-      empty l k (zero, lt, same) among = let c = subst (λ (l : List Key). Contains l k) (sym same) among in let f =
-          c.1 in omega (arith, f)
-      empty l k (suc n, lt, same) among = let f : ⊥ = omega (arith, lt) in f
+    absurd (empty other.1 k other.2 other.3)
 
--- what is read of one key
-read_one : (k : Key) (l : List Key) → Contains ((the_key ∷ []) ∷ []) l → Contains l k → k ≡ the_key
-read_one k l (zero, lt, same) among = by (subst (λ (l : List Key). Contains l k) (sym same) among) where
-  by : Contains (the_key ∷ []) k → k ≡ the_key
-  by (zero, lt, same) = sym same
-  by (suc n, lt, same) = absurd (let f : ⊥ = omega (arith, lt) in f)
-read_one k l (suc n, lt, same) among = absurd (let f : ⊥ = omega (arith, lt) in f)
+-- an empty line has no key
+pub in_none : (k : Key) → Contains [] k → ⊥
+in_none k among = let f = among.1 in omega (arith, f)
 
-pub one_read : (keys : List Key) → IsRegionOrder ((the_key ∷ []) ∷ []) 1 keys → keys ≡ the_key ∷ []
-one_read [] order =
-    absurd (let c = order.all (the_key
-    ∷ []) the_key (0, lit< tt, refl) (0, lit< tt, refl) (lit≤ tt) in let l = c.1 in omega (arith, l))
-one_read (k ∷ []) order =
+pub none_read : (stamp : ℕ) (keys : List Key) → IsRegionOrder ([] ∷ []) stamp keys → keys ≡ []
+none_read = read_nothing ([] ∷ []) empty where
+  empty : (l : List Key) (k : Key) → Contains ([] ∷ []) l → Contains l k → ⊥
+  empty l k (zero, lt, same) among = in_none k (subst (λ (l : List Key). Contains l k) (sym same) among)
+  empty l k (suc n, lt, same) among = let f : ⊥ = omega (arith, lt) in f
+
+-- what is read of lines that have one key alone
+pub read_alone : (lines : List (List Key)) → Contains lines (the_key ∷ [])
+    → ((k : Key) (l : List Key) → Contains lines l → Contains l k → k ≡ the_key)
+    → (keys : List Key) → IsRegionOrder lines 1 keys → keys ≡ the_key ∷ []
+read_alone lines has alone [] order =
+    absurd (let c = order.all (the_key ∷ []) the_key has (0, lit< tt, refl) (lit≤ tt) in let l = c.1 in omega (arith, l))
+read_alone lines has alone (k ∷ []) order =
     let o = order.no_other k (0, lit< tt, refl) in
-    ap (λ (k : Key). k ∷ []) (read_one k o.1 o.2 o.3)
-one_read (k ∷ l ∷ keys) order =
+    ap (λ (k : Key). k ∷ []) (alone k o.1 o.2 o.3)
+read_alone lines has alone (k ∷ l ∷ keys) order =
     let o = order.no_other k (0, (let f : 0 < length (k ∷ l ∷ keys) = omega arith in f), refl) in
     let p = order.no_other l (1, (let f : 1 < length (k ∷ l ∷ keys) = omega arith in f), refl) in
     let below = order.rising 0 1 k (lit< tt) (let f : 1 < length (k ∷ l ∷ keys) = omega arith in f) in
-    let first = subst (λ (k : Key). IsTrue (key_below k l)) (read_one k o.1 o.2 o.3) below in
-    let second = subst (λ (l : Key). IsTrue (key_below the_key l)) (read_one l p.1 p.2 p.3) first in
+    let first = subst (λ (k : Key). IsTrue (key_below k l)) (alone k o.1 o.2 o.3) below in
+    let second = subst (λ (l : Key). IsTrue (key_below the_key l)) (alone l p.1 p.2 p.3) first in
     absurd (let f : ⊥ = cc (second) in f)
+
+-- of a line with it
+pub in_alone : (k : Key) → Contains (the_key ∷ []) k → k ≡ the_key
+in_alone k (zero, lt, same) = sym same
+in_alone k (suc n, lt, same) = absurd (let f : ⊥ = omega (arith, lt) in f)
+
+pub one_read : (keys : List Key) → IsRegionOrder ((the_key ∷ []) ∷ []) 1 keys → keys ≡ the_key ∷ []
+one_read = read_alone ((the_key ∷ []) ∷ []) (0, lit< tt, refl) alone where
+  alone : (k : Key) (l : List Key) → Contains ((the_key ∷ []) ∷ []) l → Contains l k → k ≡ the_key
+  alone k l (zero, lt, same) among = in_alone k (subst (λ (l : List Key). Contains l k) (sym same) among)
+  alone k l (suc n, lt, same) among = absurd (let f : ⊥ = omega (arith, lt) in f)
 
 abbrev the_text : List ℕ
 the_text = codes "t:k@-|k=v"
@@ -82,7 +94,7 @@ commits : (c : Colours)
     → verdict_of (record { key = the_key; colours = c; text = the_text } ∷ []) the_key ≡ Some (Committed 1)
 commits c = refl
 
-same_read : (object other : ℕ) (keys more : List (List ℕ)) → whats.Read object keys ≡ whats.Read other more
+pub same_read : (object other : ℕ) (keys more : List (List ℕ)) → whats.Read object keys ≡ whats.Read other more
     → (object ≡ other) × (keys ≡ more)
 same_read object other keys more e = (cc (e), cc (e))
 

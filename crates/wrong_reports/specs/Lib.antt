@@ -17,3 +17,4 @@ pub mod Looks
 pub mod Following
 pub mod Guarded
 pub mod Trees
+pub mod Parts
