@@ -12,3 +12,4 @@ mod AllNodes
 mod Peeks
 mod LogReading
 mod Decisions
+mod UpTo

@@ -128,11 +128,16 @@ peeks_by cited readings script report fits apart texts differ run client n reply
       keys_are : map (λ (x : ObjectNode). x.key) nodes ≡ upto
       keys_are = zip_map (IsLogged run.log) (λ (x : ObjectNode). x.key) (λ k x o. o.key_is) upto nodes made.1
 
+      each_is : (m : ObjectNode) → In m nodes → IsNodeOf run m
+      each_is m i = subst (IsNodeOf run) (same_node run z.0 y.0 m y.1 z.2) y.2 where
+        z : (k : Key) × In k upto × IsLogged run.log k m
+        z = zip_of (IsLogged run.log) upto nodes made.1 m i
+
+        y : (node : ObjectNode) × IsLogged run.log z.0 node × IsNodeOf run node
+        y = node_at z.0 z.1
+
       each : All (IsNodeOf run) nodes
-      each = all_in (IsNodeOf run) nodes (λ x i.
-          let z = zip_of (IsLogged run.log) upto nodes made.1 x i in
-          let y = node_at z.0 z.1 in
-          subst (IsNodeOf run) (same_node run z.0 y.0 x y.1 z.2) y.2)
+      each = all_in (IsNodeOf run) nodes each_is
 
       value_is : value ≡ value_of (writes_after nodes) key
       value_is =

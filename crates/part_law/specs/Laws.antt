@@ -33,6 +33,10 @@ abbrev pub ScriptsKeepApart : Type 0
 ScriptsKeepApart = (bytes : List ℕ) (script : Script) → IsScript bytes script
     → AreApart script.objects × AreTextsFree script × ColoursDiffer script.objects
 
+-- There are all keys up to a point, whatever the lines are and whatever was played.
+abbrev pub UpToIsThere : Type 0
+UpToIsThere = (lines : List (List Key)) (played : List Key) → (keys : List Key) × AreUpTo lines played keys
+
 -- A peek that is answered by a value tells the one that the whole transactional map has: that which the object's nodes leave
 -- in all its colours' closing lines, up to the last node of the key's line that the peek played.
 abbrev pub PeeksAgree : Type 0

@@ -1,5 +1,5 @@
 // Laws of objects that keep their colours to themselves. Each function does nothing, and its contract is the law.
-ghost use Rattle.part_law.specs.Laws.{DecisionsAreTrue, PeeksAgree, ScriptsKeepApart};
+ghost use Rattle.part_law.specs.Laws.{DecisionsAreTrue, PeeksAgree, ScriptsKeepApart, UpToIsThere};
 
 use lawful_run::{closing_lines_rise, one_key, returned_appends_stand};
 use object_form::reads_back;
@@ -11,6 +11,11 @@ use part_fold::{
 /// command, and each of its colours is there once.
 pub fn scripts_keep_apart()
     ensures { ScriptsKeepApart }
+{}
+
+/// Lines have all their keys up to each point in one order.
+pub fn up_to_is_there()
+    ensures { UpToIsThere }
 {}
 
 /// A peek's value is that of the whole map over all nodes up to the last one that it played.

@@ -3,4 +3,4 @@
 
 mod laws;
 
-pub use laws::{decisions_are_true, peeks_agree, scripts_keep_apart};
+pub use laws::{decisions_are_true, peeks_agree, scripts_keep_apart, up_to_is_there};

@@ -1,5 +1,5 @@
 -- What a decide syncs and appends on, by its object.
-use Rattle.std.proofs.Common.{◌≡◌, ◌∙◌, ℕ, List, ◌∷◌, Option, Some, ap, sym}
+use Rattle.std.proofs.Common.{◌≡◌, ◌∙◌, ℕ, List, ◌∷◌, Option, ap, sym}
 use Rattle.object_fold.specs.Nodes.{shard_of}
 use Rattle.col_core.specs.Keeping.{Kept}
 use Rattle.script_text.specs.declared.commands.What.{What}
