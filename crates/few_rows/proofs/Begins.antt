@@ -1,16 +1,13 @@
 -- A command begins one row at most, and none where it may begin none: so a client has begun no more rows than it has
 -- asked commands that may begin one.
-use Rattle.std.proofs.Common.{◌≡◌, ◌⊎◌, Bool, true, false, ℕ, zero, suc, ◌<◌, nat_lt, ◌+◌, ◌≤◌, List, [], ◌∷◌, ◌++◌, length, Option, Some, None, inl, inr, refl, ap, sym, subst, ◌∙◌, arith, cond}
-use Rattle.std.specs.Prelude.{◌==◌, ◌||◌, not, if◌then◌else◌}
-use Rattle.std.specs.List.{filter, range_with_len}
-use Rattle.std.proofs.lemmas.Bool.{eqb-true, cases_lt}
+use Rattle.std.proofs.Common.{◌≡◌, ◌⊎◌, Bool, true, false, ℕ, nat_lt, ◌+◌, ◌≤◌, List, [], ◌∷◌, ◌++◌, length, Option, Some, None, inl, inr, refl, ap, sym, subst, ◌∙◌, arith, cond}
+use Rattle.std.specs.Prelude.{◌||◌, not, if◌then◌else◌}
 use Rattle.std.proofs.lemmas.List.Sums.{sum_by_push}
 use Rattle.log_node.specs.declared.ids.Colours.{Colours}
 use Rattle.log_node.specs.declared.ids.Counts.{Counts}
 use Rattle.log_node.specs.declared.node.At.{At}
 use Rattle.log_node.specs.declared.node.At.TheVariants.{Event, Look}
 use Rattle.log_node.specs.declared.forms.Version.{Version}
-use Rattle.log_node.specs.declared.limits.TheConstants.{MAX_COLOURS}
 use Rattle.log_node.specs.Seen.{PlacedNode}
 use Rattle.log_node.specs.Sets.{members}
 use Rattle.object_form.specs.Forms.{is_word}
@@ -33,10 +30,9 @@ use Rattle.report_text.specs.declared.report.PointPiece.{PointPiece}
 use Rattle.report_text.specs.declared.report.RaisePiece.{RaisePiece}
 use Rattle.report_text.specs.declared.report.ReplyLine.{ReplyLine}
 use Rattle.report_text.specs.declared.report.SyncPiece.{SyncPiece}
-use Rattle.object_fold.specs.Nodes.{shard_of}
 use Rattle.lawful_run.proofs.CallerLemmas.{kept_after_hidden, before_is, behind_is, not_several, points_leave}
 use Rattle.lawful_run.specs.Callers.{Caller, node_of}
-use Rattle.lawful_run.specs.Asks.{shards, object_colours, kind_asked, Manner, Appending, Guarding, Stopping, Syncing, Moving, Getting, Reading, Committing, Dequeuing, Deciding, rising}
+use Rattle.lawful_run.specs.Asks.{object_colours, kind_asked, Manner, Appending, Guarding, Stopping, Syncing, Moving, Getting, Reading, Committing, Dequeuing, Deciding, rising}
 use Rattle.lawful_run.specs.Deeds.{Reach, NoColours, Named, One, ShardsOf, Saying, says_change, saying_of, found_by, Reaches, SaysNode, AsksToAppend, colours_synced, manner_of}
 use Rattle.lawful_run.specs.Appends.{Appends, AppendsUnshown, one_unshown, several_unshown, HasNoStamp, none_for_one, none_for_several}
 use Rattle.lawful_run.specs.Moves.{with_places, kept_after_pull}

@@ -1,5 +1,5 @@
 -- Stamped reads and objects answer by the nodes of the closing lines.
-use Rattle.std.proofs.Common.{◌≡◌, ℕ, ◌<◌, List, [], ◌∷◌, ◌++◌, length, take, drop, map, Some, slice_get, refl, ap, sym, subst, ◌∙◌, inl, inr, arith}
+use Rattle.std.proofs.Common.{None, ◌≡◌, ℕ, ◌<◌, List, [], ◌∷◌, ◌++◌, length, take, drop, map, Some, slice_get, refl, ap, sym, subst, ◌∙◌, inl, inr, arith}
 use Rattle.std.specs.Prelude.{◌==◌, ◌≢◌}
 use Rattle.std.specs.List.{All, AllZip}
 use Rattle.std.proofs.lemmas.Bool.{eq-eqb}
@@ -39,6 +39,7 @@ use Rattle.report_text.specs.declared.report.ReplyLine.{ReplyLine}
 use Rattle.report_text.specs.declared.report.ClientReport.{ClientReport}
 use Rattle.report_text.specs.declared.report.Report.{Report}
 use Rattle.lawful_run.specs.Callers.{caller_of, commands_of, node_of}
+use Rattle.lawful_run.specs.Asks.{rising}
 use Rattle.lawful_run.specs.Deeds.{AsksToAppend}
 use Rattle.lawful_run.specs.Reads.{Syncs, ShowsKey, ReadsAt, AreKeysRead, kept_after_piece}
 use Rattle.lawful_run.specs.Objects.{IsObjectNode, AreObjectNodes, own_played, shown_verdict}
@@ -46,7 +47,7 @@ use Rattle.lawful_run.specs.Parts.{AsksToDecide, EndsAs}
 use Rattle.lawful_run.specs.Refusals.{kept_before}
 use Rattle.lawful_run.specs.Explains.{Explains}
 use Rattle.lawful_run.specs.Lawful.{LawfulRun}
-use Rattle.lawful_run.specs.Readings.{HasReply, IsAppend, Nowhere, kept_of, kept_at, told_end, StandsAtPoints}
+use Rattle.lawful_run.specs.Readings.{HasReply, IsAppend, IsLogged, Nowhere, kept_of, kept_at, told_end, StandsAtPoints}
 use Rattle.lawful_run.specs.ObjectReadings.{IsNodeOf, AreNodesOf, IsClosing, AreClosing, ScansAreWhole, GetsAreFolds, UndecidedAreFolds, DecisionsAreFolds, DequeuesAreFolds, ReadsAreFolds, VerdictsAreFolds, ChangesAreFolds, ListsAreFolds}
 use Rattle.lawful_run.proofs.Prefixes.{prefix_get, prefix_take}
 use Rattle.lawful_run.proofs.Listed.{to_in, from_in, in_get, get_in}
@@ -54,11 +55,11 @@ use Rattle.lawful_run.proofs.Replies.{step_of}
 use Rattle.lawful_run.proofs.Beginnings.{split}
 use Rattle.lawful_run.proofs.Clients.{shown_there}
 use Rattle.lawful_run.proofs.Used.{before_ids}
-use Rattle.lawful_run.proofs.Decisions.{decide_asks}
+use Rattle.lawful_run.proofs.Decisions.{decide_asks, reads_behind}
 use Rattle.lawful_run.proofs.Standing.{Stands, column_is, column_within}
 use Rattle.lawful_run.proofs.Lines.{node_there, append_of}
 use Rattle.lawful_run.proofs.LettingGo.{asks_before}
-use Rattle.lawful_run.proofs.Returned.{at_points}
+use Rattle.lawful_run.proofs.Returned.{at_points, in_log}
 use Rattle.lawful_run.proofs.Shown.{stands_in, legal_at}
 use Rattle.lawful_run.proofs.ReadOrder.{closing_order}
 use Rattle.col_core.proofs.CallerLemmas.{in_take}
@@ -335,10 +336,10 @@ undecided_are_folds script report fits run client n reply h stamp sync is l clos
 decision_appends : (script : Script) (report : Report) (run : LawfulRun script report) (client n : ℕ) (reply : ReplyLine)
     → HasReply report client n reply → (command : Command) → slice_get (commands_of script client) n ≡ Some command
     → (sync : SyncPiece) (own : List ℕ) → AsksToDecide (caller_of script client) command.what sync own
-    → (read : Kept) (said : List ℕ) (ended : Ended) (after : Kept)
+    → (read : Kept) (said : List ℕ) (ended : Ended) (after : Kept) → read.ids ≡ (kept_of run client n).ids
     → EndsAs run.log (caller_of script client) read command.what said ended after → told_end ended ≢ Nowhere
     → (id : Id) × (colours : Colours) × IsAppend run client n reply id colours said
-decision_appends script report run client n reply h command asked sync own asks read said (ends.Stood stamp point) after a
+decision_appends script report run client n reply h command asked sync own asks read said (ends.Stood stamp point) after ids a
     stands = (
       record { client = client; count = (kept_of run client n).ids },
       a.0,
@@ -349,11 +350,13 @@ decision_appends script report run client n reply h command asked sync own asks 
             asked = asked;
             asks = decide_asks (caller_of script client) read (kept_of run client n) command.what sync own asks a.0 a.1 a.2;
             id_is = refl;
+            logged = subst (λ (m : ℕ). IsLogged run.log (record { client = client; count = m }) a.1) ids
+                (in_log script report run client read a.0 a.1 stamp None (point ∷ []) after a.3.1);
           }),
     )
-decision_appends script report run client n reply h command asked sync own asks read said (ends.StampEnd colour) after a
+decision_appends script report run client n reply h command asked sync own asks read said (ends.StampEnd colour) after ids a
     stands = absurd (stands refl)
-decision_appends script report run client n reply h command asked sync own asks read said ends.NoMemory after a stands =
+decision_appends script report run client n reply h command asked sync own asks read said ends.NoMemory after ids a stands =
     absurd (stands refl)
 
 pub decisions_are_folds : DecisionsAreFolds
@@ -383,8 +386,11 @@ decisions_are_folds script report fits run client n reply h commits stamp sync r
       t.3,
       nodes,
       t.5,
+      t.0.synced_colours,
       decision_appends script report run client n reply h r.command r.asked sync x.1 x.2 d.read
-          (decision_text (record { key = d.waits; commits = commits })) ended r.after d.ends,
+          (decision_text (record { key = d.waits; commits = commits })) ended r.after
+          ((reads_behind run.log (caller_of script client) r.kept sync (rising x.1) read_stamp raises syncs d.read d.tells.0).ids
+          ∙ r.ids) d.ends,
     )
 
 pub dequeues_are_folds : DequeuesAreFolds
@@ -434,7 +440,15 @@ verdicts_are_folds script report fits run client n reply h conflict stamp row po
       record { client = client; count = (kept_of run client n).ids },
       x.0,
       x.1,
-      record { replied = h; command = r.command; asked = r.asked; asks = r.asks x.0 x.1 x.2; id_is = refl },
+      record {
+        replied = h;
+        command = r.command;
+        asked = r.asked;
+        asks = r.asks x.0 x.1 x.2;
+        id_is = refl;
+        logged = subst (λ (m : ℕ). IsLogged run.log (record { client = client; count = m }) x.1) r.ids
+            (in_log script report run client r.kept x.0 x.1 s.0 row points s.1 s.2);
+      },
       s.0,
       subst (λ (m : ℕ). StandsAtPoints report own (record { client = client; count = m }) x.0 s.0 points) r.ids stands,
       subst (λ (m : ℕ). verdict_of t.3 (entry_key s.0 (record { client = client; count = m }))
@@ -459,7 +473,15 @@ changes_are_folds script report fits run client n reply h failed stamp row point
       record { client = client; count = (kept_of run client n).ids },
       x.0,
       x.1,
-      record { replied = h; command = r.command; asked = r.asked; asks = r.asks x.0 x.1 x.2; id_is = refl },
+      record {
+        replied = h;
+        command = r.command;
+        asked = r.asked;
+        asks = r.asks x.0 x.1 x.2;
+        id_is = refl;
+        logged = subst (λ (m : ℕ). IsLogged run.log (record { client = client; count = m }) x.1) r.ids
+            (in_log script report run client r.kept x.0 x.1 s.0 row points s.1 s.2);
+      },
       s.0,
       subst (λ (m : ℕ). StandsAtPoints report own (record { client = client; count = m }) x.0 s.0 points) r.ids stands,
       subst (λ (m : ℕ). told_of telling t.3 (entry_key s.0 (record { client = client; count = m }))

@@ -1,5 +1,5 @@
 -- Closing lines rise, and an id has one key in all of them.
-use Rattle.std.proofs.Common.{◌≡◌, ℕ, ◌<◌, ◌≤◌, List, [], ◌∷◌, length, Some, slice_get, ap, sym, subst, ◌∙◌, ◌⊎◌, inl, inr, arith}
+use Rattle.std.proofs.Common.{refl, ◌≡◌, ℕ, ◌<◌, ◌≤◌, List, [], ◌∷◌, length, Some, slice_get, ap, sym, subst, ◌∙◌, ◌⊎◌, inl, inr, arith}
 use Rattle.std.specs.Prelude.{◌≢◌, IsTrue}
 use Rattle.std.specs.List.{All, Contains}
 use Rattle.std.proofs.lemmas.Bool.{cases_lt}
@@ -162,6 +162,11 @@ module _ (script : Script) (report : Report) (fits : IsFitting script) (run : La
         asks = subst (λ (kept : Kept). AsksToAppend
             (caller_of script key.id.client) kept o.step.command.what o.colours o.text) same o.asks;
         id_is = o.id_is ∙ ap (λ (kept : Kept). record { client = key.id.client; count = kept.ids }) same;
+        logged = (
+          node_of (caller_of script key.id.client) o.over o.colours o.text,
+          node_there region colour key s,
+          refl,
+        );
       }
 
 pub one_key : OneKey

@@ -30,8 +30,9 @@ use Rattle.lawful_run.specs.Columns.{IsColumnReport}
 use Rattle.lawful_run.specs.Parts.{EndsAs}
 use Rattle.lawful_run.specs.Refusals.{kept_before}
 use Rattle.lawful_run.specs.Explains.{Explains}
+use Rattle.lawful_run.specs.Stops.{Stops, stopped_at_once, stopped_after}
 use Rattle.lawful_run.specs.Lawful.{LawfulRun}
-use Rattle.lawful_run.specs.Readings.{kept_at, kept_of, Nowhere, Under, told, told_end, StandsAtEnd, StandsAtPoints, StandsAs, ReturnedAppendsStand}
+use Rattle.lawful_run.specs.Readings.{IsLogged, kept_at, kept_of, Nowhere, Under, told, told_end, StandsAtEnd, StandsAtPoints, StandsAs, ReturnedAppendsStand}
 use Rattle.lawful_run.proofs.Replies.{step_of}
 use Rattle.lawful_run.proofs.Traces.{one_of}
 use Rattle.lawful_run.proofs.LettingGo.{asks_before}
@@ -76,6 +77,31 @@ module _ (script : Script) (report : Report) (run : LawfulRun script report) (cl
         (node_of caller kept colours text) stamp) points q a.2.each there).stands;
   }
 
+  -- the log has a node with this text where the client's next one is
+  abbrev pub IsNextLogged : ℕ → List ℕ → Type 0
+  IsNextLogged count text = IsLogged run.log (record { client = client; count = count }) text
+
+  pub in_log : (kept : Kept) (colours : Colours) (text : List ℕ) (stamp : ℕ) (row : Option ℕ) (points : List PointPiece)
+      (after : Kept) → Appends run.log caller kept (node_of caller kept colours text) stamp row points after
+      → IsNextLogged kept.ids text
+  in_log kept colours text stamp None [] after a = absurd a
+  in_log kept colours text stamp None (p ∷ []) after a = (node_of caller kept colours text, a.3.next, refl)
+  in_log kept colours text stamp None (p ∷ q ∷ points) after a = absurd a
+  in_log kept colours text stamp (Some number) points after a = (node_of caller kept colours text, a.2.begins.next, refl)
+
+  unshown_logged : (kept : Kept) (colours : Colours) (text : List ℕ) (stamp : ℕ) (after : Kept)
+      → AppendsUnshown run.log caller kept (node_of caller kept colours text) stamp after → IsNextLogged kept.ids text
+  unshown_logged kept colours text stamp after (one_unshown colour place position only a) =
+      (node_of caller kept colours text, a.next, refl)
+  unshown_logged kept colours text stamp after (several_unshown places begins outcome stand above) =
+      (node_of caller kept colours text, begins.next, refl)
+
+  stopped_logged : (kept : Kept) (colours : Colours) (text : List ℕ) (steps : ℕ) (after : Kept)
+      → Stops run.log caller kept (node_of caller kept colours text) steps after → steps ≢ 0 → IsNextLogged kept.ids text
+  stopped_logged kept colours text steps after stopped_at_once some = absurd (some refl)
+  stopped_logged kept colours text steps after (stopped_after before places s) some =
+      (node_of caller kept colours text, s.begins.next, refl)
+
   unshown : (kept : Kept) (colours : Colours) (text : List ℕ) (stamp : ℕ) (after : Kept)
       → AppendsUnshown run.log caller kept (node_of caller kept colours text) stamp after
       → StandsAs report caller.own (id kept) colours (Under stamp)
@@ -95,9 +121,14 @@ module _ (script : Script) (report : Report) (run : LawfulRun script report) (cl
   ended : (kept : Kept) (what : What) (said : List ℕ) (end : Ended) (after : Kept)
       → EndsAs run.log caller kept what said end after → told_end end ≢ Nowhere
       → (colours : Colours) × (text : List ℕ) × AsksToAppend caller kept what colours text
-      × StandsAs report caller.own (id kept) colours (told_end end)
-  ended kept what said (ends.Stood stamp point) after a n =
-      (a.0, a.1, a.2, at_points kept a.0 a.1 stamp None (point ∷ []) after a.3.1)
+      × StandsAs report caller.own (id kept) colours (told_end end) × IsNextLogged kept.ids text
+  ended kept what said (ends.Stood stamp point) after a n = (
+    a.0,
+    a.1,
+    a.2,
+    at_points kept a.0 a.1 stamp None (point ∷ []) after a.3.1,
+    in_log kept a.0 a.1 stamp None (point ∷ []) after a.3.1,
+  )
   ended kept what said (ends.StampEnd colour) after a n = absurd (n refl)
   ended kept what said ends.NoMemory after a n = absurd (n refl)
 
@@ -106,15 +137,25 @@ module _ (script : Script) (report : Report) (run : LawfulRun script report) (cl
       → Explains run.log caller kept what answer nodes after
       → told answer ≢ Nowhere
       → (colours : Colours) × (text : List ℕ) × AsksToAppend caller kept what colours text
-      × StandsAs report caller.own (id kept) colours (told answer)
+      × StandsAs report caller.own (id kept) colours (told answer) × IsNextLogged kept.ids text
   returned kept what answers.NoMemory nodes after e n = absurd (n refl)
-  returned kept what (answers.Stood stamp row points) nodes after e n =
-      (e.2.0, e.2.1, e.2.2, at_points kept e.2.0 e.2.1 stamp row points after e.2.3)
+  returned kept what (answers.Stood stamp row points) nodes after e n = (
+    e.2.0,
+    e.2.1,
+    e.2.2,
+    at_points kept e.2.0 e.2.1 stamp row points after e.2.3,
+    in_log kept e.2.0 e.2.1 stamp row points after e.2.3,
+  )
   returned kept what (answers.StampEnd colour) nodes after e n = absurd (n refl)
   returned kept what (answers.Full used) nodes after e n = absurd (n refl)
   returned kept what (answers.Stopped zero) nodes after e n = absurd (n refl)
-  returned kept what (answers.Stopped (suc steps)) nodes after e n =
-      (e.1, e.2, subst (λ (w : What). AsksToAppend caller kept w e.1 e.2) (sym e.3) (refl, refl), tt)
+  returned kept what (answers.Stopped (suc steps)) nodes after e n = (
+    e.1,
+    e.2,
+    subst (λ (w : What). AsksToAppend caller kept w e.1 e.2) (sym e.3) (refl, refl),
+    tt,
+    stopped_logged kept e.1 e.2 (suc steps) after e.4 (λ none. let f : ⊥ = cc (none) in f),
+  )
   returned kept what (answers.Synced sync plays) nodes after e n = absurd (n refl)
   returned kept what (answers.Scanned stamp count raises syncs) nodes after e n = absurd (n refl)
   returned kept what (answers.Pulled count give carry) nodes after e n = absurd (n refl)
@@ -126,11 +167,11 @@ module _ (script : Script) (report : Report) (run : LawfulRun script report) (cl
   returned kept what (answers.Ruled conflict stamp row points read_stamp raises syncs) nodes after e n =
       let a = e.1.1 in
       let s = a.3 in
-      (a.0, a.1, a.2, (s.0, at_points kept a.0 a.1 s.0 row points s.1 s.2))
+      (a.0, a.1, a.2, (s.0, at_points kept a.0 a.1 s.0 row points s.1 s.2), in_log kept a.0 a.1 s.0 row points s.1 s.2)
   returned kept what (answers.Changed failed stamp row points read_stamp raises syncs) nodes after e n =
       let a = e.1.1 in
       let s = a.3 in
-      (a.0, a.1, a.2, (s.0, at_points kept a.0 a.1 s.0 row points s.1 s.2))
+      (a.0, a.1, a.2, (s.0, at_points kept a.0 a.1 s.0 row points s.1 s.2), in_log kept a.0 a.1 s.0 row points s.1 s.2)
   returned kept what (answers.Listed names stamp raises syncs) nodes after e n = absurd (n refl)
   returned kept what (answers.Undecided stamp sync) nodes after e n = absurd (n refl)
   returned kept what (answers.Decided commits stamp sync read_stamp raises syncs end) nodes after e n =
@@ -141,21 +182,27 @@ module _ (script : Script) (report : Report) (run : LawfulRun script report) (cl
         r.1,
         decide_asks caller d.read kept what sync e.1 e.2 r.0 r.1 r.2,
         subst (λ (m : ℕ). StandsAs report caller.own (record { client = client; count = m }) r.0 (told_end end)) quiet.ids r.3,
+        subst (λ (m : ℕ). IsNextLogged m r.1) quiet.ids r.4,
       )
   returned kept what (answers.Moved lined waiting colour events) nodes after e n = absurd (n refl)
   returned kept what answers.NoTx nodes after e n = absurd (n refl)
   returned kept what (answers.Took value point sync) nodes after e n =
       let a = e.3 in
-      let s = a.3 in
-      (a.0, a.1, a.2, (s.0, at_points kept a.0 a.1 s.0 None (point ∷ []) s.1 s.2))
+      let s = a.3 in (
+        a.0,
+        a.1,
+        a.2,
+        (s.0, at_points kept a.0 a.1 s.0 None (point ∷ []) s.1 s.2),
+        in_log kept a.0 a.1 s.0 None (point ∷ []) s.1 s.2,
+      )
   returned kept what (answers.UnreadTrimmed stamp colour base) nodes after e n =
       let a = e.2 in
       let s = a.3 in
-      (a.0, a.1, a.2, unshown kept a.0 a.1 stamp s.0 s.1)
+      (a.0, a.1, a.2, unshown kept a.0 a.1 stamp s.0 s.1, unshown_logged kept a.0 a.1 stamp s.0 s.1)
   returned kept what (answers.UnreadNoMemory stamp) nodes after e n =
       let a = e.2 in
       let s = a.3 in
-      (a.0, a.1, a.2, unshown kept a.0 a.1 stamp s.0 s.1)
+      (a.0, a.1, a.2, unshown kept a.0 a.1 stamp s.0 s.1, unshown_logged kept a.0 a.1 stamp s.0 s.1)
   returned kept what (answers.Trimmed colour base) nodes after e n = absurd (n refl)
   returned kept what (answers.NotHome home) nodes after e n = absurd (n refl)
 
@@ -183,6 +230,8 @@ returned_appends_stand script report run client k reply there n =
         asked = step.asked;
         asks = subst (λ (x : Kept). AsksToAppend (caller_of script client) x step.command.what r.0 r.1) (sym same) asks;
         id_is = refl;
+        logged = subst (λ (m : ℕ). IsLogged run.log (record { client = client; count = m }) r.1)
+            (before_ids step.command.what kept ∙ ap (λ (x : Kept). x.ids) (sym same)) r.4;
       },
       subst (λ (x : ReplyLine). StandsAs report own (record { client = client; count = (kept_of run client k).ids }) r.0
           (told x.answer)) is

@@ -37,7 +37,7 @@ use Rattle.report_text.specs.declared.report.ReplyLine.{ReplyLine}
 use Rattle.report_text.specs.declared.report.ColumnReport.{ColumnReport}
 use Rattle.report_text.specs.declared.report.Report.{Report}
 use Rattle.lawful_run.specs.Callers.{caller_of, commands_of}
-use Rattle.lawful_run.specs.Asks.{kind_of_object, colours_of_object}
+use Rattle.lawful_run.specs.Asks.{kind_of_object, colours_of_object, rising}
 use Rattle.lawful_run.specs.Deeds.{AsksForKey}
 use Rattle.lawful_run.specs.Objects.{AreAnswers, places_within, shown_verdict}
 use Rattle.lawful_run.specs.Parts.{AnswersGet, AnswersUndecided, AsksToDecide, IsRuledAs, OfPart, WaitsFor}
@@ -124,7 +124,7 @@ DecisionsAreFolds =
     × (played : List ObjectNode) × AreNodesOf run (take (at sync.counts (caller_of script client).own) line) played
     × OfPart colours sync.colour (WaitsFor (Some waits)) played
     × (keys : List Key) × IsRegionOrder lines read_stamp keys × (nodes : List ObjectNode) × AreNodesOf run keys nodes
-    × IsRuledAs waits commits nodes
+    × IsRuledAs waits commits nodes × (map (λ (s : SyncPiece). s.colour) syncs ≡ rising colours)
     × (told (answers.Decided commits stamp sync read_stamp raises syncs ended) ≢ Nowhere
     → (id : Id) × (own : Colours) × IsAppend run client n reply id own (decision_text (record { key = waits; commits = commits })))
 

@@ -4,6 +4,7 @@ use Rattle.std.specs.List.{Contains}
 use Rattle.log_node.specs.declared.ids.Id.{Id}
 use Rattle.log_node.specs.declared.ids.Key.{Key}
 use Rattle.log_node.specs.declared.ids.Colours.{Colours}
+use Rattle.log_node.specs.declared.node.Node.{Node}
 use Rattle.log_node.specs.Order.{key_below}
 use Rattle.log_node.specs.Seen.{PlacedNode}
 use Rattle.log_node.specs.Sets.{members}
@@ -51,7 +52,12 @@ abbrev pub HasReply : Report → ℕ → ℕ → ReplyLine → Type 0
 HasReply report client k reply =
     (shown : ClientReport) × (slice_get report.clients client ≡ Some shown) × (slice_get shown.replies k ≡ Some reply)
 
--- The client's command number k asks for a node with this id, on these colours and with this text, and has this reply.
+-- the log has a node with this text at the id's place
+abbrev pub IsLogged : Log → Id → List ℕ → Type 0
+IsLogged log id text = (node : Node) × (slice_get (log.nodes id.client) id.count ≡ Some node) × (node.text ≡ text)
+
+-- The client's command number k asks for a node with this id, on these colours and with this text, which the log has, and it
+-- has this reply.
 pub record IsAppend {script : Script} {report : Report} (run : LawfulRun script report) (client k : ℕ)
     (reply : ReplyLine) (id : Id) (colours : Colours) (text : List ℕ) : Type 0 where
   pub replied : HasReply report client k reply
@@ -59,6 +65,7 @@ pub record IsAppend {script : Script} {report : Report} (run : LawfulRun script 
   pub asked : slice_get (commands_of script client) k ≡ Some command
   pub asks : AsksToAppend (caller_of script client) (kept_of run client k) command.what colours text
   pub id_is : id ≡ record { client = client; count = (kept_of run client k).ids }
+  pub logged : IsLogged run.log id text
 
 -- what an answer tells of a node that its command appended
 pub data NodeTold : Type 0 where
