@@ -13,29 +13,29 @@ use Rattle.run_script.proofs.serving.parts.decide.Goals as goal
 pub returns-in_default-room_for-clause-gives : goal.returns-in_default-room_for-clause-gives
 returns-in_default-room_for-clause-gives g c =
     subst (λ (x : Opened). GivesTo c.args.store.now c.args.client.now c.args.client.now c.args.opened.now x
-    (λ object. whats.Decide object c.args.key) answers.NoMemory) c.in-Tx-Some.is
+    (λ object. whats.Decide object c.args.key) answers.NoMemory) c.in-Tx-Some-default-default.is
     (gives_undecided c.args.store.now c.args.client.now c.requires.client c.args.opened.now c.args.key)
 
 pub decide-decide-requires-clause-players : goal.decide-decide-requires-clause-players
 decide-decide-requires-clause-players g c κs within =
-    (subst (IsOpenedOf c.args.client.now) c.in-Tx-Some.is c.requires.kept).2.0
+    (subst (IsOpenedOf c.args.client.now) c.in-Tx-Some-default-default.is c.requires.kept).2.0
 
 pub decide_shown-requires-clause-few : goal.decide_shown-requires-clause-few
 decide_shown-requires-clause-few g c =
-    decision_fits c.in-Tx-Some.players.colours c.in-Ok-room_for.room _ c.decide-decide.result c.colour_count.ensures
+    decision_fits c.in-Tx-Some-default-default.players.colours c.in-Ok-room_for.room _ c.decide-decide.result c.colour_count.ensures
     c.in-Ok-room_for.ensures.places c.decide-decide.ensures.shows
 
 pub decide_shown-requires-clause-point : goal.decide_shown-requires-clause-point
 decide_shown-requires-clause-point g c =
-    has_point (shard_of c.in-Tx-Some.players.colours c.args.key) c.decide-decide.result c.decide-decide.ensures.stands
+    has_point (shard_of c.in-Tx-Some-default-default.players.colours c.args.key) c.decide-decide.result c.decide-decide.ensures.stands
 
 pub returns-clause-stays : goal.returns-clause-stays
 returns-clause-stays g c =
-    let kept = subst (IsOpenedOf c.args.client.now) c.in-Tx-Some.is c.requires.kept in
+    let kept = subst (IsOpenedOf c.args.client.now) c.in-Tx-Some-default-default.is c.requires.kept in
     let e = c.decide-decide.ensures in (
-      ap kind_opened (sym c.in-Tx-Some.is),
+      ap kind_opened (sym c.in-Tx-Some-default-default.is),
       (
-        map_later c.reads_go_on.ensures c.args.store.now c.args.client.now c.decide-decide.new.client e.client c.in-Tx-Some.map
+        map_later c.reads_go_on.ensures c.args.store.now c.args.client.now c.decide-decide.new.client e.client c.in-Tx-Some-default-default.map
             c.requires.client kept.0,
         kept.1,
         (e.players, e.same.0 ∙ kept.2.1, e.same.1 ∙ kept.2.2),
@@ -44,11 +44,11 @@ returns-clause-stays g c =
 
 pub returns-clause-gives : goal.returns-clause-gives
 returns-clause-gives g c =
-    let kept = subst (IsOpenedOf c.args.client.now) c.in-Tx-Some.is c.requires.kept in
+    let kept = subst (IsOpenedOf c.args.client.now) c.in-Tx-Some-default-default.is c.requires.kept in
     let e = c.decide-decide.ensures in
     subst (λ (x : Opened). GivesTo c.args.store.now c.args.client.now c.decide-decide.new.client x
-    (opened.Tx (Some c.decide-decide.new.self) c.in-Tx-Some.map c.in-Tx-Some.found) (λ object. whats.Decide object c.args.key)
-    c.decide_shown.result) (sym c.in-Tx-Some.is)
-    (gives_decide c.args.store.now c.args.client.now c.decide-decide.new.client e.client c.in-Tx-Some.map c.in-Tx-Some.players
-    c.decide-decide.new.self c.in-Tx-Some.found kept.2 c.args.key c.decide-decide.result c.decide_shown.result
+    (opened.Tx (Some c.decide-decide.new.self) c.in-Tx-Some-default-default.map c.in-Tx-Some-default-default.found) (λ object. whats.Decide object c.args.key)
+    c.decide_shown.result) (sym c.in-Tx-Some-default-default.is)
+    (gives_decide c.args.store.now c.args.client.now c.decide-decide.new.client e.client c.in-Tx-Some-default-default.map c.in-Tx-Some-default-default.players
+    c.decide-decide.new.self c.in-Tx-Some-default-default.found kept.2 c.args.key c.decide-decide.result c.decide_shown.result
     c.decide_shown.ensures e.away e.ok e.err)

@@ -11,15 +11,15 @@ use Rattle.run_script.proofs.serving.parts.peek.Goals as goal
 
 pub peek-peek-requires-clause-players : goal.peek-peek-requires-clause-players
 peek-peek-requires-clause-players g c κs within =
-    (subst (IsOpenedOf c.args.client.now) c.in-Tx-Some.is c.requires.kept).2.0
+    (subst (IsOpenedOf c.args.client.now) c.in-Tx-Some-default-default.is c.requires.kept).2.0
 
 pub returns-clause-stays : goal.returns-clause-stays
 returns-clause-stays g c =
-    let kept = subst (IsOpenedOf c.args.client.now) c.in-Tx-Some.is c.requires.kept in
+    let kept = subst (IsOpenedOf c.args.client.now) c.in-Tx-Some-default-default.is c.requires.kept in
     let e = c.peek-peek.ensures in (
-      ap kind_opened (sym c.in-Tx-Some.is),
+      ap kind_opened (sym c.in-Tx-Some-default-default.is),
       (
-        map_later c.reads_go_on.ensures c.args.store.now c.args.client.now c.peek-peek.new.client e.client c.in-Tx-Some.map
+        map_later c.reads_go_on.ensures c.args.store.now c.args.client.now c.peek-peek.new.client e.client c.in-Tx-Some-default-default.map
             c.requires.client kept.0,
         kept.1,
         (e.players, e.same.0 ∙ kept.2.1, e.same.1 ∙ kept.2.2),
@@ -28,11 +28,11 @@ returns-clause-stays g c =
 
 pub returns-clause-gives : goal.returns-clause-gives
 returns-clause-gives g c =
-    let kept = subst (IsOpenedOf c.args.client.now) c.in-Tx-Some.is c.requires.kept in
+    let kept = subst (IsOpenedOf c.args.client.now) c.in-Tx-Some-default-default.is c.requires.kept in
     let e = c.peek-peek.ensures in
     subst (λ (x : Opened). GivesTo c.args.store.now c.args.client.now c.peek-peek.new.client x
-    (opened.Tx (Some c.peek-peek.new.self) c.in-Tx-Some.map c.in-Tx-Some.found) (λ object. whats.Peek object c.args.key) c.peeked.result)
-    (sym c.in-Tx-Some.is)
-    (gives_peek c.args.store.now c.args.client.now c.peek-peek.new.client e.client c.in-Tx-Some.map c.in-Tx-Some.players
-    c.peek-peek.new.self c.in-Tx-Some.found kept.2 c.args.key c.peek-peek.result c.peeked.result c.peeked.ensures e.idle e.away e.ok
+    (opened.Tx (Some c.peek-peek.new.self) c.in-Tx-Some-default-default.map c.in-Tx-Some-default-default.found) (λ object. whats.Peek object c.args.key) c.peeked.result)
+    (sym c.in-Tx-Some-default-default.is)
+    (gives_peek c.args.store.now c.args.client.now c.peek-peek.new.client e.client c.in-Tx-Some-default-default.map c.in-Tx-Some-default-default.players
+    c.peek-peek.new.self c.in-Tx-Some-default-default.found kept.2 c.args.key c.peek-peek.result c.peeked.result c.peeked.ensures e.idle e.away e.ok
     e.err)
