@@ -174,8 +174,7 @@ module _ (s : Store) (c d : Client) (on : RestsOn s c d) (m : TxMap) (ps : PartP
       is
           ∙ (ap (λ (colour : ℕ). colour ∷ []) of.colour
           ∙ (sym alone ∙ ap (λ (kind : Option Kind). shards (object_colours kind) (key ∷ [])) (sym its_kind))),
-      record { key = decided.key; commits = decided.commits },
-      refl,
+      (record { key = decided.key; commits = decided.commits }, refl),
     )
 
     -- WHAT WAS PLAYED
