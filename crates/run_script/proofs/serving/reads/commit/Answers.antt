@@ -51,6 +51,28 @@ told_shown-requires-clause-few g c =
     shows_few_ruled c.in-Tx.map.colours c.in-Ok-room_for.room c.commit-commit.result _ c.colour_count.ensures
     c.in-Ok-room_for.ensures.places e.raises e.syncs
 
+pub returns-in_default-with_capacity-clause-stays : goal.returns-in_default-with_capacity-clause-stays
+returns-in_default-with_capacity-clause-stays g c =
+    let kept = subst (IsOpenedOf c.args.client.now) c.in-Tx.is c.requires.kept in (
+      ap kind_opened (sym c.in-Tx.is),
+      (
+        kept.0,
+        subst (λ (o : Option Tx). IfSome o (λ (t : Tx). AreVersions t.versions)) (sym c.replace-tx.ensures.after) tt,
+        kept.2,
+      ),
+    )
+
+pub returns-in_default-room_for-clause-stays : goal.returns-in_default-room_for-clause-stays
+returns-in_default-room_for-clause-stays g c =
+    let kept = subst (IsOpenedOf c.args.client.now) c.in-Tx.is c.requires.kept in (
+      ap kind_opened (sym c.in-Tx.is),
+      (
+        kept.0,
+        subst (λ (o : Option Tx). IfSome o (λ (t : Tx). AreVersions t.versions)) (sym c.replace-tx.ensures.after) tt,
+        kept.2,
+      ),
+    )
+
 pub returns-clause-stays : goal.returns-clause-stays
 returns-clause-stays g c =
     let e = c.commit-commit.ensures in (

@@ -38,6 +38,16 @@ got_keys-requires-clause-few g c =
     (shows_few_found c.in-Tx.map.colours c.in-Ok-room_for.room c.read.result _ c.colour_count.ensures
     c.in-Ok-room_for.ensures.places e.raises e.syncs)
 
+pub returns-in_default-with_capacity-clause-stays : goal.returns-in_default-with_capacity-clause-stays
+returns-in_default-with_capacity-clause-stays g c =
+    let kept = subst (IsOpenedOf c.args.client.now) c.in-Tx.is c.requires.kept in
+    (ap kind_opened (sym c.in-Tx.is), (kept.0, tt, kept.2))
+
+pub returns-in_default-room_for-clause-stays : goal.returns-in_default-room_for-clause-stays
+returns-in_default-room_for-clause-stays g c =
+    let kept = subst (IsOpenedOf c.args.client.now) c.in-Tx.is c.requires.kept in
+    (ap kind_opened (sym c.in-Tx.is), (kept.0, tt, kept.2))
+
 pub returns-clause-stays : goal.returns-clause-stays
 returns-clause-stays g c =
     let e = c.read.ensures in (
