@@ -1,6 +1,6 @@
 -- A client's objects while it is served: each that is opened stays open, and what is asked of one is answered by that one.
-use Rattle.std.proofs.Common.{◌≡◌, ℕ, zero, suc, List, [], ◌∷◌, length, map, set, get_or, Some, slice_get, ap, sym, subst, ◌∙◌, arith}
-use Rattle.std.specs.Prelude.{Bool, false, true, Option, None, ◌<◌, ◌≤◌, slice_index_or}
+use Rattle.std.proofs.Common.{◌≡◌, ℕ, zero, suc, List, [], ◌∷◌, length, map, set, get_or, Some, slice_get, refl, ap, sym, subst, ◌∙◌, arith}
+use Rattle.std.specs.Prelude.{Option, None, ◌<◌, ◌≤◌, slice_index_or}
 use Rattle.std.proofs.lemmas.List.Elements.{All-map, All-set}
 use Rattle.std.proofs.lemmas.Option.{get_or_from_slice_get}
 use Rattle.log_node.specs.declared.limits.TheConstants.{MAX_COLOURS}
@@ -28,9 +28,9 @@ use Rattle.atomic_map.proofs.CallerLemmas.{map_later as atomic_later}
 use Rattle.region_fold.proofs.CallerLemmas.{map_later as tx_later}
 use Rattle.run_script.specs.declared.serving.opened.Opened.{Opened}
 use Rattle.run_script.specs.declared.serving.opened.Opened.TheVariants as opened
-use Rattle.run_script.specs.Opened.{AreKept, AreOf, AreUnopened, HasBy, HasCommand, IsKept, IsOpenedOf, IsSlotOf, kind_opened, tx_kind, unopened, object_in, object_asked}
-use Rattle.run_script.specs.Serving.{ServesLog, ServesObject, GivesTo}
+use Rattle.run_script.specs.Opened.{AreKept, AreOf, AreUnopened, HasBy, HasCommand, IsKept, IsOpenedOf, IsSlotOf, kind_opened, unopened, object_in, object_asked}
 use Rattle.run_script.proofs.PartsKept.{tx_players_later}
+use Rattle.run_script.specs.Serving.{ServesLog, ServesObject, GivesTo}
 
 -- THEY STAY OPEN
 

@@ -1,6 +1,6 @@
 -- What the reads of a client's objects found, while it is served.
 use Rattle.std.proofs.Common.{◌≡◌, ◌≢◌, ℕ, zero, suc, ◌<◌, List, [], ◌∷◌, length, map, set, get_or-set_same, get_or-set_other, Option, Some, None, refl, ap, sym, ◌∙◌, inl, eq-eqb, subst}
-use Rattle.std.specs.Prelude.{IsTrue, Bool, false, true, ◌==◌, slice_index_or}
+use Rattle.std.specs.Prelude.{IsTrue, false, ◌==◌, slice_index_or}
 use Rattle.log_node.specs.declared.forms.Version.{Version}
 use Rattle.log_node.specs.Seen.{PlacedNode}
 use Rattle.col_core.specs.Keeping.{Kept, nothing_kept}

@@ -1,5 +1,5 @@
 -- The objects of a script, each of which a client opens at its first command on it, and keeps beside itself.
-use Rattle.std.specs.Prelude.{◌≡◌, Bool, false, true, ℕ, ◌≤◌, List, length, map, Option, Some, None, slice_index_or, IsTrue, IfSome}
+use Rattle.std.specs.Prelude.{◌≡◌, Bool, ℕ, ◌≤◌, List, length, map, Option, Some, None, slice_index_or, IsTrue, IfSome}
 use Rattle.std.specs.List.{All, AllZip}
 use Rattle.std.specs.Option.{option_map}
 use Rattle.log_node.specs.declared.limits.TheConstants.{MAX_COLOURS}
