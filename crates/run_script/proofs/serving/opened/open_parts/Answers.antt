@@ -10,7 +10,7 @@ returns-clause-unfolded c = (
       let one = c.open-players.ensures in
       let all = c.open-map.ensures in
       let colours : c.open-players.result.colours ≡ c.open-map.result.colours =
-      one.of.1 ∙ (c.copied.ensures ∙ (sym c.copied-2.ensures ∙ sym all.of.1)) in
+      one.of.1 ∙ (c.in_ok-copied.ensures ∙ (sym c.in_ok-copied-2.ensures ∙ sym all.of.1)) in
       let are = map_colours client regions c.open-map.result.home c.open-map.result.colours few within in (
         all.map client (subst (HasColoursOf client) all.of.1 are),
         tt,
