@@ -74,7 +74,7 @@ module _ (regions count : ℕ) (few : count ≤ MAX_COLOURS) (objects : List Obj
       (object_has objects regions count all object test has)
 
   pub small : AreObjectColours MAX_COLOURS (object_colours (Some kind))
-  small = record { some = own.some; below = λ k d lt. let x = own.below k d lt in omega (arith, x, few) }
+  small = record { some = own.some; few = own.few; below = λ k d lt. let x = own.below k d lt in omega (arith, x, few) }
 
   pub has_some : (keys : List (List ℕ)) (key : List ℕ) → In key keys
       → HasColours 1 (shard_set (object_colours (Some kind)) keys)

@@ -36,7 +36,7 @@ pub use Rattle.script_meaning.proofs.Run.GrantedSteps.{RunsTo, stays_there}
 pub use Rattle.script_meaning.proofs.Transaction.VersionsFit.{can_read}
 pub use Rattle.script_meaning.proofs.Run.GrantedReads.{read_runs}
 pub use Rattle.script_meaning.proofs.Object.LaterNodes.{line_longer, nodes_stay, new_behind, whole_stamp, read_behind}
-pub use Rattle.script_meaning.proofs.Object.ObjectKinds.{object_has, parts_of, queue_colour, queue_one, some_of}
+pub use Rattle.script_meaning.proofs.Object.ObjectKinds.{kind_colours, object_has, parts_of, queue_colour, queue_one, some_of}
 pub use Rattle.script_meaning.proofs.World.Playing.{at_or}
 pub use Rattle.script_meaning.proofs.Object.ObjectForms.{key_is_word, key_some, pairs_are}
 

@@ -107,6 +107,12 @@ pub record Fits (version regions colours : ℕ) (homes : List ℕ) (asked : List
 unfoldable pub Fit : List Item → Type 0
 Fit before = Fits (version_of before) (length (region_names before)) (length (colour_names before)) (client_homes before) (commands before) (stage_of before)
 
+-- a log has the colours that are named
+pub colours_most : (before : List Item) → Fit before → length (colour_names before) ≤ MAX_COLOURS
+unfolding Fit
+colours_most before fit =
+    let few = fit.few_colours in let most = (limits_within (version_of before)).colours in omega (arith, few, most)
+
 -- nothing is said at first
 pub fit_nothing : Fit []
 unfolding Fit Early
@@ -446,7 +452,7 @@ module _ (before : List Item) (fit : Fits (version_of before) (length (region_na
       let early = at_commands (stage_of before) regions colours homes asked begun fit.early in
       let its = ltb-true _ _ caller in
       let e = as_many in
-      let few : colours ≤ MAX_COLOURS = omega (arith, fit.few_colours, (limits_within (version_of before)).colours) in
+      let few : colours ≤ MAX_COLOURS = colours_most before fit in
       carried _ _ _ _ _ _ _ _ (asked ++ command ∷ []) _ stages.Commands _ (same_version before fit (items.Asks command) refl) (same_regions before fit (items.Asks command) refl) (same_colours before fit (items.Asks command) refl) (same_homes before fit (items.Asks command) refl)
       (sym (filter_map-said commands_in before (items.Asks command) command refl)) (sym (stage-more before fit (items.Asks command)))
       (record {

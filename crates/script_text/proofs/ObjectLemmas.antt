@@ -1,8 +1,9 @@
 -- The objects that a script declares, and the commands that use them.
-use Rattle.std.proofs.Common.{◌≡◌, ℕ, ◌<◌, Bool, true, false, ◌&&◌, List, [], ◌∷◌, ◌++◌, length, Some, None, refl, ap, sym, subst, ◌∙◌, leb-true, ltb-true}
-use Rattle.std.specs.Prelude.{IsTrue, codes}
+use Rattle.std.proofs.Common.{◌≡◌, ℕ, ◌<◌, ◌≤◌, arith, Bool, true, false, ◌&&◌, List, [], ◌∷◌, ◌++◌, length, Some, None, refl, ap, sym, subst, ◌∙◌, leb-true, ltb-true}
+use Rattle.std.specs.Prelude.{IsTrue, nat_le, codes}
 use Rattle.std.specs.List.{All, list_all}
 use Rattle.std.proofs.lemmas.List.Elements.{All-nil}
+use Rattle.log_node.specs.declared.limits.TheConstants.{MAX_COLOURS}
 use Rattle.script_text.specs.declared.script.Kind.{Kind}
 use Rattle.script_text.specs.declared.script.Kind.TheVariants as kinds
 use Rattle.script_text.specs.declared.script.Object.{Object}
@@ -18,11 +19,12 @@ use Rattle.script_text.specs.declared.item.Stage.TheVariants as stages
 use Rattle.script_text.specs.Table.{nothing, sort_fields, sort_text, sort_of, kind_of}
 use Rattle.script_text.specs.Commands.{word_of}
 use Rattle.script_text.specs.Items.{stage_after, stage_of, may_begin, may_come, version_of, regions_in, colours_in, objects_in, commands_in, last_said, region_names, colour_names, client_homes, objects, commands}
-use Rattle.script_text.specs.Grammar.{may_follow, is_colour, is_free, are_colours, SpellAll, SpellsKind, SpellsWhat, Says}
+use Rattle.script_text.specs.Grammar.{may_follow, is_colour, is_free, are_colours, are_new_numbers, SpellAll, SpellsKind, SpellsWhat, Says}
 use Rattle.script_text.specs.Fitting.{AreObjectColours, IsKindWithin, UsesObject}
 use Rattle.script_text.proofs.CommandRows.{uses_of}
 use Rattle.script_text.proofs.VersionLemmas.{at_fuzzylog}
-use Rattle.script_text.proofs.FittingLemmas.{Fit, and-left, and-right, All-cons, filter_map-more, filter_map-said, last-more, one-more, no, at_regions, at_colours, at_rows, at_end}
+use Rattle.script_text.proofs.NameLemmas.{few_numbers}
+use Rattle.script_text.proofs.FittingLemmas.{Fit, colours_most, and-left, and-right, All-cons, filter_map-more, filter_map-said, last-more, one-more, no, at_regions, at_colours, at_rows, at_end}
 
 -- no object is declared before this stage
 abbrev pub Bare : Stage → List Object → Type 0
@@ -60,39 +62,45 @@ all_of P test h [] e = All-nil P
 all_of P test h (x ∷ xs) e =
     All-cons P x xs (h x (and-left (test x) (list_all test xs) e)) (all_of P test h xs (and-right (test x) (list_all test xs) e))
 
-colours_within : (before : List Item) (alone : Bool) (order : List ℕ) → IsTrue (are_colours before order && list_all (is_free before alone) order)
+-- The colours that a line gives an object are such: none is named twice, so they are no more than the colours that have names.
+colours_within : (before : List Item) → length (colour_names before) ≤ MAX_COLOURS → (alone : Bool) (order : List ℕ)
+    → IsTrue (are_colours before order && list_all (is_free before alone) order)
     → AreObjectColours (length (colour_names before)) order
-colours_within before alone order ok =
+colours_within before most alone order ok =
     let lawful : are_colours before order ≡ true = and-left _ _ ok in
+    let first = and-left (nat_le 1 (length order) && are_new_numbers [] order) (list_all (is_colour before) order) lawful in
+    let named = few_numbers order (length (colour_names before))
+    (and-right (nat_le 1 (length order)) (are_new_numbers [] order) first) (and-right _ _ lawful) in
     record {
-      some = leb-true _ _ (and-left _ _ (and-left _ _ lawful));
+      some = leb-true _ _ (and-left _ _ first);
+      few = omega (arith, named, most);
       below = all_of (λ c. c < length (colour_names before)) (is_colour before) (λ c e. ltb-true _ _ e) order
           (and-right _ _ lawful);
     }
 
-kind_is : (before : List Item) (args : List (List ℕ)) (sort : Sort) (given : Given)
+kind_is : (before : List Item) → length (colour_names before) ≤ MAX_COLOURS → (args : List (List ℕ)) (sort : Sort) (given : Given)
     → SpellAll before (sort_fields sort) args nothing given
     → IsKindWithin (length (region_names before)) (length (colour_names before)) (kind_of sort given)
-kind_is before args sorts.Map given s =
+kind_is before few args sorts.Map given s =
     let whole = s.2.2.1 ∙ (s.2.1.4 ∙ ap (λ (g : Given). record g { order = s.2.1.0 }) s.1.3) in
     subst (λ (g : Given). IsKindWithin (length (region_names before)) (length (colour_names before)) (kind_of sorts.Map g))
-    (sym whole) (ltb-true _ _ s.1.2, colours_within before false s.2.1.0 s.2.1.2)
-kind_is before args sorts.Tx given s =
+    (sym whole) (ltb-true _ _ s.1.2, colours_within before few false s.2.1.0 s.2.1.2)
+kind_is before few args sorts.Tx given s =
     let whole = s.2.2.1 ∙ (s.2.1.4 ∙ ap (λ (g : Given). record g { order = s.2.1.0 }) s.1.3) in
     subst (λ (g : Given). IsKindWithin (length (region_names before)) (length (colour_names before)) (kind_of sorts.Tx g))
-    (sym whole) (ltb-true _ _ s.1.2, colours_within before false s.2.1.0 s.2.1.2)
-kind_is before args sorts.Tree given s =
+    (sym whole) (ltb-true _ _ s.1.2, colours_within before few false s.2.1.0 s.2.1.2)
+kind_is before few args sorts.Tree given s =
     let whole = s.2.2.1 ∙ (s.2.1.4 ∙ ap (λ (g : Given). record g { order = s.2.1.0 }) s.1.3) in
     subst (λ (g : Given). IsKindWithin (length (region_names before)) (length (colour_names before)) (kind_of sorts.Tree g))
-    (sym whole) (ltb-true _ _ s.1.2, colours_within before false s.2.1.0 s.2.1.2)
-kind_is before args sorts.Parts given s =
+    (sym whole) (ltb-true _ _ s.1.2, colours_within before few false s.2.1.0 s.2.1.2)
+kind_is before few args sorts.Parts given s =
     let whole = s.2.2.1 ∙ (s.2.1.4 ∙ ap (λ (g : Given). record g { order = s.2.1.0 }) s.1.3) in
     subst (λ (g : Given). IsKindWithin (length (region_names before)) (length (colour_names before)) (kind_of sorts.Parts g))
-    (sym whole) (ltb-true _ _ s.1.2, colours_within before true s.2.1.0 s.2.1.2)
-kind_is before args sorts.Causal given s =
+    (sym whole) (ltb-true _ _ s.1.2, colours_within before few true s.2.1.0 s.2.1.2)
+kind_is before few args sorts.Causal given s =
     subst (λ (g : Given). IsKindWithin (length (region_names before)) (length (colour_names before)) (kind_of sorts.Causal g))
     (sym (s.2.1 ∙ s.1.3)) (ltb-true _ _ (and-left _ _ s.1.2))
-kind_is before args sorts.Queue given s =
+kind_is before few args sorts.Queue given s =
     let whole = s.2.2.1 ∙ (s.2.1.3 ∙ ap (λ (g : Given). record g { colour = s.2.1.0 }) s.1.3) in
     subst (λ (g : Given). IsKindWithin (length (region_names before)) (length (colour_names before)) (kind_of sorts.Queue g))
     (sym whole) (ltb-true _ _ s.1.2, ltb-true _ _ (and-left _ _ s.2.1.2))
@@ -186,13 +194,14 @@ module _ (before : List Item) (fit : Fit before) (named : Names before) where
       → SpellsKind before args object.kind → Names (before ++ items.Declared object ∷ [])
   more_object object args none spells =
       let item = items.Declared object in
+      let few = colours_most before fit in
       carried _ _ _ _ (objects before ++ object ∷ []) _ _ _ stages.Objects _ (same_regions item refl)
       (same_colours item refl) (sym (filter_map-said objects_in before item object refl)) (same_commands item refl)
       (stage_more item)
       (record {
         kinds = one-more (λ (o : Object). IsKindWithin regions colours o.kind) (objects before) object named.kinds
             (subst (λ (k : Kind). IsKindWithin regions colours k) (sym spells.same)
-            (kind_is before args (sort_of object.kind) spells.given spells.spelled));
+            (kind_is before few args (sort_of object.kind) spells.given spells.spelled));
         uses = none_all (λ (c : Command). UsesObject (objects before ++ object ∷ []) c.what) (commands before) none;
         bare = tt;
       })

@@ -58,9 +58,10 @@ IsWithin regions colours (whats.Trim colour) = colour < colours
 IsWithin regions colours (whats.Only colour text) = colour < colours
 IsWithin regions colours _ = Unit {0}
 
--- one colour or more, each below this number
+-- one colour or more, no more than a log has, each below this number
 pub record AreObjectColours (count : ℕ) (colours : List ℕ) : Type 0 where
   pub some : 1 ≤ length colours
+  pub few : length colours ≤ MAX_COLOURS
   pub below : All (λ c. c < count) colours
 
 -- the home and the colours of an object are among so many

@@ -32,12 +32,13 @@ some_of (x ∷ xs) lt = (x, inl refl)
 -- Colours
 
 one_colour : (count c : ℕ) → c < count → AreObjectColours count (c ∷ [])
-one_colour count c lt = record { some = omega arith; below = one } where
+one_colour count c lt = record { some = omega arith; few = omega arith; below = one } where
   one : All (λ d. d < count) (c ∷ [])
   one zero d low = lt
   one (suc k) d low = absurd (let f : ⊥ = omega (arith, low) in f)
 
-kind_colours : (regions count : ℕ) (kind : Kind) → IsKindWithin regions count kind
+-- those of an object of a kind
+pub kind_colours : (regions count : ℕ) (kind : Kind) → IsKindWithin regions count kind
     → AreObjectColours count (object_colours (Some kind))
 kind_colours regions count (kinds.Causal colour) w = one_colour count colour w
 kind_colours regions count (kinds.Queue home colour) w = one_colour count colour w.1
