@@ -4,3 +4,4 @@ pub mod Answers
 pub mod Meant
 pub mod Lists
 pub mod Pieces
+pub mod RowReadings

@@ -1,5 +1,5 @@
 -- Reading from the front: a value and the bytes behind it, or nothing where none stands there.
-use Rattle.std.specs.Prelude.{◌≡◌, Bool, ℕ, zero, suc, List, [], ◌∷◌, Option, Some, None, Result, Ok, Err, if◌then◌else◌}
+use Rattle.std.specs.Prelude.{◌≡◌, Bool, ℕ, zero, suc, List, [], ◌∷◌, length, Option, Some, None, Result, Ok, Err, if◌then◌else◌}
 use Rattle.report_reading.specs.declared.fault.ReadFault.{ReadFault}
 use Rattle.report_reading.specs.declared.fault.ReadFault.TheVariants.{Memory, Form}
 
@@ -27,3 +27,7 @@ list_at begins item_at (suc most) place bytes =
       others ← list_at begins item_at most (suc place) first.1
       Some (first.0 ∷ others.0, others.1))
     else Some ([], bytes)
+
+-- all items that begin one after another
+abbrev pub each_at : {X : Type 0} → (ℕ → List ℕ → Bool) → (ℕ → List ℕ → Option (X × List ℕ)) → List ℕ → Option (List X × List ℕ)
+each_at begins item_at bytes = list_at begins item_at (length bytes) 0 bytes

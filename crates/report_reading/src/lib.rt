@@ -2,7 +2,9 @@
 #![tactic(auto)]
 
 mod fault;
+mod lists;
 mod pieces;
+mod rows;
 mod setting;
 
 pub use fault::ReportFault;

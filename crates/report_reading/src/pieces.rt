@@ -247,8 +247,8 @@ pub fn sync<'b>(script: &Script, bytes: &'b [u8]) -> (SyncPiece, &'b [u8])
     (sync, rest)
 }
 
-// What stands behind a word that follows a space; 0 where no word does.
-fn behind_word(bytes: &[u8]) -> u8
+/// What stands behind a word that follows a space; 0 where no word does.
+pub fn behind_word(bytes: &[u8]) -> u8
     ensures { result ≡ behind_word bytes.now }
 {
     if first(bytes) == b' ' {
