@@ -1,1 +1,3 @@
 mod ListLemmas
+mod NameLemmas
+mod CountLemmas

@@ -17,20 +17,20 @@ pub goes_on : {X : Type 0} (begins : ℕ → List ℕ → Bool) (item_at : ℕ �
     → place < most → begins place bytes ≡ true → item_at place bytes ≡ Some (x, after)
     → with_front front (list_at begins item_at (most - place) place bytes) ≡ total → with_front (front ++ x ∷ []) (list_at begins item_at (most - (place + 1)) (place + 1) after) ≡ total
 unfolding list_at
-goes_on begins item_at front most place bytes x after total lt yes h so_far =
+goes_on begins item_at front most place bytes x after total lt here h so_far =
     let k : most - place ≡ suc (most - (place + 1)) = omega arith in
     let next : suc place ≡ place + 1 = omega arith in
     let one : with_front front (list_at begins item_at (most - place) place bytes) ≡ with_front (front ++ x ∷ []) (list_at begins item_at (most - (place + 1)) (place + 1) after) =
-    rw (k, yes, h, next) (regroup front x (list_at begins item_at (most - (place + 1)) (place + 1) after)) in
+    rw (k, here, h, next) (regroup front x (list_at begins item_at (most - (place + 1)) (place + 1) after)) in
     sym one ∙ so_far
 
 pub ends : {X : Type 0} (begins : ℕ → List ℕ → Bool) (item_at : ℕ → List ℕ → Option (X × List ℕ)) (e : ReadFault) (front : List X) (most place : ℕ) (bytes : List ℕ) (total : Option (List X × List ℕ))
     → place < most → begins place bytes ≡ true → Lacks e (item_at place bytes) → with_front front (list_at begins item_at (most - place) place bytes) ≡ total → Lacks e total
 unfolding list_at
-ends begins item_at Memory front most place bytes total lt yes h so_far = tt
-ends begins item_at Form front most place bytes total lt yes h so_far =
+ends begins item_at Memory front most place bytes total lt here h so_far = tt
+ends begins item_at Form front most place bytes total lt here h so_far =
     let k : most - place ≡ suc (most - (place + 1)) = omega arith in
-    let one : with_front front (list_at begins item_at (most - place) place bytes) ≡ None = rw (k, yes, h) refl in
+    let one : with_front front (list_at begins item_at (most - place) place bytes) ≡ None = rw (k, here, h) refl in
     sym so_far ∙ one
 
 -- no more items, or none begins
@@ -45,7 +45,7 @@ is_full begins item_at front most place bytes total le so_far =
 pub is_over : {X : Type 0} (begins : ℕ → List ℕ → Bool) (item_at : ℕ → List ℕ → Option (X × List ℕ)) (front : List X) (most place : ℕ) (bytes : List ℕ) (total : Option (List X × List ℕ))
     → place < most → begins place bytes ≡ false → with_front front (list_at begins item_at (most - place) place bytes) ≡ total → total ≡ Some (front, bytes)
 unfolding list_at
-is_over begins item_at front most place bytes total lt no so_far =
+is_over begins item_at front most place bytes total lt none so_far =
     let k : most - place ≡ suc (most - (place + 1)) = omega arith in
-    let one : with_front front (list_at begins item_at (most - place) place bytes) ≡ Some (front, bytes) = rw (k, no) (ap (λ xs. Some (xs, bytes)) (append-nil front)) in
+    let one : with_front front (list_at begins item_at (most - place) place bytes) ≡ Some (front, bytes) = rw (k, none) (ap (λ xs. Some (xs, bytes)) (append-nil front)) in
     sym so_far ∙ one

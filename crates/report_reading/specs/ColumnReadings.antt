@@ -1,5 +1,5 @@
 -- The lines of a column as they are read.
-use Rattle.std.specs.Prelude.{Bool, ℕ, ◌+◌, ◌*◌, ◌/◌, ◌%◌, ◌==◌, ◌||◌, not, nat_lt, List, length, drop, Option, Some, None, if◌then◌else◌}
+use Rattle.std.specs.Prelude.{Bool, true, false, ℕ, ◌*◌, ◌/◌, ◌%◌, ◌==◌, ◌||◌, not, nat_lt, List, length, drop, Option, Some, None, if◌then◌else◌}
 use Rattle.log_node.specs.declared.ids.Id.{Id}
 use Rattle.log_node.specs.declared.ids.Key.{Key}
 use Rattle.log_node.specs.declared.ids.Counts.{Counts}
@@ -38,6 +38,11 @@ entering_at script bytes =
     let stamp = number_at (drop 7 wants.1) in
     (record { id = id.0; floor = floor.0; wants = wants.0; stamp = stamp.0 }, stamp.1)
 
+-- a single or a propose
+abbrev pub entered : ℕ → Bool → Entering → Entry
+entered by single e =
+    record { by = by; event = if single then Single e.id e.floor e.wants else Propose e.id e.floor e.wants; stamp = e.stamp }
+
 -- an entry that gives no stamp
 abbrev pub unstamped : ℕ → Event → Entry
 unstamped by event = record { by = by; event = event; stamp = 0 }
@@ -71,11 +76,11 @@ event_at known by bytes =
     if next == 115 then
       (if first_of (drop 1 bytes) == 105 then
         (let e = entering_at known.script (drop 7 bytes) in
-        Some (record { by = by; event = Single e.0.id e.0.floor e.0.wants; stamp = e.0.stamp }, e.1))
+        Some (entered by true e.0, e.1))
       else Some (settle_at known.script by (drop 7 bytes)))
     else if next == 112 then
       (let e = entering_at known.script (drop 8 bytes) in
-      Some (record { by = by; event = Propose e.0.id e.0.floor e.0.wants; stamp = e.0.stamp }, e.1))
+      Some (entered by false e.0, e.1))
     else if next == 114 then
       Some (unstamped by (Raise (number_at (drop 6 bytes)).0), (number_at (drop 6 bytes)).1)
     else if next == 103 then Some (give_at known.script by (drop 5 bytes))
@@ -110,8 +115,8 @@ behind_dash bytes = if first_of bytes == 45 then drop 1 bytes else bytes
 unfoldable pub queue_key_at : Script → List ℕ → QueueKey × List ℕ
 queue_key_at script bytes =
     let key = key_at script bytes in
-    let open = first_of key.1 == 63 in
-    (record { key = key.0; settled = not open }, if open then drop 1 key.1 else key.1)
+    let waits = first_of key.1 == 63 in
+    (record { key = key.0; settled = not waits }, if waits then drop 1 key.1 else key.1)
 
 -- keys with commas between them, or a dash
 abbrev pub line_at : Known → List ℕ → Option (List Key × List ℕ)
@@ -139,6 +144,10 @@ closing_at known bytes =
 abbrev pub column_begins : Known → ℕ → Bool
 column_begins known place = nat_lt place (length known.script.regions * length known.script.colours)
 
+-- behind the line of a column that has these names
+abbrev pub behind_names : List ℕ → List ℕ → List ℕ → List ℕ
+behind_names region colour bytes = drop 1 (drop (length colour) (drop 1 (drop (length region) (drop 7 bytes))))
+
 -- the column in a place, whose names the script has
 unfoldable pub column_at : Known → ℕ → List ℕ → Option (ColumnReport × List ℕ)
 column_at known place bytes =
@@ -146,7 +155,7 @@ column_at known place bytes =
     let colour = place % length known.script.colours in
     let region_name = name_of known.script.regions region in
     let colour_name = name_of known.script.colours colour in
-    journal_at known (drop (9 + length region_name + length colour_name) bytes) >>= λ journal.
+    journal_at known (behind_names region_name colour_name bytes) >>= λ journal.
     closing_at known journal.1 >>= λ closing.
     Some (record {
       region = region;

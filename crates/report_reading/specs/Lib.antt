@@ -5,3 +5,5 @@ pub mod Meant
 pub mod Lists
 pub mod Pieces
 pub mod RowReadings
+pub mod ColumnReadings
+pub mod AnswerReadings

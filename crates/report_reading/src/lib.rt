@@ -1,9 +1,12 @@
 //! A report that is read from its text.
 #![tactic(auto)]
 
+mod answers;
+mod columns;
 mod fault;
 mod lists;
 mod pieces;
+mod reads;
 mod rows;
 mod setting;
 

@@ -1,5 +1,5 @@
 // What is read, and lists of it.
-ghost use Rattle.std.specs.Prelude.{ℕ, Bool, List, Option, ◌≡◌};
+ghost use Rattle.std.specs.Prelude.{ℕ, Bool, true, List, Option, ◌≡◌};
 ghost use Rattle.report_reading.specs.Known.{Known};
 ghost use Rattle.report_reading.specs.Lists.{Gives, each_at};
 
@@ -24,6 +24,7 @@ pub trait Readable: Sized + Drop {
         place: usize,
         bytes: &'b [u8],
     ) -> Result<(Self, &'b [u8]), ReadFault>
+        requires { begins_at setting.now place bytes.now ≡ true }
         ensures { Gives (λ x. (x.0, x.1.now)) result (value_at setting.now place bytes.now) };
 }
 

@@ -1,7 +1,7 @@
 // The pieces of a report's lines, each read from the front of the bytes. What is read is printed again in the end and compared with
 // the bytes, so no piece looks at what stands between its parts.
 ghost use Rattle.std.specs.Prelude.{◌≡◌, ◌<◌, ◌≤◌, ◌%◌, ◌^◌, List, length, drop, nat_lt};
-ghost use Rattle.script_text.specs.Pieces.{is_letter_or_digit};
+ghost use Rattle.script_text.specs.Pieces.{is_letter_or_digit, name_of};
 ghost use Rattle.report_reading.specs.Apart.{AreApart, AreNames};
 ghost use Rattle.report_reading.specs.Pieces.{first_of, word_len, word_at, number_at, small_at, byte_at, named_at, id_at, key_at, further_at, numbers_at, counts_at, place_at, raise_at, point_at, sync_at, behind_word, point_begins, behind_events, raise_begins, sync_begins};
 
@@ -108,6 +108,17 @@ fn named<'b>(names: &NameSet, bytes: &'b [u8]) -> (u8, &'b [u8])
     match names.number_of(name) {
         Some(number) => (number, rest),
         None => (0, rest),
+    }
+}
+
+/// The name of a number; nothing where it names none.
+#[tactic(auto, using(crate::proofs::NameLemmas::name_some, crate::proofs::NameLemmas::name_none))]
+pub fn name(names: &NameSet, number: usize) -> &[u8]
+    ensures { result.now ≡ name_of names.now number }
+{
+    match names.get(number) {
+        Some(name) => name.as_bytes(),
+        None => &[],
     }
 }
 
