@@ -1,3 +1,8 @@
 mod ListLemmas
 mod NameLemmas
 mod CountLemmas
+mod WordLemmas
+mod PieceLemmas
+mod FitLemmas
+mod ListAgain
+mod RowLemmas

@@ -1,5 +1,5 @@
 -- What is known of a report before it is read: the script, and which of a client's commands get from a causal map.
-use Rattle.std.specs.Prelude.{Bool, true, false, ◌==◌, ℕ, List, map, filter, Option, Some, None, slice_get}
+use Rattle.std.specs.Prelude.{Bool, true, false, ◌==◌, ℕ, List, [], ◌∷◌, Option, Some, None, slice_get, if◌then◌else◌}
 use Rattle.script_text.specs.declared.commands.What.{What}
 use Rattle.script_text.specs.declared.commands.What.TheVariants as whats
 use Rattle.script_text.specs.declared.script.Command.{Command}
@@ -29,13 +29,15 @@ gets_many objects (whats.Get object key) = is_causal_map (slice_get objects obje
 gets_many objects _ = false
 
 -- whether each command of a client does, in the order of the file
-abbrev pub many_of : Script → ℕ → List Bool
-many_of script client =
-    map (λ (c : Command). gets_many script.objects c.what) (filter (λ (c : Command). c.client == client) script.commands)
+abbrev pub many_of : List Object → ℕ → List Command → List Bool
+many_of objects client [] = []
+many_of objects client (c ∷ commands) =
+    if c.client == client then gets_many objects c.what ∷ many_of objects client commands
+    else many_of objects client commands
 
 -- what is known of the replies of a client
 abbrev pub known_of : Script → ℕ → Known
-known_of script client = record { script = script; many = many_of script client }
+known_of script client = record { script = script; many = many_of script.objects client script.commands }
 
 -- a test of what stands in a place, where something does
 abbrev pub is_told : Option Bool → Bool

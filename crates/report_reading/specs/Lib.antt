@@ -7,3 +7,5 @@ pub mod Pieces
 pub mod RowReadings
 pub mod ColumnReadings
 pub mod AnswerReadings
+pub mod ReplyReadings
+pub mod ReportReadings

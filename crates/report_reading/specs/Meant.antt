@@ -1,6 +1,6 @@
 -- Which report of a script a text is meant to be: of all reports with one text the one that says no more than the text does.
 use Rattle.std.specs.Prelude.{◌≡◌, ℕ, suc, ◌<◌, ◌≤◌, ◌^◌, ◌*◌, ◌/◌, ◌%◌, IsTrue, Bool, List, [], ◌∷◌, length, Option, Some, None}
-use Rattle.std.specs.List.{All}
+use Rattle.std.specs.List.{AllByRecursion}
 use Rattle.std.specs.Prelude.{IfSome}
 use Rattle.log_node.specs.declared.ids.Id.{Id}
 use Rattle.log_node.specs.declared.ids.Key.{Key}
@@ -113,7 +113,7 @@ pub record IsRow (script : Script) (r : RowReport) : Type 0 where
   pub client : IsClient script r.row.client
   pub number : IsSmall r.row.number
   pub id : IsId script r.id
-  pub marks : All (IsColourMark script) r.marks
+  pub marks : AllByRecursion (IsColourMark script) r.marks
   pub last : IsOutcome r.last
 
 -- ---- columns
@@ -137,7 +137,7 @@ IsEvent script (events.Settle id outcome) stamp = IsId script id × IsOutcome ou
 IsEvent script (events.Raise to) stamp = IsWord to × (stamp ≡ 0)
 IsEvent script (events.Give region from) stamp = IsRegion script region × IsWord from × (stamp ≡ 0)
 IsEvent script (events.Carry region start heads) stamp =
-    IsRegion script region × IsWord start × All (IsHead script) heads × (stamp ≡ 0)
+    IsRegion script region × IsWord start × AllByRecursion (IsHead script) heads × (stamp ≡ 0)
 IsEvent script (events.Trim counts) stamp = AreCounts script counts × (stamp ≡ 0)
 
 pub record IsEntry (script : Script) (entry : Entry) : Type 0 where
@@ -150,10 +150,10 @@ pub record IsColumn (script : Script) (place : ℕ) (column : ColumnReport) : Ty
   pub colour : column.colour ≡ place % length script.colours
   pub region_name : column.region_name ≡ name_of script.regions column.region
   pub colour_name : column.colour_name ≡ name_of script.colours column.colour
-  pub journal : All (IsEntry script) column.journal
+  pub journal : AllByRecursion (IsEntry script) column.journal
   pub clock : IsWord column.clock
-  pub line : All (IsKey script) column.line
-  pub queue : All (λ (q : QueueKey). IsKey script q.key) column.queue
+  pub line : AllByRecursion (IsKey script) column.line
+  pub queue : AllByRecursion (λ (q : QueueKey). IsKey script q.key) column.queue
   pub cut : AreCounts script column.cut
   pub base : AreCounts script column.base
 
@@ -161,8 +161,8 @@ pub record IsColumn (script : Script) (place : ℕ) (column : ColumnReport) : Ty
 
 -- the raises and the syncs of a stamped read
 pub record AreRead (script : Script) (read : List RaisePiece × List SyncPiece) : Type 0 where
-  pub raises : All (IsRaise script) read.0
-  pub syncs : All (IsSync script) read.1
+  pub raises : AllByRecursion (IsRaise script) read.0
+  pub syncs : AllByRecursion (IsSync script) read.1
 
 pub record IsKeyAnswer (answer : KeyAnswer) : Type 0 where
   pub key : IsKeyText answer.key
@@ -172,7 +172,7 @@ pub record IsKeyAnswer (answer : KeyAnswer) : Type 0 where
 pub record IsRuling (script : Script) (stamp : ℕ) (row : Option ℕ) (points : List PointPiece) (read_stamp : ℕ) (read : List RaisePiece × List SyncPiece) : Type 0 where
   pub stamp : IsWord stamp
   pub row : IfSome row IsSmall
-  pub points : All (IsPoint script) points
+  pub points : AllByRecursion (IsPoint script) points
   pub read_stamp : IsWord read_stamp
   pub read : AreRead script read
 
@@ -183,7 +183,7 @@ IsEnded script endings.NoMemory = Unit {0}
 
 -- an answer: its numbers name something, and its texts are keys, values or names
 abbrev pub IsAnswer : Script → Answer → Type 0
-IsAnswer script (answers.Stood stamp row points) = IsWord stamp × IfSome row IsSmall × All (IsPoint script) points
+IsAnswer script (answers.Stood stamp row points) = IsWord stamp × IfSome row IsSmall × AllByRecursion (IsPoint script) points
 IsAnswer script (answers.StampEnd colour) = IsColour script colour
 IsAnswer script (answers.Full used) = IsSmall used
 IsAnswer script (answers.Stopped steps) = steps < 2 ^ 8
@@ -193,14 +193,14 @@ IsAnswer script (answers.Pulled nodes give carry) = IsWord nodes × IsAt give ×
 IsAnswer script answers.SameRegion = Unit {0}
 IsAnswer script (answers.Based place base) = IsAt place × AreCounts script base
 IsAnswer script (answers.Got value sync) = IfSome value IsKeyText × IsSync script sync
-IsAnswer script (answers.GotMany values sync) = All IsKeyText values × IsSync script sync
-IsAnswer script (answers.GotKeys stamp keys raises syncs) = IsWord stamp × All IsKeyAnswer keys × AreRead script (raises, syncs)
+IsAnswer script (answers.GotMany values sync) = AllByRecursion IsKeyText values × IsSync script sync
+IsAnswer script (answers.GotKeys stamp keys raises syncs) = IsWord stamp × AllByRecursion IsKeyAnswer keys × AreRead script (raises, syncs)
 IsAnswer script (answers.Ruled conflict stamp row points read_stamp raises syncs) =
     IfSome conflict IsKeyText × IsRuling script stamp row points read_stamp (raises, syncs)
 IsAnswer script (answers.Changed failed stamp row points read_stamp raises syncs) =
     IsRuling script stamp row points read_stamp (raises, syncs)
 IsAnswer script (answers.Listed names stamp raises syncs) =
-    IfSome names (All IsKeyText) × IsWord stamp × AreRead script (raises, syncs)
+    IfSome names (AllByRecursion IsKeyText) × IsWord stamp × AreRead script (raises, syncs)
 IsAnswer script (answers.Undecided stamp sync) = IsWord stamp × IsSync script sync
 IsAnswer script (answers.Decided commits stamp sync read_stamp raises syncs ended) =
     IsWord stamp × IsSync script sync × IsWord read_stamp × AreRead script (raises, syncs) × IsEnded script ended
@@ -231,7 +231,7 @@ pub record IsReply (known : Known) (place : ℕ) (reply : ReplyLine) : Type 0 wh
   pub line : IsSmall reply.line
   pub has : IsTrue (has_answer (is_many known place) reply.word reply.answer)
   pub answer : IsAnswer known.script reply.answer
-  pub nodes : All (IsShown known.script) reply.nodes
+  pub nodes : AllByRecursion (IsShown known.script) reply.nodes
 
 -- each in its place, of which the first has this number
 abbrev pub AllFrom : {X : Type 0} → (ℕ → X → Type 0) → ℕ → List X → Type 0
@@ -248,6 +248,6 @@ pub record IsReportOf (script : Script) (report : Report) : Type 0 where
   pub version : report.version ≡ script.version
   pub all_clients : length report.clients ≡ length script.clients
   pub clients : AllFrom (IsClientReport script) 0 report.clients
-  pub rows : All (IsRow script) report.rows
+  pub rows : AllByRecursion (IsRow script) report.rows
   pub all_columns : length report.columns ≡ length script.regions * length script.colours
   pub columns : AllFrom (IsColumn script) 0 report.columns

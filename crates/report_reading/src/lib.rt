@@ -7,6 +7,8 @@ mod fault;
 mod lists;
 mod pieces;
 mod reads;
+mod replies;
+mod report;
 mod rows;
 mod setting;
 

@@ -1,12 +1,9 @@
 // What is known of a report before it is read.
-ghost use Rattle.std.specs.Prelude.{◌≡◌, ◌<◌, [], length, IfOk, slice_get};
-ghost use Rattle.script_text.specs.Pieces.{name_of};
+ghost use Rattle.std.specs.Prelude.{◌≡◌, []};
 ghost use Rattle.report_reading.specs.Apart.{AreApart};
-ghost use Rattle.report_reading.specs.Known.{gets_many, many_of, known_of, is_many};
+ghost use Rattle.report_reading.specs.Known.{is_many};
 
-use log_node::Text;
-use script_text::{Kind, Script, What};
-use std::alloc::{AllocError, Global};
+use script_text::Script;
 use std::marker::Model;
 
 /// The script, and for each command of a client in turn whether it gets from a causal map.
@@ -34,6 +31,14 @@ impl<'s> Setting<'s> {
         ensures { result ≡ record { script = script.now; many = [] } }
     {
         Setting { script, many: &[] }
+    }
+
+    /// A script, and for each command of a client whether it gets from a causal map.
+    pub fn of_client(script: &'s Script, many: &'s [bool]) -> Setting<'s>
+        requires { AreApart script.now }
+        ensures { result ≡ record { script = script.now; many = many.now } }
+    {
+        Setting { script, many }
     }
 
     /// The script.

@@ -1,0 +1,30 @@
+-- A whole report as it is read.
+use Rattle.std.specs.Prelude.{ℕ, List, [], drop, Option, Some, None, if◌then◌else◌}
+use Rattle.std.specs.Str.{bytes_eq}
+use Rattle.script_text.specs.declared.script.Script.{Script}
+use Rattle.report_text.specs.declared.report.Report.{Report}
+use Rattle.report_text.specs.ReportText.{report_bytes}
+use Rattle.report_reading.specs.Known.{Known}
+use Rattle.report_reading.specs.Lists.{◌>>=◌, each_at}
+use Rattle.report_reading.specs.Pieces.{number_at}
+use Rattle.report_reading.specs.ReplyReadings.{client_begins, client_at}
+use Rattle.report_reading.specs.RowReadings.{row_begins, row_at}
+use Rattle.report_reading.specs.ColumnReadings.{column_begins, column_at}
+
+-- what is known of a report as a whole
+abbrev pub known_in : Script → Known
+known_in script = record { script = script; many = [] }
+
+-- the report that the bytes are, if they are one
+unfoldable pub candidate_at : Script → List ℕ → Option Report
+candidate_at script bytes =
+    let version = number_at (drop 7 bytes) in
+    each_at (λ n _. client_begins (known_in script) n) (client_at (known_in script)) (drop 1 version.1) >>= λ clients.
+    each_at (λ _ b. row_begins b) (λ _ b. row_at (known_in script) b) clients.1 >>= λ rows.
+    each_at (λ n _. column_begins (known_in script) n) (column_at (known_in script)) rows.1 >>= λ columns.
+    Some (record { version = script.version; clients = clients.0; rows = rows.0; columns = columns.0 })
+
+-- the report that the bytes are
+unfoldable pub report_at : Script → List ℕ → Option Report
+report_at script bytes =
+    candidate_at script bytes >>= λ report. if bytes_eq (report_bytes report) bytes then Some report else None
