@@ -6,3 +6,4 @@ mod PieceLemmas
 mod FitLemmas
 mod ListAgain
 mod RowLemmas
+mod ColumnLemmas

@@ -4,6 +4,7 @@ use Rattle.std.specs.Prelude.{IfSome}
 use Rattle.std.specs.List.{AllByRecursion, flat_map, enumerate_from}
 use Rattle.std.proofs.lemmas.Bool.{cases_Bool}
 use Rattle.std.proofs.lemmas.List.Concat.{flat_map-cons}
+use Rattle.report_text.specs.Pieces.{listed}
 use Rattle.report_reading.specs.Lists.{◌>>=◌, list_at, each_at}
 use Rattle.report_reading.specs.Meant.{AllFrom}
 
@@ -27,15 +28,15 @@ pub record IsReadAgain {X : Type 0} (begins : ℕ → List ℕ → Bool) (item_a
   pub some : (n : ℕ) (x : X) → Is n x → 0 < length (text n x)
   pub begin : (n : ℕ) (x : X) (rest : List ℕ) → Is n x → Ends rest → begins n (text n x ++ rest) ≡ true
   pub again : (n : ℕ) (x : X) (rest : List ℕ) → Is n x → Ends rest → item_at n (text n x ++ rest) ≡ Some (x, rest)
-  pub end : (n : ℕ) (x : X) (rest : List ℕ) → Is n x → Ends rest → Ends (text n x ++ rest)
+  pub end : (n : ℕ) (x : X) (rest : List ℕ) → Is (suc n) x → Ends rest → Ends (text (suc n) x ++ rest)
 
--- what may stand behind items may stand before them
-pub texts_end : {X : Type 0} (begins : ℕ → List ℕ → Bool) (item_at : ℕ → List ℕ → Option (X × List ℕ)) (text : ℕ → X → List ℕ) (Is : ℕ → X → Type 0) (Ends : List ℕ → Type 0) → IsReadAgain begins item_at text Is Ends
-    → (n : ℕ) (xs : List X) (rest : List ℕ) → AllFrom Is n xs → Ends rest → Ends (texts text n xs ++ rest)
+-- what may stand behind items may stand before those that are not the first
+texts_end : {X : Type 0} (begins : ℕ → List ℕ → Bool) (item_at : ℕ → List ℕ → Option (X × List ℕ)) (text : ℕ → X → List ℕ) (Is : ℕ → X → Type 0) (Ends : List ℕ → Type 0) → IsReadAgain begins item_at text Is Ends
+    → (n : ℕ) (xs : List X) (rest : List ℕ) → AllFrom Is (suc n) xs → Ends rest → Ends (texts text (suc n) xs ++ rest)
 texts_end begins item_at text Is Ends r n [] rest all e = e
 texts_end begins item_at text Is Ends r n (x ∷ xs) rest all e =
-    rw (append_assoc (text n x) (texts text (suc n) xs) rest)
-    (r.end n x (texts text (suc n) xs ++ rest) all.0 (texts_end begins item_at text Is Ends r (suc n) xs rest all.1 e))
+    rw (append_assoc (text (suc n) x) (texts text (suc (suc n)) xs) rest)
+    (r.end n x (texts text (suc (suc n)) xs ++ rest) all.0 (texts_end begins item_at text Is Ends r (suc n) xs rest all.1 e))
 
 list_again : {X : Type 0} (begins : ℕ → List ℕ → Bool) (item_at : ℕ → List ℕ → Option (X × List ℕ)) (text : ℕ → X → List ℕ) (Is : ℕ → X → Type 0) (Ends : List ℕ → Type 0) → IsReadAgain begins item_at text Is Ends
     → (most n : ℕ) (xs : List X) (rest : List ℕ) → AllFrom Is n xs → length xs ≤ most → Ends rest → begins (n + length xs) rest ≡ false
@@ -47,7 +48,7 @@ list_again begins item_at text Is Ends r (suc most) n [] rest all le e stop =
     rw (rw here at stop) refl
 list_again begins item_at text Is Ends r zero n (x ∷ xs) rest all le e stop = absurd (omega (arith, le))
 list_again begins item_at text Is Ends r (suc most) n (x ∷ xs) rest all le e stop =
-    let later = texts_end begins item_at text Is Ends r (suc n) xs rest all.1 e in
+    let later = texts_end begins item_at text Is Ends r n xs rest all.1 e in
     let next : n + suc (length xs) ≡ suc n + length xs = omega arith in
     let others = list_again begins item_at text Is Ends r most (suc n) xs rest all.1 (omega (arith, le)) e (rw next at stop) in
     rw (append_assoc (text n x) (texts text (suc n) xs) rest, r.begin n x (texts text (suc n) xs ++ rest) all.0 later, r.again n x (texts text (suc n) xs ++ rest) all.0 later, others) refl
@@ -75,8 +76,21 @@ all_again begins item_at text Is Ends r xs rest all e stop =
     rw (texts_alike text 0 xs) (each_again begins item_at (λ _. text) Is Ends r xs rest all e stop)
 
 pub all_end : {X : Type 0} (begins : ℕ → List ℕ → Bool) (item_at : ℕ → List ℕ → Option (X × List ℕ)) (text : X → List ℕ) (Is : ℕ → X → Type 0) (Ends : List ℕ → Type 0) → IsReadAgain begins item_at (λ _. text) Is Ends
-    → (xs : List X) (rest : List ℕ) → AllFrom Is 0 xs → Ends rest → Ends (flat_map text xs ++ rest)
-all_end begins item_at text Is Ends r xs rest all e = rw (texts_alike text 0 xs) (texts_end begins item_at (λ _. text) Is Ends r 0 xs rest all e)
+    → (xs : List X) (rest : List ℕ) → AllFrom Is 1 xs → Ends rest → Ends (flat_map text xs ++ rest)
+all_end begins item_at text Is Ends r xs rest all e = rw (texts_alike text 1 xs) (texts_end begins item_at (λ _. text) Is Ends r 0 xs rest all e)
+
+-- with a comma before each but the first
+pub comma : ℕ → List ℕ → List ℕ
+comma zero text = text
+comma (suc n) text = 44 ∷ text
+
+commas : {X : Type 0} (text : X → List ℕ) (n : ℕ) (xs : List X) → flat_map (λ y. 44 ∷ text y) xs ≡ texts (λ k y. comma k (text y)) (suc n) xs
+commas text n [] = refl
+commas text n (x ∷ xs) = flat_map-cons (λ y. 44 ∷ text y) x xs ∙ ap (λ w. 44 ∷ (text x ++ w)) (commas text (suc n) xs)
+
+-- a list with commas that is not empty
+pub listed_texts : {X : Type 0} (text : X → List ℕ) (x : X) (xs : List X) → listed text (x ∷ xs) ≡ texts (λ k y. comma k (text y)) 0 (x ∷ xs)
+listed_texts text x xs = ap (λ w. text x ++ w) (commas text 0 xs)
 
 -- what holds of each item holds of it in its place
 pub in_places : {X : Type 0} (P : X → Type 0) (n : ℕ) (xs : List X) → AllByRecursion P xs → AllFrom (λ _. P) n xs

@@ -24,6 +24,7 @@ use Rattle.report_reading.proofs.WordLemmas.{ends, word_again, number_again, Dif
 pub record AreSaid (names : List (List ℕ)) (said : ℕ → List ℕ) : Type 0 where
   pub said_so : (n : ℕ) → n < length names → said n ≡ name_of names n
   pub words : (n : ℕ) → n < length names → list_all is_letter_or_digit (name_of names n) ≡ true
+  pub some : (n : ℕ) → n < length names → 0 < length (name_of names n)
   pub differ : Differ names
 
 -- the names of a script are those of the report

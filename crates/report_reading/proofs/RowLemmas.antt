@@ -93,7 +93,7 @@ row_again known report r rest named is =
     ∙ rw (
       said_again known.script.regions (region_name report) r.region (32 ∷ (row_number_text report r.row ++ (32 ∷ (id_text report r.id ++ (marks ++ last))))) named.regions is.region refl,
       row_number_again known.script report r.row (32 ∷ (id_text report r.id ++ (marks ++ last))) named is.client is.number refl,
-      id_again known.script report r.id (marks ++ last) named is.id (all_end _ _ _ _ _ (marks_again known.script report named) r.marks last (in_places (IsColourMark known.script) 0 r.marks is.marks) refl),
+      id_again known.script report r.id (marks ++ last) named is.id (all_end _ _ _ _ _ (marks_again known.script report named) r.marks last (in_places (IsColourMark known.script) 1 r.marks is.marks) refl),
       read,
       outcome_again r.last (10 ∷ rest) is.last refl,
     ) refl

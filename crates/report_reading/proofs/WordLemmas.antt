@@ -1,9 +1,9 @@
 -- Words, numbers and names: what is printed is read again where no letter or digit stands behind it.
-use Rattle.std.proofs.Common.{◌≡◌, ℕ, zero, suc, ◌+◌, ◌*◌, ◌-◌, ◌/◌, ◌%◌, ◌^◌, ◌<◌, ◌≤◌, Bool, true, false, not, ◌||◌, leb, eqb, length-append, List, [], ◌∷◌, ◌++◌, length, Some, refl, sym, ap, ◌∙◌, append_assoc, arith}
+use Rattle.std.proofs.Common.{◌≡◌, ℕ, zero, suc, ◌+◌, ◌*◌, ◌-◌, ◌/◌, ◌%◌, ◌^◌, ◌<◌, ◌≤◌, Bool, true, false, not, ◌||◌, leb, eqb, length-append, List, [], ◌∷◌, ◌++◌, length, Some, refl, sym, ap, ◌∙◌, append_assoc, arith, inl, inr}
 use Rattle.std.specs.Prelude.{decimal}
 use Rattle.std.specs.List.{list_all}
 use Rattle.std.specs.Str.{bytes_eq}
-use Rattle.std.proofs.lemmas.Bool.{and_parts, le-leb, false_from_ne_true, both_ways, eqb-true}
+use Rattle.std.proofs.lemmas.Bool.{cases_Bool, and_parts, le-leb, false_from_ne_true, both_ways, eqb-true}
 use Rattle.std.proofs.lemmas.List.{take_at, drop_at}
 use Rattle.std.proofs.lemmas.Fmt.{decimal_by_steps, decimal_nonempty}
 use Rattle.std.proofs.lemmas.Slice.Eq.{bytes_eq-Decides}
@@ -117,3 +117,25 @@ decimal_some n rest lt = let one = decimal_nonempty n lt in omega (arith, one, l
 
 pub behind_word_is : (w : List ℕ) (c : ℕ) (rest : List ℕ) → list_all is_letter_or_digit w ≡ true → is_letter_or_digit c ≡ false → behind_word (32 ∷ (w ++ (c ∷ rest))) ≡ c
 behind_word_is w c rest all other = rw (word_again w (c ∷ rest) all (ap not other)) refl
+
+-- ---- what a word begins with
+
+-- a word begins with a letter or a digit
+pub word_front : (w rest : List ℕ) → list_all is_letter_or_digit w ≡ true → 0 < length w → is_letter_or_digit (first_of (w ++ rest)) ≡ true
+word_front [] rest all some = absurd (omega (arith, some))
+word_front (b ∷ w) rest all some = (and_parts (is_letter_or_digit b) (list_all is_letter_or_digit w) all).0
+
+-- a letter or a digit is no byte that is none
+pub letter_unlike : (b c : ℕ) → is_letter_or_digit b ≡ true → is_letter_or_digit c ≡ false → eqb b c ≡ false
+letter_unlike b c letter other = false_from_ne_true (eqb b c) (λ same. both_ways (is_letter_or_digit c) other (rw (← eqb-true b c same) letter))
+
+-- ---- what is read as a word
+
+-- letters and digits alone
+pub word_letters : (bytes : List ℕ) → list_all is_letter_or_digit (word_at bytes).0 ≡ true
+unfolding word_at
+word_letters [] = refl
+word_letters (b ∷ bs) = elim (cases_Bool (is_letter_or_digit b)) [
+  | inl letter ↦ rw (letter) (rw (letter) (word_letters bs))
+  | inr other ↦ rw (other) refl
+]

@@ -72,7 +72,7 @@ ruling_at known bytes =
 -- a value, or none, and a space
 unfoldable pub value_at : Bool → List ℕ → Option (Option (List ℕ) × List ℕ)
 value_at found bytes =
-    if found then key_text_at bytes >>= λ value. Some (Some value.0, drop 1 value.1) else Some (None, bytes)
+    if found then (key_text_at bytes >>= λ value. Some (Some value.0, drop 1 value.1)) else Some (None, bytes)
 
 -- KEY=VALUE, or KEY=-
 unfoldable pub key_answer_at : List ℕ → Option (KeyAnswer × List ℕ)
@@ -127,7 +127,7 @@ got_at known found bytes =
 -- the values that were found, and a space
 unfoldable pub values_at : Known → Bool → List ℕ → Option (List (List ℕ) × List ℕ)
 values_at known found bytes =
-    if found then texts_at known bytes >>= λ values. Some (values.0, drop 1 values.1) else Some ([], bytes)
+    if found then (texts_at known bytes >>= λ values. Some (values.0, drop 1 values.1)) else Some ([], bytes)
 
 unfoldable pub got_many_at : Known → Bool → List ℕ → Option (Answer × List ℕ)
 got_many_at known found bytes =

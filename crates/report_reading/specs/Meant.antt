@@ -123,11 +123,11 @@ pub record IsHead (script : Script) (head : Head) : Type 0 where
   pub needs : AreCounts script head.needs
 
 -- an id that enters, under the stamp that it was given
-pub record Enters (script : Script) (id : Id) (floor : ℕ) (wants : Counts) (stamp : ℕ) : Type 0 where
-  pub id : IsId script id
-  pub floor : IsWord floor
-  pub wants : AreCounts script wants
-  pub stamp : IsWord stamp
+pub record Enters (script : Script) (entering : Id) (least : ℕ) (wanted : Counts) (given : ℕ) : Type 0 where
+  pub id : IsId script entering
+  pub floor : IsWord least
+  pub wants : AreCounts script wanted
+  pub stamp : IsWord given
 
 -- an event; what gives no stamp has 0
 abbrev pub IsEvent : Script → Event → ℕ → Type 0
@@ -150,6 +150,7 @@ pub record IsColumn (script : Script) (place : ℕ) (column : ColumnReport) : Ty
   pub colour : column.colour ≡ place % length script.colours
   pub region_name : column.region_name ≡ name_of script.regions column.region
   pub colour_name : column.colour_name ≡ name_of script.colours column.colour
+  pub places : IsWord (length column.journal)
   pub journal : AllByRecursion (IsEntry script) column.journal
   pub clock : IsWord column.clock
   pub line : AllByRecursion (IsKey script) column.line
@@ -169,12 +170,12 @@ pub record IsKeyAnswer (answer : KeyAnswer) : Type 0 where
   pub value : IfSome answer.value IsKeyText
 
 -- where the node of an append stands that was ruled on, and the stamped read that told it
-pub record IsRuling (script : Script) (stamp : ℕ) (row : Option ℕ) (points : List PointPiece) (read_stamp : ℕ) (read : List RaisePiece × List SyncPiece) : Type 0 where
-  pub stamp : IsWord stamp
-  pub row : IfSome row IsSmall
-  pub points : AllByRecursion (IsPoint script) points
-  pub read_stamp : IsWord read_stamp
-  pub read : AreRead script read
+pub record IsRuling (script : Script) (own : ℕ) (begun : Option ℕ) (places : List PointPiece) (last : ℕ) (reads : List RaisePiece × List SyncPiece) : Type 0 where
+  pub stamp : IsWord own
+  pub row : IfSome begun IsSmall
+  pub points : AllByRecursion (IsPoint script) places
+  pub read_stamp : IsWord last
+  pub read : AreRead script reads
 
 abbrev pub IsEnded : Script → Ended → Type 0
 IsEnded script (endings.Stood stamp point) = IsWord stamp × IsPoint script point

@@ -16,15 +16,15 @@ abbrev pub known_in : Script → Known
 known_in script = record { script = script; many = [] }
 
 -- the report that the bytes are, if they are one
-unfoldable pub candidate_at : Script → List ℕ → Option Report
-candidate_at script bytes =
+unfoldable pub candidate_at : Known → List ℕ → Option Report
+candidate_at known bytes =
     let version = number_at (drop 7 bytes) in
-    each_at (λ n _. client_begins (known_in script) n) (client_at (known_in script)) (drop 1 version.1) >>= λ clients.
-    each_at (λ _ b. row_begins b) (λ _ b. row_at (known_in script) b) clients.1 >>= λ rows.
-    each_at (λ n _. column_begins (known_in script) n) (column_at (known_in script)) rows.1 >>= λ columns.
-    Some (record { version = script.version; clients = clients.0; rows = rows.0; columns = columns.0 })
+    each_at (λ n _. client_begins known n) (client_at known) (drop 1 version.1) >>= λ clients.
+    each_at (λ _ b. row_begins b) (λ _ b. row_at known b) clients.1 >>= λ rows.
+    each_at (λ n _. column_begins known n) (column_at known) rows.1 >>= λ columns.
+    Some (record { version = known.script.version; clients = clients.0; rows = rows.0; columns = columns.0 })
 
 -- the report that the bytes are
 unfoldable pub report_at : Script → List ℕ → Option Report
 report_at script bytes =
-    candidate_at script bytes >>= λ report. if bytes_eq (report_bytes report) bytes then Some report else None
+    candidate_at (known_in script) bytes >>= λ report. if bytes_eq (report_bytes report) bytes then Some report else None

@@ -1,5 +1,5 @@
 // A whole report.
-ghost use Rattle.std.specs.Prelude.{◌≡◌, IfOk};
+ghost use Rattle.std.specs.Prelude.{◌≡◌, IfSome};
 ghost use Rattle.std.specs.Str.{bytes_eq};
 ghost use Rattle.report_text.specs.ReportText.{report_bytes};
 ghost use Rattle.report_reading.specs.Apart.{AreApart};
@@ -17,30 +17,44 @@ use std::alloc::Global;
 
 // The report that the bytes are, if they are one.
 #[tactic(auto, unfolding(crate::specs::ReportReadings::candidate_at))]
-fn candidate(alloc: Global, script: &Script, bytes: &[u8]) -> Result<Report, ReadFault>
-    requires { AreApart script.now }
-    ensures { Gives (λ r. r) result (candidate_at script.now bytes.now) }
+fn candidate(alloc: Global, setting: &Setting<'_>, bytes: &[u8]) -> Result<Report, ReadFault>
+    ensures { Gives (λ r. r) result (candidate_at setting.now bytes.now) }
 {
-    let setting = Setting::of(script);
     let (_, rest) = number(behind(bytes, 7));
-    let (clients, rest) = list(alloc, &setting, behind(rest, 1))?;
-    let (rows, rest) = list(alloc, &setting, rest)?;
-    let (columns, _) = list(alloc, &setting, rest)?;
+    let (clients, rest) = list(alloc, setting, behind(rest, 1))?;
+    let (rows, rest) = list(alloc, setting, rest)?;
+    let (columns, _) = list(alloc, setting, rest)?;
     Ok(Report {
-        version: script.version,
+        version: setting.script().version,
         clients,
         rows,
         columns,
     })
 }
 
-// Whether the bytes are the text of the report.
-fn has_text(alloc: Global, report: &Report, bytes: &[u8]) -> Result<bool, ReadFault>
-    ensures { IfOk result (λ same. same ≡ bytes_eq (report_bytes report.now) bytes.now) }
+// Whether the bytes are the text of the report, unless memory runs out.
+fn has_text(alloc: Global, report: &Report, bytes: &[u8]) -> Option<bool>
+    ensures { IfSome result (λ same. same ≡ bytes_eq (report_bytes report.now) bytes.now) }
 {
-    let mut text = MemorySink::open(alloc, u32::MAX, &[])?;
+    let Ok(mut text) = MemorySink::open(alloc, u32::MAX, &[]) else {
+        return None;
+    };
     match print(report, &mut text) {
-        Ok(()) => Ok(text.bytes() == bytes),
-        Err(_) => Err(ReadFault::Memory),
+        Ok(()) => Some(text.bytes() == bytes),
+        Err(_) => None,
+    }
+}
+
+/// The report that the bytes are.
+#[tactic(auto, unfolding(crate::specs::ReportReadings::report_at))]
+pub fn report(alloc: Global, script: &Script, bytes: &[u8]) -> Result<Report, ReadFault>
+    requires { AreApart script.now }
+    ensures { Gives (λ r. r) result (report_at script.now bytes.now) }
+{
+    let report = candidate(alloc, &Setting::of(script), bytes)?;
+    match has_text(alloc, &report, bytes) {
+        None => Err(ReadFault::Memory),
+        Some(false) => Err(ReadFault::Form),
+        Some(true) => Ok(report),
     }
 }
