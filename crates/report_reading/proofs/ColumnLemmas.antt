@@ -3,6 +3,7 @@ use Rattle.std.proofs.Common.{◌≡◌, ℕ, zero, suc, ◌+◌, ◌*◌, ◌/�
 use Rattle.std.specs.Prelude.{decimal, codes}
 use Rattle.std.specs.List.{AllByRecursion, flat_map, enumerate_from}
 use Rattle.std.proofs.Math.Bool.{or-true}
+use Rattle.std.proofs.lemmas.List.{drop_at}
 use Rattle.log_node.specs.declared.ids.Id.{Id}
 use Rattle.log_node.specs.declared.ids.Key.{Key}
 use Rattle.log_node.specs.declared.ids.Counts.{Counts}
@@ -22,7 +23,7 @@ use Rattle.report_text.specs.Columns.{entering_text, head_text, event_text, jour
 use Rattle.report_reading.specs.declared.columns.Entering.{Entering}
 use Rattle.report_reading.specs.declared.columns.Closing.{Closing}
 use Rattle.report_reading.specs.Known.{Known}
-use Rattle.report_reading.specs.Lists.{◌>>=◌, each_at}
+use Rattle.report_reading.specs.Lists.{◌>>=◌, list_at, each_at}
 use Rattle.report_reading.specs.Meant.{IsWord, IsKey, IsHead, Enters, IsEvent, IsEntry, IsColumn, AreCounts, AllFrom}
 use Rattle.report_reading.specs.Pieces.{first_of, number_at, named_at, id_at, key_at, counts_at}
 use Rattle.report_reading.specs.ColumnReadings.{head_at, heads_at, entering_at, unstamped, entered, settle_at, give_at, carry_at, event_at, entry_at, journal_at, listed_begins, behind_comma, behind_dash, queue_key_at, line_at, queue_at, closing_at, column_begins, behind_names, column_at}
@@ -58,12 +59,9 @@ entering_again script report id floor wants stamp rest named is e =
     ap (entering_at script) regrouped
     ∙ rw (id_again script report id second named is.id refl, number_again floor third is.floor refl, counts_again script report wants last named is.wants refl, number_again stamp rest is.stamp e) refl
 
-event_again : (known : Known) (report : Report) (by stamp : ℕ) (event : Event) (rest : List ℕ) → AreNamed known.script report → IsEvent known.script event stamp
+pub event_again : (known : Known) (report : Report) (by stamp : ℕ) (event : Event) (rest : List ℕ) → AreNamed known.script report → IsEvent known.script event stamp
     → event_at known by (event_text report event stamp ++ (10 ∷ rest)) ≡ Some (record { by = by; event = event; stamp = stamp }, 10 ∷ rest)
-unfolding event_at
-unfolding settle_at
-unfolding give_at
-unfolding carry_at
+unfolding event_at settle_at give_at carry_at
 event_again known report by stamp (Single id floor wants) rest named is =
     rw (entering_again known.script report id floor wants stamp (10 ∷ rest) named is refl) refl
 event_again known report by stamp (Propose id floor wants) rest named is =
@@ -128,19 +126,19 @@ id_front script report id rest named lt =
     (word_front _ (46 ∷ (decimal id.count ++ rest)) (named.clients.words id.client lt) (named.clients.some id.client lt))
 
 -- a text that begins with a letter or a digit stands behind its comma, if it has one
-no_comma : (n : ℕ) (text : List ℕ) → is_letter_or_digit (first_of text) ≡ true → behind_comma (comma n text) ≡ text
+pub no_comma : (n : ℕ) (text : List ℕ) → is_letter_or_digit (first_of text) ≡ true → behind_comma (comma n text) ≡ text
 no_comma zero text letter = rw (letter_unlike (first_of text) 44 letter refl) refl
 no_comma (suc n) text letter = refl
 
-comma_begins : (n : ℕ) (text : List ℕ) → is_letter_or_digit (first_of text) ≡ true → listed_begins (comma n text) ≡ true
+pub comma_begins : (n : ℕ) (text : List ℕ) → is_letter_or_digit (first_of text) ≡ true → listed_begins (comma n text) ≡ true
 comma_begins zero text letter = rw (letter) (or-true (eqb (first_of text) 44))
 comma_begins (suc n) text letter = refl
 
-comma_append : (n : ℕ) (text rest : List ℕ) → comma n text ++ rest ≡ comma n (text ++ rest)
+pub comma_append : (n : ℕ) (text rest : List ℕ) → comma n text ++ rest ≡ comma n (text ++ rest)
 comma_append zero text rest = refl
 comma_append (suc n) text rest = refl
 
-comma_some : (n : ℕ) (text : List ℕ) → 0 < length text → 0 < length (comma n text)
+pub comma_some : (n : ℕ) (text : List ℕ) → 0 < length text → 0 < length (comma n text)
 comma_some zero text some = some
 comma_some (suc n) text some = omega arith
 
@@ -166,3 +164,76 @@ queue_key_again script report (record { key = key; settled = true }) rest named 
     rw (append_assoc (key_text report key) [] rest, key_again script report key rest named is e, other) refl
 queue_key_again script report (record { key = key; settled = false }) rest named is e other =
     rw (append_assoc (key_text report key) (63 ∷ []) rest, key_again script report key (63 ∷ rest) named is refl) refl
+
+-- a list of keys is read again before a space
+line_again : (known : Known) (report : Report) (keys : List Key) (rest : List ℕ) → AreNamed known.script report → AllByRecursion (IsKey known.script) keys
+    → line_at known (listed (key_text report) keys ++ (32 ∷ rest)) ≡ Some (keys, 32 ∷ rest)
+unfolding list_at
+line_again known report [] rest named all = refl
+line_again known report (k ∷ keys) rest named all =
+    rw (listed_texts (key_text report) k keys, each_again _ _ _ _ _ (keys_again known.script report named) (k ∷ keys) (32 ∷ rest) (in_places (IsKey known.script) 0 (k ∷ keys) all) refl refl) refl
+
+-- what may stand behind a key of the queue
+abbrev EndsKey : List ℕ → Type 0
+EndsKey b = (ends b ≡ true) × (eqb (first_of b) 63 ≡ false)
+
+queue_front : (script : Script) (report : Report) (q : QueueKey) (rest : List ℕ) → AreNamed script report → IsKey script q.key → is_letter_or_digit (first_of (queue_key_text report q ++ rest)) ≡ true
+queue_front script report q rest named is =
+    rw (append_assoc (key_text report q.key) (cond q.settled [] (63 ∷ [])) rest) (key_front script report q.key (cond q.settled [] (63 ∷ []) ++ rest) named is)
+
+queue_some : (report : Report) (q : QueueKey) → 0 < length (queue_key_text report q)
+queue_some report q = let one = key_some report q.key in omega (arith, one, length-append (key_text report q.key) (cond q.settled [] (63 ∷ [])))
+
+queues_again : (script : Script) (report : Report) → AreNamed script report
+    → IsReadAgain (λ _ b. listed_begins b) (λ _ b. Some (queue_key_at script (behind_comma b))) (λ n (q : QueueKey). comma n (queue_key_text report q)) (λ _ q. IsKey script q.key) EndsKey
+queues_again script report named = record {
+  some = λ n q is. comma_some n (queue_key_text report q) (queue_some report q);
+  begin = λ n q rest is e. rw (comma_append n (queue_key_text report q) rest) (comma_begins n (queue_key_text report q ++ rest) (queue_front script report q rest named is));
+  again = λ n q rest is e. rw (comma_append n (queue_key_text report q) rest, no_comma n (queue_key_text report q ++ rest) (queue_front script report q rest named is)) (ap Some (queue_key_again script report q rest named is e.0 e.1));
+  end = λ n q rest is e. (refl, refl);
+}
+
+queue_again : (known : Known) (report : Report) (keys : List QueueKey) (rest : List ℕ) → AreNamed known.script report → AllByRecursion (λ (q : QueueKey). IsKey known.script q.key) keys
+    → queue_at known (listed (queue_key_text report) keys ++ (32 ∷ rest)) ≡ Some (keys, 32 ∷ rest)
+unfolding list_at
+queue_again known report [] rest named all = refl
+queue_again known report (k ∷ keys) rest named all =
+    rw (listed_texts (queue_key_text report) k keys, each_again _ _ _ _ _ (queues_again known.script report named) (k ∷ keys) (32 ∷ rest) (in_places (λ (q : QueueKey). IsKey known.script q.key) 0 (k ∷ keys) all) (refl, refl) refl) refl
+
+closing_again : (known : Known) (report : Report) (column : ColumnReport) (place : ℕ) (rest : List ℕ) → AreNamed known.script report → IsColumn known.script place column
+    → closing_at known (closing_line report column ++ rest)
+    ≡ Some (record { clock = column.clock; line = column.line; queue = column.queue; cut = column.cut; base = column.base }, rest)
+unfolding closing_at
+closing_again known report column place rest named is =
+    let last = codes " base " ++ (counts_text report column.base ++ (10 ∷ rest)) in
+    let fourth = codes " cut " ++ (counts_text report column.cut ++ last) in
+    let third = codes " queue " ++ (listed (queue_key_text report) column.queue ++ fourth) in
+    let second = codes " line " ++ (listed (key_text report) column.line ++ third) in
+    let regrouped : closing_line report column ++ rest ≡ codes "= clock " ++ (decimal column.clock ++ second) = simp append_assoc in
+    ap (closing_at known) regrouped
+    ∙ rw (
+      number_again column.clock second is.clock refl,
+      line_again known report column.line (drop 1 third) named is.line,
+      queue_again known report column.queue (drop 1 fourth) named is.queue,
+      counts_again known.script report column.cut last named is.cut refl,
+      counts_again known.script report column.base (10 ∷ rest) named is.base refl,
+    ) refl
+
+-- behind the names of a column
+names_passed : (region colour rest : List ℕ) → behind_names region colour (codes "column " ++ (region ++ (32 ∷ (colour ++ (10 ∷ rest))))) ≡ rest
+names_passed region colour rest = rw (drop_at region (32 ∷ (colour ++ (10 ∷ rest))) (length region) refl, drop_at colour (10 ∷ rest) (length colour) refl) refl
+
+pub column_again : (known : Known) (report : Report) (place : ℕ) (column : ColumnReport) (rest : List ℕ) → AreNamed known.script report → IsColumn known.script place column
+    → column_at known place (column_lines report column ++ rest) ≡ Some (column, rest)
+unfolding column_at
+column_again known report place column rest named is =
+    let last = closing_line report column ++ rest in
+    let journal = flat_map (journal_line report) (enumerate_from 0 column.journal) in
+    let regrouped : column_lines report column ++ rest ≡ codes "column " ++ (column.region_name ++ (32 ∷ (column.colour_name ++ (10 ∷ (journal ++ last))))) = simp append_assoc in
+    ap (column_at known place) regrouped
+    ∙ rw (
+      ← is.region, ← is.colour, ← is.region_name, ← is.colour_name,
+      names_passed column.region_name column.colour_name (journal ++ last),
+      journal_again known report column.journal last named is.places is.journal refl,
+      closing_again known report column place rest named is,
+    ) refl

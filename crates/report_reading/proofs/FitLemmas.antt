@@ -17,7 +17,7 @@ use Rattle.report_reading.specs.Pieces.{first_of, word_at, digits_at, number_at,
 digits_fit : (n : ℕ) (bytes : List ℕ) → n < 2 ^ 64 → (digits_at n bytes).0 < 2 ^ 64
 digits_fit n [] lt = lt
 digits_fit n (b ∷ bs) lt = elim (cases_Bool (is_digit b)) [
-  | inl digit ↦ rw (digit) (digits_fit ((n * 10 % 2 ^ 64 + (b - 48)) % 2 ^ 64) bs (mod-lt (n * 10 % 2 ^ 64 + (b - 48)) {2 ^ 64} (omega arith)))
+  | inl digit ↦ rw (digit) (digits_fit ((n * 10 % 2 ^ 64 + (b - 48)) % 2 ^ 64) bs (mod-lt (n * 10 % 2 ^ 64 + (b - 48)) {m = 2 ^ 64} (omega arith)))
   | inr other ↦ rw (other) lt
 ]
 
@@ -27,11 +27,11 @@ number_fits bytes = digits_fit 0 bytes (omega arith)
 
 pub small_fits : (bytes : List ℕ) → IsSmall (small_at bytes).0
 unfolding small_at
-small_fits bytes = mod-lt (number_at bytes).0 {2 ^ 32} (omega arith)
+small_fits bytes = mod-lt (number_at bytes).0 {m = 2 ^ 32} (omega arith)
 
 pub byte_fits : (bytes : List ℕ) → (byte_at bytes).0 < 2 ^ 8
 unfolding byte_at
-byte_fits bytes = mod-lt (number_at bytes).0 {2 ^ 8} (omega arith)
+byte_fits bytes = mod-lt (number_at bytes).0 {m = 2 ^ 8} (omega arith)
 
 found_fits : (count : ℕ) (found : Option ℕ) → or_first found < count → 0 < suc count → or_first (option_map suc found) < suc count
 found_fits count None lt some = some
@@ -92,8 +92,7 @@ four_beyond regions a b c d some no_b no_c no_d (suc (suc (suc zero))) le = no_d
 four_beyond regions a b c d some no_b no_c no_d (suc (suc (suc (suc n)))) le = refl
 
 pub counts_fit : (script : Script) (bytes : List ℕ) → AreApart script → AreCounts script (counts_at script bytes).0
-unfolding counts_at
-unfolding numbers_at
+unfolding counts_at numbers_at
 counts_fit script bytes apart =
     let regions = length script.regions in
     let a = number_at bytes in

@@ -7,3 +7,4 @@ mod FitLemmas
 mod ListAgain
 mod RowLemmas
 mod ColumnLemmas
+mod AnswerLemmas

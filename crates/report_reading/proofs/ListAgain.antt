@@ -9,7 +9,7 @@ use Rattle.report_reading.specs.Lists.{◌>>=◌, list_at, each_at}
 use Rattle.report_reading.specs.Meant.{AllFrom}
 
 -- the texts of items, each with its place
-pub texts : {X : Type 0} → (ℕ → X → List ℕ) → ℕ → List X → List ℕ
+abbrev pub texts : {X : Type 0} → (ℕ → X → List ℕ) → ℕ → List X → List ℕ
 texts text n [] = []
 texts text n (x ∷ xs) = text n x ++ texts text (suc n) xs
 
@@ -21,7 +21,9 @@ texts_alike text n (x ∷ xs) = flat_map-cons text x xs ∙ ap (λ w. text x ++ 
 -- texts of items with their places
 pub texts_placed : {X : Type 0} (text : ℕ × X → List ℕ) (n : ℕ) (xs : List X) → flat_map text (enumerate_from n xs) ≡ texts (λ k x. text (k, x)) n xs
 texts_placed text n [] = refl
-texts_placed text n (x ∷ xs) = flat_map-cons text (n, x) (enumerate_from (suc n) xs) ∙ ap (λ w. text (n, x) ++ w) (texts_placed text (suc n) xs)
+texts_placed text n (x ∷ xs) =
+    let next : n + 1 ≡ suc n = omega arith in
+    rw next (flat_map-cons text (n, x) (enumerate_from (suc n) xs) ∙ ap (λ w. text (n, x) ++ w) (texts_placed text (suc n) xs))
 
 -- how items of one kind are read: each that is printed is read again where the right bytes stand behind it
 pub record IsReadAgain {X : Type 0} (begins : ℕ → List ℕ → Bool) (item_at : ℕ → List ℕ → Option (X × List ℕ)) (text : ℕ → X → List ℕ) (Is : ℕ → X → Type 0) (Ends : List ℕ → Type 0) : Type 0 where
@@ -67,7 +69,8 @@ few_items begins item_at text Is Ends r n (x ∷ xs) rest all =
 pub each_again : {X : Type 0} (begins : ℕ → List ℕ → Bool) (item_at : ℕ → List ℕ → Option (X × List ℕ)) (text : ℕ → X → List ℕ) (Is : ℕ → X → Type 0) (Ends : List ℕ → Type 0) → IsReadAgain begins item_at text Is Ends
     → (xs : List X) (rest : List ℕ) → AllFrom Is 0 xs → Ends rest → begins (length xs) rest ≡ false → each_at begins item_at (texts text 0 xs ++ rest) ≡ Some (xs, rest)
 each_again begins item_at text Is Ends r xs rest all e stop =
-    list_again begins item_at text Is Ends r (length (texts text 0 xs ++ rest)) 0 xs rest all (few_items begins item_at text Is Ends r 0 xs rest all) e stop
+    let count : length xs ≡ 0 + length xs = omega arith in
+    list_again begins item_at text Is Ends r (length (texts text 0 xs ++ rest)) 0 xs rest all (few_items begins item_at text Is Ends r 0 xs rest all) e (ap (λ n. begins n rest) (sym count) ∙ stop)
 
 -- the same of texts that do not depend on the place
 pub all_again : {X : Type 0} (begins : ℕ → List ℕ → Bool) (item_at : ℕ → List ℕ → Option (X × List ℕ)) (text : X → List ℕ) (Is : ℕ → X → Type 0) (Ends : List ℕ → Type 0) → IsReadAgain begins item_at (λ _. text) Is Ends
@@ -80,7 +83,7 @@ pub all_end : {X : Type 0} (begins : ℕ → List ℕ → Bool) (item_at : ℕ �
 all_end begins item_at text Is Ends r xs rest all e = rw (texts_alike text 1 xs) (texts_end begins item_at (λ _. text) Is Ends r 0 xs rest all e)
 
 -- with a comma before each but the first
-pub comma : ℕ → List ℕ → List ℕ
+abbrev pub comma : ℕ → List ℕ → List ℕ
 comma zero text = text
 comma (suc n) text = 44 ∷ text
 

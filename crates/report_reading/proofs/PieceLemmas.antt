@@ -63,24 +63,20 @@ abbrev text_of : ℕ → Counts → List ℕ
 text_of regions counts = join_with_byte 44 (map (λ region. decimal (at counts region)) (range_with_len 0 regions))
 
 one_again : (a : ℕ) (rest : List ℕ) → a < 2 ^ 64 → ends rest ≡ true → numbers_at 1 (decimal a ++ rest) ≡ (numbers a 0 0 0, rest)
-unfolding numbers_at
-unfolding further_at
+unfolding numbers_at further_at
 one_again a rest p e = rw (number_again a rest p e) refl
 
 two_again : (a b : ℕ) (rest : List ℕ) → a < 2 ^ 64 → b < 2 ^ 64 → ends rest ≡ true → numbers_at 2 (decimal a ++ (44 ∷ (decimal b ++ rest))) ≡ (numbers a b 0 0, rest)
-unfolding numbers_at
-unfolding further_at
+unfolding numbers_at further_at
 two_again a b rest p q e = rw (number_again a (44 ∷ (decimal b ++ rest)) p refl, number_again b rest q e) refl
 
 three_again : (a b c : ℕ) (rest : List ℕ) → a < 2 ^ 64 → b < 2 ^ 64 → c < 2 ^ 64 → ends rest ≡ true → numbers_at 3 (decimal a ++ (44 ∷ (decimal b ++ (44 ∷ (decimal c ++ rest))))) ≡ (numbers a b c 0, rest)
-unfolding numbers_at
-unfolding further_at
+unfolding numbers_at further_at
 three_again a b c rest p q r e = rw (number_again a (44 ∷ (decimal b ++ (44 ∷ (decimal c ++ rest)))) p refl, number_again b (44 ∷ (decimal c ++ rest)) q refl, number_again c rest r e) refl
 
 four_again : (a b c d : ℕ) (rest : List ℕ) → a < 2 ^ 64 → b < 2 ^ 64 → c < 2 ^ 64 → d < 2 ^ 64 → ends rest ≡ true
     → numbers_at 4 (decimal a ++ (44 ∷ (decimal b ++ (44 ∷ (decimal c ++ (44 ∷ (decimal d ++ rest))))))) ≡ (numbers a b c d, rest)
-unfolding numbers_at
-unfolding further_at
+unfolding numbers_at further_at
 four_again a b c d rest p q r s e =
     rw (number_again a (44 ∷ (decimal b ++ (44 ∷ (decimal c ++ (44 ∷ (decimal d ++ rest)))))) p refl, number_again b (44 ∷ (decimal c ++ (44 ∷ (decimal d ++ rest)))) q refl, number_again c (44 ∷ (decimal d ++ rest)) r refl, number_again d rest s e) refl
 

@@ -32,8 +32,7 @@ why_again Memory rest = refl
 why_again StampEnd rest = refl
 
 mark_again : (mark : Mark) (rest : List ℕ) → IsMark mark → ends rest ≡ true → mark_at (mark_text mark ++ rest) ≡ (mark, rest)
-unfolding mark_at
-unfolding why_at
+unfolding mark_at why_at
 mark_again marks.None rest is e = refl
 mark_again (marks.Number n) rest is e =
     let digit = decimal_front n rest is in

@@ -20,7 +20,7 @@ not_true : (b : Bool) → not b ≡ true → b ≡ false
 not_true true e = absurd cc
 not_true false e = refl
 
-right_false : (a b : Bool) → (a || b) ≡ false → b ≡ false
+pub right_false : (a b : Bool) → (a || b) ≡ false → b ≡ false
 right_false true b e = absurd cc
 right_false false b e = e
 
@@ -66,16 +66,16 @@ number_again n rest lt e = digits_again n lt rest ∙ digits_end n rest e
 
 pub small_again : (n : ℕ) (rest : List ℕ) → n < 2 ^ 32 → ends rest ≡ true → small_at (decimal n ++ rest) ≡ (n, rest)
 unfolding small_at
-small_again n rest lt e = rw (number_again n rest (omega (arith, lt)) e, mod-eq_of_lt {n} {2 ^ 32} lt) refl
+small_again n rest lt e = rw (number_again n rest (omega (arith, lt)) e, mod-eq_of_lt {n = n} {m = 2 ^ 32} lt) refl
 
 pub byte_again : (n : ℕ) (rest : List ℕ) → n < 2 ^ 8 → ends rest ≡ true → byte_at (decimal n ++ rest) ≡ (n, rest)
 unfolding byte_at
-byte_again n rest lt e = rw (number_again n rest (omega (arith, lt)) e, mod-eq_of_lt {n} {2 ^ 8} lt) refl
+byte_again n rest lt e = rw (number_again n rest (omega (arith, lt)) e, mod-eq_of_lt {n = n} {m = 2 ^ 8} lt) refl
 
 -- ---- names
 
 -- no two names are alike
-abbrev Differ : List (List ℕ) → Type 0
+abbrev pub Differ : List (List ℕ) → Type 0
 Differ names = (m n : ℕ) → m < length names → n < length names → name_of names m ≡ name_of names n → m ≡ n
 
 number_again_of : (names : List (List ℕ)) (n : ℕ) → n < length names → Differ names → number_of names (name_of names n) ≡ Some n
