@@ -22,11 +22,11 @@ use Rattle.report_text.specs.Replies.{row_text, value_text, values_text, key_ans
 use Rattle.report_reading.specs.declared.reads.Read.{Read}
 use Rattle.report_reading.specs.Known.{Known}
 use Rattle.report_reading.specs.Lists.{◌>>=◌, list_at, each_at}
-use Rattle.report_reading.specs.Meant.{IsWord, IsSmall, IsKeyText, IsColour, IsRaise, IsPoint, IsSync, AreRead, IsKeyAnswer}
+use Rattle.report_reading.specs.Meant.{IsWord, IsSmall, IsKeyText, IsColour, IsAt, IsRaise, IsPoint, IsSync, AreRead, IsKeyAnswer}
 use Rattle.report_reading.specs.Pieces.{first_of, word_at, number_at, named_at, place_at, raise_at, point_at, sync_at, behind_word, point_begins, behind_events, raise_begins, sync_begins}
 use Rattle.report_reading.specs.ColumnReadings.{listed_begins, behind_comma, behind_dash}
 use Rattle.report_reading.specs.AnswerReadings.{key_text_at, texts_at, points_at, raises_at, syncs_at, read_at, has_row, row_number_told_at, value_at, key_answer_at, key_answer_begins}
-use Rattle.report_reading.proofs.WordLemmas.{ends, right_false, word_again, number_again, small_again, behind_word_is, word_front, letter_unlike}
+use Rattle.report_reading.proofs.WordLemmas.{cons_on, ends, right_false, word_again, number_again, small_again, behind_word_is, word_front, letter_unlike}
 use Rattle.report_reading.proofs.PieceLemmas.{AreSaid, AreNamed, said_again, raise_again, point_again, sync_again, counts_again, place_ends}
 use Rattle.report_reading.proofs.ListAgain.{IsReadAgain, comma, listed_texts, each_again, all_again, all_end, in_places}
 use Rattle.report_reading.proofs.ColumnLemmas.{no_comma, comma_begins, comma_append, comma_some}
@@ -67,18 +67,19 @@ colour_behind : (script : Script) (report : Report) (colour c : ℕ) (rest : Lis
 colour_behind script report colour c rest named lt other =
     rw (named.colours.said_so colour lt) (behind_word_is _ c rest (named.colours.words colour lt) other)
 
-raise_point : (script : Script) (report : Report) (raise : RaisePiece) (rest : List ℕ) → AreNamed script report → IsRaise script raise → point_begins (32 ∷ (raise_text report raise ++ rest)) ≡ true
-raise_point script report (record { colour = colour; at = places.Event n }) rest named is =
-    rw (append_assoc (colour_name report colour) (33 ∷ decimal n) rest, colour_behind script report colour 33 (decimal n ++ rest) named is.colour refl) refl
-raise_point script report (record { colour = colour; at = places.Look n }) rest named is =
-    rw (append_assoc (colour_name report colour) (63 ∷ decimal n) rest, colour_behind script report colour 63 (decimal n ++ rest) named is.colour refl) refl
+raise_point : (script : Script) (report : Report) (colour : ℕ) (place : At) (rest : List ℕ) → AreNamed script report → IsColour script colour → point_begins (32 ∷ ((colour_name report colour ++ at_text place) ++ rest)) ≡ true
+raise_point script report colour (places.Event n) rest named is =
+    rw (append_assoc (colour_name report colour) (33 ∷ decimal n) rest, colour_behind script report colour 33 (decimal n ++ rest) named is refl) refl
+raise_point script report colour (places.Look n) rest named is =
+    rw (append_assoc (colour_name report colour) (63 ∷ decimal n) rest, colour_behind script report colour 63 (decimal n ++ rest) named is refl) refl
 
 -- behind its number no slash stands
-raise_no_slash : (script : Script) (report : Report) (raise : RaisePiece) (rest : List ℕ) → AreNamed script report → IsRaise script raise → ends rest ≡ true → eqb (first_of rest) 47 ≡ false → eqb (behind_events (32 ∷ (raise_text report raise ++ rest))) 47 ≡ false
-raise_no_slash script report (record { colour = colour; at = places.Event n }) rest named is e other =
-    rw (append_assoc (colour_name report colour) (33 ∷ decimal n) rest, named.colours.said_so colour is.colour, word_again _ (33 ∷ (decimal n ++ rest)) (named.colours.words colour is.colour) refl, number_again n rest is.place e) other
-raise_no_slash script report (record { colour = colour; at = places.Look n }) rest named is e other =
-    rw (append_assoc (colour_name report colour) (63 ∷ decimal n) rest, named.colours.said_so colour is.colour, word_again _ (63 ∷ (decimal n ++ rest)) (named.colours.words colour is.colour) refl, number_again n rest is.place e) other
+raise_no_slash : (script : Script) (report : Report) (colour : ℕ) (place : At) (rest : List ℕ) → AreNamed script report → IsColour script colour → IsAt place → ends rest ≡ true → eqb (first_of rest) 47 ≡ false
+    → eqb (behind_events (32 ∷ ((colour_name report colour ++ at_text place) ++ rest))) 47 ≡ false
+raise_no_slash script report colour (places.Event n) rest named is number e other =
+    rw (append_assoc (colour_name report colour) (33 ∷ decimal n) rest, named.colours.said_so colour is, word_again _ (33 ∷ (decimal n ++ rest)) (named.colours.words colour is) refl, number_again n rest number e) other
+raise_no_slash script report colour (places.Look n) rest named is number e other =
+    rw (append_assoc (colour_name report colour) (63 ∷ decimal n) rest, named.colours.said_so colour is, word_again _ (63 ∷ (decimal n ++ rest)) (named.colours.words colour is) refl, number_again n rest number e) other
 
 -- what may stand behind a raise
 abbrev pub EndsRaise : List ℕ → Type 0
@@ -87,29 +88,31 @@ EndsRaise b = (ends b ≡ true) × (eqb (first_of b) 47 ≡ false)
 raises_again : (script : Script) (report : Report) → AreNamed script report → IsReadAgain (λ _ b. raise_begins b) (λ _ b. Some (raise_at script (drop 1 b))) (λ _ (r : RaisePiece). 32 ∷ raise_text report r) (λ _. IsRaise script) EndsRaise
 raises_again script report named = record {
   some = λ n r is. omega arith;
-  begin = λ n r rest is e. rw (raise_point script report r rest named is, raise_no_slash script report r rest named is e.0 e.1) refl;
+  begin = λ n r rest is e. rw (raise_point script report r.colour r.at rest named is.colour, raise_no_slash script report r.colour r.at rest named is.colour is.place e.0 e.1) refl;
   again = λ n r rest is e. ap Some (raise_again script report r rest named is e.0);
   end = λ n r rest is e. (refl, refl);
 }
 
 -- a point is a raise, and behind that its position
 point_raise : (report : Report) (p : PointPiece) (rest : List ℕ) → point_text report p ++ rest ≡ raise_text report (record { colour = p.colour; at = p.at }) ++ (64 ∷ (decimal p.position ++ rest))
-point_raise report p rest =
-    append_assoc (colour_name report p.colour) (at_text p.at ++ (64 ∷ decimal p.position)) rest
-    ∙ ap (λ w. colour_name report p.colour ++ w) (append_assoc (at_text p.at) (64 ∷ decimal p.position) rest)
-    ∙ sym (append_assoc (colour_name report p.colour) (at_text p.at) (64 ∷ (decimal p.position ++ rest)))
+point_raise report p rest = simp (append_assoc, cons_on)
 
 points_again : (script : Script) (report : Report) → AreNamed script report → IsReadAgain (λ _ b. point_begins b) (λ _ b. Some (point_at script (drop 1 b))) (λ _ (p : PointPiece). 32 ∷ point_text report p) (λ _. IsPoint script) (λ b. ends b ≡ true)
 points_again script report named = record {
   some = λ n p is. omega arith;
-  begin = λ n p rest is e. rw (point_raise report p rest) (raise_point script report (record { colour = p.colour; at = p.at }) (64 ∷ (decimal p.position ++ rest)) named (record { colour = is.colour; place = is.place }));
+  begin = λ n p rest is e. rw (point_raise report p rest) (raise_point script report p.colour p.at (64 ∷ (decimal p.position ++ rest)) named is.colour);
   again = λ n p rest is e. ap Some (point_again script report p rest named is e);
   end = λ n p rest is e. refl;
 }
 
+-- a sync, part by part
+sync_parts : (report : Report) (s : SyncPiece) (rest : List ℕ) → sync_text report s ++ rest ≡ colour_name report s.colour ++ (63 ∷ (decimal s.events ++ (47 ∷ (counts_text report s.counts ++ rest))))
+sync_parts report s rest = simp (append_assoc, cons_on)
+
 sync_begins_so : (script : Script) (report : Report) (s : SyncPiece) (rest : List ℕ) → AreNamed script report → IsSync script s → sync_begins (32 ∷ (sync_text report s ++ rest)) ≡ true
 sync_begins_so script report s rest named is =
-    rw (append_assoc (colour_name report s.colour) (63 ∷ (decimal s.events ++ (47 ∷ counts_text report s.counts))) rest, colour_behind script report s.colour 63 ((decimal s.events ++ (47 ∷ counts_text report s.counts)) ++ rest) named is.colour refl) refl
+    ap (λ w. sync_begins (32 ∷ w)) (sync_parts report s rest)
+    ∙ ap (λ b. eqb b 63) (colour_behind script report s.colour 63 (decimal s.events ++ (47 ∷ (counts_text report s.counts ++ rest))) named is.colour refl)
 
 syncs_again : (script : Script) (report : Report) → AreNamed script report → IsReadAgain (λ _ b. sync_begins b) (λ _ b. Some (sync_at script (drop 1 b))) (λ _ (s : SyncPiece). 32 ∷ sync_text report s) (λ _. IsSync script) (λ b. ends b ≡ true)
 syncs_again script report named = record {
@@ -123,8 +126,8 @@ syncs_again script report named = record {
 sync_no_raise : (script : Script) (report : Report) (s : SyncPiece) (rest : List ℕ) → AreNamed script report → IsSync script s → raise_begins (32 ∷ (sync_text report s ++ rest)) ≡ false
 sync_no_raise script report s rest named is =
     let tail = 47 ∷ (counts_text report s.counts ++ rest) in
-    let regrouped : sync_text report s ++ rest ≡ colour_name report s.colour ++ (63 ∷ (decimal s.events ++ tail)) = simp append_assoc in
-    rw (regrouped, named.colours.said_so s.colour is.colour, word_again _ (63 ∷ (decimal s.events ++ tail)) (named.colours.words s.colour is.colour) refl, number_again s.events tail is.events refl) refl
+    ap (λ w. raise_begins (32 ∷ w)) (sync_parts report s rest)
+    ∙ rw (named.colours.said_so s.colour is.colour, word_again _ (63 ∷ (decimal s.events ++ tail)) (named.colours.words s.colour is.colour) refl, number_again s.events tail is.events refl) refl
 
 -- what may stand behind a stamped read: no raise and no sync
 pub record EndsRead (rest : List ℕ) : Type 0 where

@@ -28,9 +28,10 @@ use Rattle.report_reading.specs.Meant.{IsWord, IsKey, IsHead, Enters, IsEvent, I
 use Rattle.report_reading.specs.Pieces.{first_of, number_at, named_at, id_at, key_at, counts_at}
 use Rattle.report_reading.specs.ColumnReadings.{head_at, heads_at, entering_at, unstamped, entered, settle_at, give_at, carry_at, event_at, entry_at, journal_at, listed_begins, behind_comma, behind_dash, queue_key_at, line_at, queue_at, closing_at, column_begins, behind_names, column_at}
 use Rattle.report_reading.specs.RowReadings.{outcome_at}
-use Rattle.report_reading.proofs.WordLemmas.{ends, number_again, decimal_front, decimal_some, word_front, letter_unlike}
+use Rattle.report_reading.proofs.WordLemmas.{cons_on, nil_on, line_some, ends, number_again, decimal_front, decimal_some, word_front, letter_unlike}
 use Rattle.report_reading.proofs.PieceLemmas.{AreSaid, AreNamed, said_again, id_again, key_again, counts_again}
 use Rattle.report_reading.proofs.RowLemmas.{outcome_again}
+use Rattle.report_reading.proofs.Joins.{join4, join6, join11}
 use Rattle.report_reading.proofs.ListAgain.{IsReadAgain, comma, listed_texts, texts, texts_placed, each_again, all_again, all_end, in_places}
 
 head_again : (script : Script) (report : Report) (head : Head) (rest : List ℕ) → AreNamed script report → IsHead script head → ends rest ≡ true → head_at script (head_text report head ++ rest) ≡ (head, rest)
@@ -55,9 +56,14 @@ entering_again script report id floor wants stamp rest named is e =
     let last = codes " stamp " ++ (decimal stamp ++ rest) in
     let third = codes " wants " ++ (counts_text report wants ++ last) in
     let second = codes " floor " ++ (decimal floor ++ third) in
-    let regrouped : (entering_text report id floor wants ++ codes " stamp " ++ decimal stamp) ++ rest ≡ id_text report id ++ second = simp append_assoc in
+    let regrouped : (entering_text report id floor wants ++ codes " stamp " ++ decimal stamp) ++ rest ≡ id_text report id ++ second = simp (append_assoc, cons_on, nil_on) in
     ap (entering_at script) regrouped
     ∙ rw (id_again script report id second named is.id refl, number_again floor third is.floor refl, counts_again script report wants last named is.wants refl, number_again stamp rest is.stamp e) refl
+
+-- what is carried, part by part
+carry_parts : (report : Report) (region start : ℕ) (heads : List Head) (stamp : ℕ) (rest : List ℕ) → event_text report (Carry region start heads) stamp ++ (10 ∷ rest)
+    ≡ codes "carry " ++ (region_name report region ++ (32 ∷ (decimal start ++ (flat_map (λ (h : Head). 32 ∷ head_text report h) heads ++ (10 ∷ rest)))))
+carry_parts report region start heads stamp rest = join4 (codes "carry ") (region_name report region) (32 ∷ decimal start) (flat_map (λ (h : Head). 32 ∷ head_text report h) heads) (10 ∷ rest)
 
 pub event_again : (known : Known) (report : Report) (by stamp : ℕ) (event : Event) (rest : List ℕ) → AreNamed known.script report → IsEvent known.script event stamp
     → event_at known by (event_text report event stamp ++ (10 ∷ rest)) ≡ Some (record { by = by; event = event; stamp = stamp }, 10 ∷ rest)
@@ -67,22 +73,25 @@ event_again known report by stamp (Single id floor wants) rest named is =
 event_again known report by stamp (Propose id floor wants) rest named is =
     rw (entering_again known.script report id floor wants stamp (10 ∷ rest) named is refl) refl
 event_again known report by stamp (Settle id outcome) rest named is =
-    rw (append_assoc (id_text report id) (32 ∷ outcome_text outcome) (10 ∷ rest), id_again known.script report id (32 ∷ (outcome_text outcome ++ (10 ∷ rest))) named is.0 refl, outcome_again outcome (10 ∷ rest) is.1.0 refl, is.1.1) refl
+    rw (append_assoc (id_text report id) (32 ∷ outcome_text outcome) (10 ∷ rest), id_again known.script report id (32 ∷ (outcome_text outcome ++ (10 ∷ rest))) named is.0 refl, outcome_again outcome (10 ∷ rest) is.1 refl, is.2) refl
 event_again known report by stamp (Raise to) rest named is = rw (number_again to (10 ∷ rest) is.0 refl, is.1) refl
 event_again known report by stamp (Give region from) rest named is =
-    rw (append_assoc (region_name report region) (32 ∷ decimal from) (10 ∷ rest), said_again known.script.regions (region_name report) region (32 ∷ (decimal from ++ (10 ∷ rest))) named.regions is.0 refl, number_again from (10 ∷ rest) is.1.0 refl, is.1.1) refl
+    rw (append_assoc (region_name report region) (32 ∷ decimal from) (10 ∷ rest), said_again known.script.regions (region_name report) region (32 ∷ (decimal from ++ (10 ∷ rest))) named.regions is.0 refl, number_again from (10 ∷ rest) is.1 refl, is.2) refl
 event_again known report by stamp (Carry region start heads) rest named is =
-    let all = in_places (IsHead known.script) 0 heads is.1.1.0 in
+    let all = in_places (IsHead known.script) 0 heads is.2 in
     let text = flat_map (λ (h : Head). 32 ∷ head_text report h) heads in
-    rw (
-      append_assoc (region_name report region) (32 ∷ (decimal start ++ text)) (10 ∷ rest),
-      append_assoc (decimal start) text (10 ∷ rest),
+    ap (event_at known by) (carry_parts report region start heads stamp rest)
+    ∙ rw (
       said_again known.script.regions (region_name report) region (32 ∷ (decimal start ++ (text ++ (10 ∷ rest)))) named.regions is.0 refl,
-      number_again start (text ++ (10 ∷ rest)) is.1.0 (all_end _ _ _ _ _ (heads_again known.script report named) heads (10 ∷ rest) (in_places (IsHead known.script) 1 heads is.1.1.0) refl),
+      number_again start (text ++ (10 ∷ rest)) is.1 (all_end _ _ _ _ _ (heads_again known.script report named) heads (10 ∷ rest) (in_places (IsHead known.script) 1 heads is.2) refl),
       all_again _ _ _ _ _ (heads_again known.script report named) heads (10 ∷ rest) all refl refl,
-      is.1.1.1,
+      is.3,
     ) refl
 event_again known report by stamp (Trim counts) rest named is = rw (counts_again known.script report counts (10 ∷ rest) named is.0 refl, is.1) refl
+
+-- a line of a journal, part by part
+entry_parts : (report : Report) (place : ℕ) (entry : Entry) (rest : List ℕ) → journal_line report (place, entry) ++ rest ≡ decimal place ++ (32 ∷ (client_name report entry.by ++ (32 ∷ (event_text report entry.event entry.stamp ++ (10 ∷ rest)))))
+entry_parts report place entry rest = simp (append_assoc, cons_on, nil_on)
 
 entry_again : (known : Known) (report : Report) (place : ℕ) (entry : Entry) (rest : List ℕ) → AreNamed known.script report → IsWord place → IsEntry known.script entry
     → entry_at known (journal_line report (place, entry) ++ rest) ≡ Some (entry, rest)
@@ -90,8 +99,7 @@ unfolding entry_at
 entry_again known report place entry rest named small is =
     let third = event_text report entry.event entry.stamp ++ (10 ∷ rest) in
     let second = client_name report entry.by ++ (32 ∷ third) in
-    let regrouped : journal_line report (place, entry) ++ rest ≡ decimal place ++ (32 ∷ second) = simp append_assoc in
-    ap (entry_at known) regrouped
+    ap (entry_at known) (entry_parts report place entry rest)
     ∙ rw (number_again place (32 ∷ second) small refl, said_again known.script.clients (client_name report) entry.by (32 ∷ third) named.clients is.by refl, event_again known report entry.by entry.stamp entry.event rest named is.event) refl
 
 -- an entry in its place
@@ -100,8 +108,8 @@ InPlace script place entry = IsWord place × IsEntry script entry
 
 journals_again : (known : Known) (report : Report) → AreNamed known.script report → IsReadAgain (λ _ b. is_digit (first_of b)) (λ _ b. entry_at known b) (λ n (e : Entry). journal_line report (n, e)) (InPlace known.script) (λ b. Unit {0})
 journals_again known report named = record {
-  some = λ n entry is. decimal_some n _ is.0;
-  begin = λ n entry rest is e. rw (append_assoc (decimal n) (32 ∷ (client_name report entry.by ++ (32 ∷ (event_text report entry.event entry.stamp ++ line_end)))) rest) (decimal_front n _ is.0);
+  some = λ n entry is. line_some _;
+  begin = λ n entry rest is e. ap (λ w. is_digit (first_of w)) (entry_parts report n entry rest) ∙ decimal_front n _ is.0;
   again = λ n entry rest is e. entry_again known report n entry rest named is.0 is.1;
   end = λ n entry rest is e. tt;
 }
@@ -158,12 +166,17 @@ keys_again script report named = record {
   end = λ n k rest is e. refl;
 }
 
-queue_key_again : (script : Script) (report : Report) (q : QueueKey) (rest : List ℕ) → AreNamed script report → IsKey script q.key → ends rest ≡ true → eqb (first_of rest) 63 ≡ false → queue_key_at script (queue_key_text report q ++ rest) ≡ (q, rest)
+-- a key of the queue, whether settled or not
+queue_key_of : (script : Script) (report : Report) (key : Key) (settled : Bool) (rest : List ℕ) → AreNamed script report → IsKey script key → ends rest ≡ true → eqb (first_of rest) 63 ≡ false
+    → queue_key_at script (queue_key_text report (record { key = key; settled = settled }) ++ rest) ≡ (record { key = key; settled = settled }, rest)
 unfolding queue_key_at
-queue_key_again script report (record { key = key; settled = true }) rest named is e other =
+queue_key_of script report key true rest named is e other =
     rw (append_assoc (key_text report key) [] rest, key_again script report key rest named is e, other) refl
-queue_key_again script report (record { key = key; settled = false }) rest named is e other =
+queue_key_of script report key false rest named is e other =
     rw (append_assoc (key_text report key) (63 ∷ []) rest, key_again script report key (63 ∷ rest) named is refl) refl
+
+queue_key_again : (script : Script) (report : Report) (q : QueueKey) (rest : List ℕ) → AreNamed script report → IsKey script q.key → ends rest ≡ true → eqb (first_of rest) 63 ≡ false → queue_key_at script (queue_key_text report q ++ rest) ≡ (q, rest)
+queue_key_again script report q rest named is e other = queue_key_of script report q.key q.settled rest named is e other
 
 -- a list of keys is read again before a space
 line_again : (known : Known) (report : Report) (keys : List Key) (rest : List ℕ) → AreNamed known.script report → AllByRecursion (IsKey known.script) keys
@@ -209,7 +222,8 @@ closing_again known report column place rest named is =
     let fourth = codes " cut " ++ (counts_text report column.cut ++ last) in
     let third = codes " queue " ++ (listed (queue_key_text report) column.queue ++ fourth) in
     let second = codes " line " ++ (listed (key_text report) column.line ++ third) in
-    let regrouped : closing_line report column ++ rest ≡ codes "= clock " ++ (decimal column.clock ++ second) = simp append_assoc in
+    let regrouped : closing_line report column ++ rest ≡ codes "= clock " ++ (decimal column.clock ++ second) =
+    join11 (codes "= clock ") (decimal column.clock) (codes " line ") (listed (key_text report) column.line) (codes " queue ") (listed (queue_key_text report) column.queue) (codes " cut ") (counts_text report column.cut) (codes " base ") (counts_text report column.base) line_end rest in
     ap (closing_at known) regrouped
     ∙ rw (
       number_again column.clock second is.clock refl,
@@ -229,7 +243,8 @@ unfolding column_at
 column_again known report place column rest named is =
     let last = closing_line report column ++ rest in
     let journal = flat_map (journal_line report) (enumerate_from 0 column.journal) in
-    let regrouped : column_lines report column ++ rest ≡ codes "column " ++ (column.region_name ++ (32 ∷ (column.colour_name ++ (10 ∷ (journal ++ last))))) = simp append_assoc in
+    let regrouped : column_lines report column ++ rest ≡ codes "column " ++ (column.region_name ++ (32 ∷ (column.colour_name ++ (10 ∷ (journal ++ last))))) =
+    join6 (codes "column ") column.region_name (32 ∷ column.colour_name) line_end journal (closing_line report column) rest in
     ap (column_at known place) regrouped
     ∙ rw (
       ← is.region, ← is.colour, ← is.region_name, ← is.colour_name,

@@ -2,6 +2,7 @@ mod ListLemmas
 mod NameLemmas
 mod CountLemmas
 mod WordLemmas
+mod Joins
 mod PieceLemmas
 mod FitLemmas
 mod ListAgain

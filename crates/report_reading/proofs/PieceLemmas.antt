@@ -18,7 +18,7 @@ use Rattle.report_text.specs.Names.{client_name, colour_name, region_name, regio
 use Rattle.report_text.specs.Pieces.{id_text, key_text, counts_text, at_text, point_text, raise_text, sync_text}
 use Rattle.report_reading.specs.Meant.{IsWord, IsId, IsKey, AreCounts, IsAt, IsRaise, IsPoint, IsSync}
 use Rattle.report_reading.specs.Pieces.{number_at, named_at, id_at, key_at, further_at, numbers_at, counts_at, place_at, raise_at, point_at, sync_at}
-use Rattle.report_reading.proofs.WordLemmas.{ends, word_again, number_again, Differ, named_again}
+use Rattle.report_reading.proofs.WordLemmas.{cons_on, ends, word_again, number_again, Differ, named_again}
 
 -- names of one kind, which a report has under the same numbers
 pub record AreSaid (names : List (List ℕ)) (said : ℕ → List ℕ) : Type 0 where
@@ -135,18 +135,13 @@ pub point_again : (script : Script) (report : Report) (point : PointPiece) (rest
 unfolding point_at
 point_again script report point rest named is e =
     let raise : RaisePiece = record { colour = point.colour; at = point.at } in
-    let regrouped : point_text report point ++ rest ≡ raise_text report raise ++ (64 ∷ (decimal point.position ++ rest)) =
-    append_assoc (colour_name report point.colour) (at_text point.at ++ (64 ∷ decimal point.position)) rest
-    ∙ ap (λ w. colour_name report point.colour ++ w) (append_assoc (at_text point.at) (64 ∷ decimal point.position) rest)
-    ∙ sym (append_assoc (colour_name report point.colour) (at_text point.at) (64 ∷ (decimal point.position ++ rest))) in
+    let regrouped : point_text report point ++ rest ≡ raise_text report raise ++ (64 ∷ (decimal point.position ++ rest)) = simp (append_assoc, cons_on) in
     ap (point_at script) regrouped
     ∙ rw (raise_again script report raise (64 ∷ (decimal point.position ++ rest)) named (record { colour = is.colour; place = is.place }) refl, number_again point.position rest is.position e) refl
 
 pub sync_again : (script : Script) (report : Report) (sync : SyncPiece) (rest : List ℕ) → AreNamed script report → IsSync script sync → ends rest ≡ true → sync_at script (sync_text report sync ++ rest) ≡ (sync, rest)
 unfolding sync_at
 sync_again script report sync rest named is e =
-    let regrouped : sync_text report sync ++ rest ≡ colour_name report sync.colour ++ (63 ∷ (decimal sync.events ++ (47 ∷ (counts_text report sync.counts ++ rest)))) =
-    append_assoc (colour_name report sync.colour) (63 ∷ (decimal sync.events ++ (47 ∷ counts_text report sync.counts))) rest
-    ∙ ap (λ w. colour_name report sync.colour ++ (63 ∷ w)) (append_assoc (decimal sync.events) (47 ∷ counts_text report sync.counts) rest) in
+    let regrouped : sync_text report sync ++ rest ≡ colour_name report sync.colour ++ (63 ∷ (decimal sync.events ++ (47 ∷ (counts_text report sync.counts ++ rest)))) = simp (append_assoc, cons_on) in
     ap (sync_at script) regrouped
     ∙ rw (said_again script.colours (colour_name report) sync.colour (63 ∷ (decimal sync.events ++ (47 ∷ (counts_text report sync.counts ++ rest)))) named.colours is.colour refl, number_again sync.events (47 ∷ (counts_text report sync.counts ++ rest)) is.events refl, counts_again script report sync.counts rest named is.counts e) refl

@@ -15,7 +15,7 @@ use Rattle.script_text.specs.Pieces.{is_digit}
 use Rattle.report_text.specs.declared.report.RowReport.{RowReport}
 use Rattle.report_text.specs.declared.report.Report.{Report}
 use Rattle.report_text.specs.Names.{region_name, colour_name, client_name}
-use Rattle.report_text.specs.Pieces.{spaced, id_text}
+use Rattle.report_text.specs.Pieces.{line_end, spaced, id_text}
 use Rattle.report_text.specs.Rows.{why_text, mark_text, colour_mark_text, outcome_text, row_number_text, row_line}
 use Rattle.report_reading.specs.Known.{Known}
 use Rattle.report_reading.specs.Lists.{◌>>=◌, each_at}
@@ -24,6 +24,7 @@ use Rattle.report_reading.specs.Pieces.{word_at, number_at, named_at}
 use Rattle.report_reading.specs.RowReadings.{why_at, mark_at, mark_begins, colour_mark_at, outcome_at, row_number_at, marks_at, row_begins, row_at}
 use Rattle.report_reading.proofs.WordLemmas.{ends, word_again, number_again, small_again, decimal_front, digit_unlike, behind_word_is}
 use Rattle.report_reading.proofs.PieceLemmas.{AreSaid, AreNamed, said_again, id_again}
+use Rattle.report_reading.proofs.Joins.{join7}
 use Rattle.report_reading.proofs.ListAgain.{IsReadAgain, all_end, all_again, in_places}
 
 pub why_again : (why : Why) (rest : List ℕ) → why_at (why_text why ++ rest) ≡ (why, rest)
@@ -86,7 +87,8 @@ unfolding row_at
 row_again known report r rest named is =
     let last = 32 ∷ (outcome_text r.last ++ (10 ∷ rest)) in
     let marks = flat_map (λ (m : ColourMark). 32 ∷ colour_mark_text report m) r.marks in
-    let regrouped : row_line report r ++ rest ≡ codes "row " ++ (region_name report r.region ++ (32 ∷ (row_number_text report r.row ++ (32 ∷ (id_text report r.id ++ (marks ++ last)))))) = simp append_assoc in
+    let regrouped : row_line report r ++ rest ≡ codes "row " ++ (region_name report r.region ++ (32 ∷ (row_number_text report r.row ++ (32 ∷ (id_text report r.id ++ (marks ++ last)))))) =
+    join7 (codes "row ") (region_name report r.region) (32 ∷ row_number_text report r.row) (32 ∷ id_text report r.id) marks (32 ∷ outcome_text r.last) line_end rest in
     let read = all_again _ _ _ _ _ (marks_again known.script report named) r.marks last (in_places (IsColourMark known.script) 0 r.marks is.marks) refl (outcome_stops r.last rest) in
     ap (row_at known) regrouped
     ∙ rw (

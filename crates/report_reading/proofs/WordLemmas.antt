@@ -11,6 +11,17 @@ use Rattle.std.proofs.Math.Nat.{mod-eq_of_lt}
 use Rattle.script_text.specs.Pieces.{is_letter_or_digit, is_letter, is_digit, number_of, name_of}
 use Rattle.report_reading.specs.Pieces.{first_of, behind_word, word_len, word_at, digits_at, number_at, small_at, byte_at, named_at}
 
+-- a byte before a text that goes on
+pub cons_on : (b : ℕ) (xs ys : List ℕ) → (b ∷ xs) ++ ys ≡ b ∷ (xs ++ ys)
+cons_on b xs ys = refl
+
+pub nil_on : (ys : List ℕ) → [] ++ ys ≡ ys
+nil_on ys = refl
+
+-- a line is no empty text
+pub line_some : (xs : List ℕ) → 0 < length (xs ++ (10 ∷ []))
+line_some xs = omega (arith, length-append xs (10 ∷ []))
+
 -- no letter or digit comes next
 abbrev pub ends : List ℕ → Bool
 ends [] = true
