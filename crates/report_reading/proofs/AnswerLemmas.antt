@@ -32,7 +32,7 @@ use Rattle.report_reading.proofs.ListAgain.{IsReadAgain, comma, listed_texts, ea
 use Rattle.report_reading.proofs.ColumnLemmas.{no_comma, comma_begins, comma_append, comma_some}
 
 -- a key is letters and digits, one at least
-key_letters : (t : List ℕ) → IsKeyText t → list_all is_letter_or_digit t ≡ true
+pub key_letters : (t : List ℕ) → IsKeyText t → list_all is_letter_or_digit t ≡ true
 key_letters t is = (and_parts (is_between 1 16 (length t)) (list_all is_letter_or_digit t) is).1
 
 key_length : (t : List ℕ) → IsKeyText t → 0 < length t
@@ -59,6 +59,13 @@ unfolding list_at
 listed_again known [] rest all = refl
 listed_again known (t ∷ ts) rest all =
     rw (listed_texts (λ t. t) t ts, each_again _ _ _ _ _ (texts_again known) (t ∷ ts) (32 ∷ rest) (in_places IsKeyText 0 (t ∷ ts) all) refl refl) refl
+
+-- and before the end of a line
+pub listed_line : (known : Known) (ts : List (List ℕ)) (rest : List ℕ) → AllByRecursion IsKeyText ts → texts_at known (listed (λ t. t) ts ++ (10 ∷ rest)) ≡ Some (ts, 10 ∷ rest)
+unfolding list_at
+listed_line known [] rest all = refl
+listed_line known (t ∷ ts) rest all =
+    rw (listed_texts (λ t. t) t ts, each_again _ _ _ _ _ (texts_again known) (t ∷ ts) (10 ∷ rest) (in_places IsKeyText 0 (t ∷ ts) all) refl refl) refl
 
 -- ---- points, raises and syncs
 
@@ -97,10 +104,14 @@ raises_again script report named = record {
 point_raise : (report : Report) (p : PointPiece) (rest : List ℕ) → point_text report p ++ rest ≡ raise_text report (record { colour = p.colour; at = p.at }) ++ (64 ∷ (decimal p.position ++ rest))
 point_raise report p rest = simp (append_assoc, cons_on)
 
-points_again : (script : Script) (report : Report) → AreNamed script report → IsReadAgain (λ _ b. point_begins b) (λ _ b. Some (point_at script (drop 1 b))) (λ _ (p : PointPiece). 32 ∷ point_text report p) (λ _. IsPoint script) (λ b. ends b ≡ true)
+-- a point begins behind its space
+pub point_so : (script : Script) (report : Report) (p : PointPiece) (rest : List ℕ) → AreNamed script report → IsPoint script p → point_begins (32 ∷ (point_text report p ++ rest)) ≡ true
+point_so script report p rest named is = rw (point_raise report p rest) (raise_point script report p.colour p.at (64 ∷ (decimal p.position ++ rest)) named is.colour)
+
+pub points_again : (script : Script) (report : Report) → AreNamed script report → IsReadAgain (λ _ b. point_begins b) (λ _ b. Some (point_at script (drop 1 b))) (λ _ (p : PointPiece). 32 ∷ point_text report p) (λ _. IsPoint script) (λ b. ends b ≡ true)
 points_again script report named = record {
   some = λ n p is. omega arith;
-  begin = λ n p rest is e. rw (point_raise report p rest) (raise_point script report p.colour p.at (64 ∷ (decimal p.position ++ rest)) named is.colour);
+  begin = λ n p rest is e. point_so script report p rest named is;
   again = λ n p rest is e. ap Some (point_again script report p rest named is e);
   end = λ n p rest is e. refl;
 }

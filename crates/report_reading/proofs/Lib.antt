@@ -9,3 +9,4 @@ mod ListAgain
 mod RowLemmas
 mod ColumnLemmas
 mod AnswerLemmas
+mod AnswerAgain

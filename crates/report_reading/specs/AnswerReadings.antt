@@ -255,6 +255,7 @@ ok_at known many words.Pull bytes = Some (pulled_at bytes)
 ok_at known many words.Trim bytes = Some (based_at known bytes)
 ok_at known many words.Get bytes = if many then got_many_at known true bytes else got_at known true bytes
 ok_at known many words.Peek bytes = got_at known true bytes
+ok_at known many words.Decide bytes = got_at known true bytes
 ok_at known many words.GetAll bytes = got_keys_at known bytes
 ok_at known many words.Read bytes = got_keys_at known bytes
 ok_at known many words.Deq bytes = took_at known true bytes

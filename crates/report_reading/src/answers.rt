@@ -336,7 +336,7 @@ fn ok<'b>(alloc: Global, setting: &Setting<'_>, many: bool, word: Word, bytes: &
                 got(alloc, setting, true, bytes)
             }
         }
-        Word::Peek => got(alloc, setting, true, bytes),
+        Word::Peek | Word::Decide => got(alloc, setting, true, bytes),
         Word::GetAll | Word::Read => got_keys(alloc, setting, bytes),
         Word::Deq => took(alloc, setting, true, bytes),
         Word::Ls => listed(alloc, setting, bytes),
