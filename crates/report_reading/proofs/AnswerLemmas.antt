@@ -35,7 +35,7 @@ use Rattle.report_reading.proofs.ColumnLemmas.{no_comma, comma_begins, comma_app
 pub key_letters : (t : List ℕ) → IsKeyText t → list_all is_letter_or_digit t ≡ true
 key_letters t is = (and_parts (is_between 1 16 (length t)) (list_all is_letter_or_digit t) is).1
 
-key_length : (t : List ℕ) → IsKeyText t → 0 < length t
+pub key_length : (t : List ℕ) → IsKeyText t → 0 < length t
 key_length [] is = absurd cc
 key_length (b ∷ t) is = omega arith
 
@@ -74,7 +74,7 @@ colour_behind : (script : Script) (report : Report) (colour c : ℕ) (rest : Lis
 colour_behind script report colour c rest named lt other =
     rw (named.colours.said_so colour lt) (behind_word_is _ c rest (named.colours.words colour lt) other)
 
-raise_point : (script : Script) (report : Report) (colour : ℕ) (place : At) (rest : List ℕ) → AreNamed script report → IsColour script colour → point_begins (32 ∷ ((colour_name report colour ++ at_text place) ++ rest)) ≡ true
+pub raise_point : (script : Script) (report : Report) (colour : ℕ) (place : At) (rest : List ℕ) → AreNamed script report → IsColour script colour → point_begins (32 ∷ ((colour_name report colour ++ at_text place) ++ rest)) ≡ true
 raise_point script report colour (places.Event n) rest named is =
     rw (append_assoc (colour_name report colour) (33 ∷ decimal n) rest, colour_behind script report colour 33 (decimal n ++ rest) named is refl) refl
 raise_point script report colour (places.Look n) rest named is =
@@ -120,7 +120,7 @@ points_again script report named = record {
 sync_parts : (report : Report) (s : SyncPiece) (rest : List ℕ) → sync_text report s ++ rest ≡ colour_name report s.colour ++ (63 ∷ (decimal s.events ++ (47 ∷ (counts_text report s.counts ++ rest))))
 sync_parts report s rest = simp (append_assoc, cons_on)
 
-sync_begins_so : (script : Script) (report : Report) (s : SyncPiece) (rest : List ℕ) → AreNamed script report → IsSync script s → sync_begins (32 ∷ (sync_text report s ++ rest)) ≡ true
+pub sync_begins_so : (script : Script) (report : Report) (s : SyncPiece) (rest : List ℕ) → AreNamed script report → IsSync script s → sync_begins (32 ∷ (sync_text report s ++ rest)) ≡ true
 sync_begins_so script report s rest named is =
     ap (λ w. sync_begins (32 ∷ w)) (sync_parts report s rest)
     ∙ ap (λ b. eqb b 63) (colour_behind script report s.colour 63 (decimal s.events ++ (47 ∷ (counts_text report s.counts ++ rest))) named is.colour refl)

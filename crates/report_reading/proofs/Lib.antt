@@ -10,3 +10,4 @@ mod RowLemmas
 mod ColumnLemmas
 mod AnswerLemmas
 mod AnswerAgain
+mod AnswerWhole
