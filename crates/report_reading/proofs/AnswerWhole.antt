@@ -78,7 +78,7 @@ keys_stop known report (r ∷ raises) syncs rest named are =
     rw (append_assoc (raise_text report r ++ text) last (10 ∷ rest), append_assoc (raise_text report r) text (last ++ (10 ∷ rest)))
     (no_key (32 ∷ (raise_text report r ++ (text ++ (last ++ (10 ∷ rest))))) (raise_point known.script report r.colour r.at (text ++ (last ++ (10 ∷ rest))) named are.raises.0.colour))
 
-got_keys_so : (known : Known) (report : Report) (stamp : ℕ) (keys : List KeyAnswer) (raises : List RaisePiece) (syncs : List SyncPiece) (rest : List ℕ) → AreNamed known.script report → IsWord stamp → AllByRecursion IsKeyAnswer keys → AreRead known.script (raises, syncs)
+pub got_keys_so : (known : Known) (report : Report) (stamp : ℕ) (keys : List KeyAnswer) (raises : List RaisePiece) (syncs : List SyncPiece) (rest : List ℕ) → AreNamed known.script report → IsWord stamp → AllByRecursion IsKeyAnswer keys → AreRead known.script (raises, syncs)
     → got_keys_at known (decimal stamp ++ (spaced key_answer_text keys ++ (read_text report raises syncs ++ (10 ∷ rest)))) ≡ Some (GotKeys stamp keys raises syncs, 10 ∷ rest)
 unfolding got_keys_at
 got_keys_so known report stamp keys raises syncs rest named p all are =
@@ -126,25 +126,25 @@ decided_so known report commits stamp sync read_stamp raises syncs ended rest na
 -- ---- rulings
 
 -- what stands behind the stamp of a ruling
-abbrev ruled_text : Report → Option ℕ → List PointPiece → ℕ → List RaisePiece → List SyncPiece → List ℕ → List ℕ
+abbrev pub ruled_text : Report → Option ℕ → List PointPiece → ℕ → List RaisePiece → List SyncPiece → List ℕ → List ℕ
 ruled_text report row points read_stamp raises syncs rest =
     row_text row ++ (spaced (point_text report) points ++ (codes " at " ++ (decimal read_stamp ++ (read_text report raises syncs ++ rest))))
 
-ruled_so : (known : Known) (report : Report) (conflict : Option (List ℕ)) (stamp : ℕ) (row : Option ℕ) (points : List PointPiece) (read_stamp : ℕ) (raises : List RaisePiece) (syncs : List SyncPiece) (rest : List ℕ)
+pub ruled_so : (known : Known) (report : Report) (conflict : Option (List ℕ)) (stamp : ℕ) (row : Option ℕ) (points : List PointPiece) (read_stamp : ℕ) (raises : List RaisePiece) (syncs : List SyncPiece) (rest : List ℕ)
     → AreNamed known.script report → IsRuling known.script stamp row points read_stamp (raises, syncs)
     → ruled_at known conflict (decimal stamp ++ ruled_text report row points read_stamp raises syncs (10 ∷ rest)) ≡ Some (Ruled conflict stamp row points read_stamp raises syncs, 10 ∷ rest)
 unfolding ruled_at
 ruled_so known report conflict stamp row points read_stamp raises syncs rest named is =
     rw (ruling_again known report stamp row points read_stamp raises syncs rest named is) refl
 
-conflict_so : (known : Known) (report : Report) (key : List ℕ) (stamp : ℕ) (row : Option ℕ) (points : List PointPiece) (read_stamp : ℕ) (raises : List RaisePiece) (syncs : List SyncPiece) (rest : List ℕ)
+pub conflict_so : (known : Known) (report : Report) (key : List ℕ) (stamp : ℕ) (row : Option ℕ) (points : List PointPiece) (read_stamp : ℕ) (raises : List RaisePiece) (syncs : List SyncPiece) (rest : List ℕ)
     → AreNamed known.script report → IsKeyText key → IsRuling known.script stamp row points read_stamp (raises, syncs)
     → conflict_at known (key ++ (32 ∷ (decimal stamp ++ ruled_text report row points read_stamp raises syncs (10 ∷ rest)))) ≡ Some (Ruled (Some key) stamp row points read_stamp raises syncs, 10 ∷ rest)
 unfolding conflict_at
 conflict_so known report key stamp row points read_stamp raises syncs rest named k is =
     rw (key_text_again key (32 ∷ (decimal stamp ++ ruled_text report row points read_stamp raises syncs (10 ∷ rest))) k refl) (ruled_so known report (Some key) stamp row points read_stamp raises syncs rest named is)
 
-changed_so : (known : Known) (report : Report) (failed : Option TreeWhy) (stamp : ℕ) (row : Option ℕ) (points : List PointPiece) (read_stamp : ℕ) (raises : List RaisePiece) (syncs : List SyncPiece) (rest : List ℕ)
+pub changed_so : (known : Known) (report : Report) (failed : Option TreeWhy) (stamp : ℕ) (row : Option ℕ) (points : List PointPiece) (read_stamp : ℕ) (raises : List RaisePiece) (syncs : List SyncPiece) (rest : List ℕ)
     → AreNamed known.script report → IsRuling known.script stamp row points read_stamp (raises, syncs)
     → changed_at known failed (decimal stamp ++ ruled_text report row points read_stamp raises syncs (10 ∷ rest)) ≡ Some (Changed failed stamp row points read_stamp raises syncs, 10 ∷ rest)
 unfolding changed_at
@@ -163,37 +163,37 @@ failed_head known whys.Deep rest = refl
 
 -- ---- the first word of an answer
 
-ok_head : (known : Known) (many : Bool) (word : Word) (rest : List ℕ) → answer_at known many word (codes "ok " ++ rest) ≡ ok_at known many word rest
+pub ok_head : (known : Known) (many : Bool) (word : Word) (rest : List ℕ) → answer_at known many word (codes "ok " ++ rest) ≡ ok_at known many word rest
 unfolding answer_at word_at
 ok_head known many word rest = refl
 
-none_head : (known : Known) (many : Bool) (word : Word) (rest : List ℕ) → answer_at known many word (codes "none " ++ rest) ≡ none_at known many word rest
+pub none_head : (known : Known) (many : Bool) (word : Word) (rest : List ℕ) → answer_at known many word (codes "none " ++ rest) ≡ none_at known many word rest
 unfolding answer_at word_at
 none_head known many word rest = refl
 
-committed_head : (known : Known) (many : Bool) (word : Word) (rest : List ℕ) → answer_at known many word (codes "committed " ++ rest) ≡ committed_at known word rest
+pub committed_head : (known : Known) (many : Bool) (word : Word) (rest : List ℕ) → answer_at known many word (codes "committed " ++ rest) ≡ committed_at known word rest
 unfolding answer_at word_at
 committed_head known many word rest = refl
 
-conflict_head : (known : Known) (many : Bool) (word : Word) (rest : List ℕ) → answer_at known many word (codes "conflict " ++ rest) ≡ conflicting_at known word rest
+pub conflict_head : (known : Known) (many : Bool) (word : Word) (rest : List ℕ) → answer_at known many word (codes "conflict " ++ rest) ≡ conflicting_at known word rest
 unfolding answer_at word_at
 conflict_head known many word rest = refl
 
-done_head : (known : Known) (many : Bool) (word : Word) (rest : List ℕ) → answer_at known many word (codes "done " ++ rest) ≡ changed_at known None rest
+pub done_head : (known : Known) (many : Bool) (word : Word) (rest : List ℕ) → answer_at known many word (codes "done " ++ rest) ≡ changed_at known None rest
 unfolding answer_at word_at
 done_head known many word rest = refl
 
-failed_first : (known : Known) (many : Bool) (word : Word) (rest : List ℕ) → answer_at known many word (codes "failed " ++ rest) ≡ failed_at known rest
+pub failed_first : (known : Known) (many : Bool) (word : Word) (rest : List ℕ) → answer_at known many word (codes "failed " ++ rest) ≡ failed_at known rest
 unfolding answer_at word_at
 failed_first known many word rest = refl
 
-missing_head : (known : Known) (many : Bool) (word : Word) (rest : List ℕ) → answer_at known many word (codes "missing " ++ rest) ≡ missing_at known rest
+pub missing_head : (known : Known) (many : Bool) (word : Word) (rest : List ℕ) → answer_at known many word (codes "missing " ++ rest) ≡ missing_at known rest
 unfolding answer_at word_at
 missing_head known many word rest = refl
 
 -- ---- the command's word
 
-ok_stood : (known : Known) (many : Bool) (word : Word) (rest : List ℕ) → is_of appending word ≡ true → ok_at known many word rest ≡ stood_at known rest
+pub ok_stood : (known : Known) (many : Bool) (word : Word) (rest : List ℕ) → is_of appending word ≡ true → ok_at known many word rest ≡ stood_at known rest
 unfolding ok_at
 ok_stood known many words.Sync rest e = absurd cc
 ok_stood known many words.Scan rest e = absurd cc
@@ -208,27 +208,27 @@ ok_stood known many words.Deq rest e = absurd cc
 ok_stood known many words.Ls rest e = absurd cc
 ok_stood known many _ rest e = refl
 
-ok_sync : (known : Known) (many : Bool) (word : Word) (rest : List ℕ) → is_word (codes "sync") word ≡ true → ok_at known many word rest ≡ Some (synced_at known rest)
+pub ok_sync : (known : Known) (many : Bool) (word : Word) (rest : List ℕ) → is_word (codes "sync") word ≡ true → ok_at known many word rest ≡ Some (synced_at known rest)
 unfolding ok_at
 ok_sync known many words.Sync rest e = refl
 ok_sync known many _ rest e = absurd cc
 
-ok_scan : (known : Known) (many : Bool) (word : Word) (rest : List ℕ) → is_word (codes "scan") word ≡ true → ok_at known many word rest ≡ scanned_at known rest
+pub ok_scan : (known : Known) (many : Bool) (word : Word) (rest : List ℕ) → is_word (codes "scan") word ≡ true → ok_at known many word rest ≡ scanned_at known rest
 unfolding ok_at
 ok_scan known many words.Scan rest e = refl
 ok_scan known many _ rest e = absurd cc
 
-ok_pull : (known : Known) (many : Bool) (word : Word) (rest : List ℕ) → is_word (codes "pull") word ≡ true → ok_at known many word rest ≡ Some (pulled_at rest)
+pub ok_pull : (known : Known) (many : Bool) (word : Word) (rest : List ℕ) → is_word (codes "pull") word ≡ true → ok_at known many word rest ≡ Some (pulled_at rest)
 unfolding ok_at
 ok_pull known many words.Pull rest e = refl
 ok_pull known many _ rest e = absurd cc
 
-ok_trim : (known : Known) (many : Bool) (word : Word) (rest : List ℕ) → is_word (codes "trim") word ≡ true → ok_at known many word rest ≡ Some (based_at known rest)
+pub ok_trim : (known : Known) (many : Bool) (word : Word) (rest : List ℕ) → is_word (codes "trim") word ≡ true → ok_at known many word rest ≡ Some (based_at known rest)
 unfolding ok_at
 ok_trim known many words.Trim rest e = refl
 ok_trim known many _ rest e = absurd cc
 
-ok_get : (known : Known) (many : Bool) (word : Word) (rest : List ℕ) → (is_word (codes "get") word && not many || is_of (codes "peek" ∷ codes "decide" ∷ []) word) ≡ true → ok_at known many word rest ≡ got_at known true rest
+pub ok_get : (known : Known) (many : Bool) (word : Word) (rest : List ℕ) → (is_word (codes "get") word && not many || is_of (codes "peek" ∷ codes "decide" ∷ []) word) ≡ true → ok_at known many word rest ≡ got_at known true rest
 unfolding ok_at
 ok_get known false words.Get rest e = refl
 ok_get known true words.Get rest e = absurd cc
@@ -236,7 +236,7 @@ ok_get known many words.Peek rest e = refl
 ok_get known many words.Decide rest e = refl
 ok_get known many _ rest e = absurd cc
 
-none_get : (known : Known) (many : Bool) (word : Word) (rest : List ℕ) → (is_word (codes "get") word && not many || is_of (codes "peek" ∷ codes "decide" ∷ []) word) ≡ true → none_at known many word rest ≡ got_at known false rest
+pub none_get : (known : Known) (many : Bool) (word : Word) (rest : List ℕ) → (is_word (codes "get") word && not many || is_of (codes "peek" ∷ codes "decide" ∷ []) word) ≡ true → none_at known many word rest ≡ got_at known false rest
 unfolding none_at
 none_get known false words.Get rest e = refl
 none_get known true words.Get rest e = absurd cc
@@ -244,40 +244,40 @@ none_get known many words.Peek rest e = refl
 none_get known many words.Decide rest e = refl
 none_get known many _ rest e = absurd cc
 
-ok_many : (known : Known) (many : Bool) (word : Word) (rest : List ℕ) → (is_word (codes "get") word && many) ≡ true → ok_at known many word rest ≡ got_many_at known true rest
+pub ok_many : (known : Known) (many : Bool) (word : Word) (rest : List ℕ) → (is_word (codes "get") word && many) ≡ true → ok_at known many word rest ≡ got_many_at known true rest
 unfolding ok_at
 ok_many known true words.Get rest e = refl
 ok_many known false words.Get rest e = absurd cc
 ok_many known many _ rest e = absurd cc
 
-none_many : (known : Known) (many : Bool) (word : Word) (rest : List ℕ) → (is_word (codes "get") word && many) ≡ true → none_at known many word rest ≡ got_many_at known false rest
+pub none_many : (known : Known) (many : Bool) (word : Word) (rest : List ℕ) → (is_word (codes "get") word && many) ≡ true → none_at known many word rest ≡ got_many_at known false rest
 unfolding none_at
 none_many known true words.Get rest e = refl
 none_many known false words.Get rest e = absurd cc
 none_many known many _ rest e = absurd cc
 
-ok_keys : (known : Known) (many : Bool) (word : Word) (rest : List ℕ) → is_of (codes "getall" ∷ codes "read" ∷ []) word ≡ true → ok_at known many word rest ≡ got_keys_at known rest
+pub ok_keys : (known : Known) (many : Bool) (word : Word) (rest : List ℕ) → is_of (codes "getall" ∷ codes "read" ∷ []) word ≡ true → ok_at known many word rest ≡ got_keys_at known rest
 unfolding ok_at
 ok_keys known many words.GetAll rest e = refl
 ok_keys known many words.Read rest e = refl
 ok_keys known many _ rest e = absurd cc
 
-ok_deq : (known : Known) (many : Bool) (word : Word) (rest : List ℕ) → is_word (codes "deq") word ≡ true → ok_at known many word rest ≡ took_at known true rest
+pub ok_deq : (known : Known) (many : Bool) (word : Word) (rest : List ℕ) → is_word (codes "deq") word ≡ true → ok_at known many word rest ≡ took_at known true rest
 unfolding ok_at
 ok_deq known many words.Deq rest e = refl
 ok_deq known many _ rest e = absurd cc
 
-none_deq : (known : Known) (many : Bool) (word : Word) (rest : List ℕ) → is_word (codes "deq") word ≡ true → none_at known many word rest ≡ took_at known false rest
+pub none_deq : (known : Known) (many : Bool) (word : Word) (rest : List ℕ) → is_word (codes "deq") word ≡ true → none_at known many word rest ≡ took_at known false rest
 unfolding none_at
 none_deq known many words.Deq rest e = refl
 none_deq known many _ rest e = absurd cc
 
-ok_ls : (known : Known) (many : Bool) (word : Word) (rest : List ℕ) → is_word (codes "ls") word ≡ true → ok_at known many word rest ≡ listed_at known rest
+pub ok_ls : (known : Known) (many : Bool) (word : Word) (rest : List ℕ) → is_word (codes "ls") word ≡ true → ok_at known many word rest ≡ listed_at known rest
 unfolding ok_at
 ok_ls known many words.Ls rest e = refl
 ok_ls known many _ rest e = absurd cc
 
-commit_ruled : (known : Known) (word : Word) (rest : List ℕ) → is_word (codes "commit") word ≡ true → (committed_at known word rest ≡ ruled_at known None rest) × (conflicting_at known word rest ≡ conflict_at known rest)
+pub commit_ruled : (known : Known) (word : Word) (rest : List ℕ) → is_word (codes "commit") word ≡ true → (committed_at known word rest ≡ ruled_at known None rest) × (conflicting_at known word rest ≡ conflict_at known rest)
 unfolding committed_at conflicting_at
 commit_ruled known words.Commit rest e = (refl, refl)
 commit_ruled known _ rest e = absurd cc

@@ -11,3 +11,4 @@ mod ColumnLemmas
 mod AnswerLemmas
 mod AnswerAgain
 mod AnswerWhole
+mod AnswerLaw
