@@ -12,3 +12,4 @@ mod AnswerLemmas
 mod AnswerAgain
 mod AnswerWhole
 mod AnswerLaw
+mod ReplyLemmas
