@@ -13,3 +13,4 @@ mod AnswerAgain
 mod AnswerWhole
 mod AnswerLaw
 mod ReplyLemmas
+mod NamedLemmas
