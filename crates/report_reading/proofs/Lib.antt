@@ -14,3 +14,4 @@ mod AnswerWhole
 mod AnswerLaw
 mod ReplyLemmas
 mod NamedLemmas
+mod ReportLemmas
