@@ -15,3 +15,4 @@ mod AnswerLaw
 mod ReplyLemmas
 mod NamedLemmas
 mod ReportLemmas
+mod FitLaws
