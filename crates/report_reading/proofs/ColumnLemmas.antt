@@ -1,8 +1,9 @@
 -- The lines of columns: what is printed is read again.
-use Rattle.std.proofs.Common.{◌≡◌, ℕ, zero, suc, ◌+◌, ◌*◌, ◌/◌, ◌%◌, ◌^◌, ◌<◌, ◌≤◌, Bool, true, false, not, cond, eqb, ltb, List, [], ◌∷◌, ◌++◌, length, drop, Option, Some, None, refl, sym, ap, ◌∙◌, append_assoc, length-append, arith}
+use Rattle.std.proofs.Common.{◌≡◌, ℕ, zero, suc, ◌+◌, ◌*◌, ◌/◌, ◌%◌, ◌^◌, ◌-◌, ◌<◌, ◌≤◌, Bool, true, false, not, cond, eqb, ltb, List, [], ◌∷◌, ◌++◌, length, drop, Option, Some, None, refl, sym, ap, ◌∙◌, append_assoc, length-append, arith}
 use Rattle.std.specs.Prelude.{decimal, codes}
 use Rattle.std.specs.List.{AllByRecursion, flat_map, enumerate_from}
-use Rattle.std.proofs.Math.Bool.{or-true}
+use Rattle.std.proofs.Math.Bool.{or-true, and-false}
+use Rattle.std.proofs.lemmas.Bool.{lt-ltb}
 use Rattle.std.proofs.lemmas.List.{drop_at}
 use Rattle.log_node.specs.declared.ids.Id.{Id}
 use Rattle.log_node.specs.declared.ids.Key.{Key}
@@ -26,7 +27,7 @@ use Rattle.report_reading.specs.Known.{Known}
 use Rattle.report_reading.specs.Lists.{◌>>=◌, list_at, each_at}
 use Rattle.report_reading.specs.Meant.{IsWord, IsKey, IsHead, Enters, IsEvent, IsEntry, IsColumn, AreCounts, AllFrom}
 use Rattle.report_reading.specs.Pieces.{first_of, number_at, named_at, id_at, key_at, counts_at}
-use Rattle.report_reading.specs.ColumnReadings.{head_at, heads_at, entering_at, unstamped, entered, settle_at, give_at, carry_at, event_at, entry_at, journal_at, listed_begins, behind_comma, behind_dash, queue_key_at, line_at, queue_at, closing_at, column_begins, behind_names, column_at}
+use Rattle.report_reading.specs.ColumnReadings.{head_at, heads_at, entering_at, unstamped, entered, settle_at, give_at, carry_at, event_at, entry_begins, entry_at, journal_at, listed_begins, behind_comma, behind_dash, queue_key_at, line_at, queue_at, closing_at, column_begins, behind_names, column_at}
 use Rattle.report_reading.specs.RowReadings.{outcome_at}
 use Rattle.report_reading.proofs.WordLemmas.{cons_on, nil_on, line_some, ends, number_again, decimal_front, decimal_some, word_front, letter_unlike}
 use Rattle.report_reading.proofs.PieceLemmas.{AreSaid, AreNamed, said_again, id_again, key_again, counts_again}
@@ -104,13 +105,13 @@ entry_again known report place entry rest named small is =
 
 -- an entry in its place
 abbrev InPlace : Script → ℕ → Entry → Type 0
-InPlace script place entry = IsWord place × IsEntry script entry
+InPlace script place entry = (suc place < 2 ^ 64) × IsEntry script entry
 
-journals_again : (known : Known) (report : Report) → AreNamed known.script report → IsReadAgain (λ _ b. is_digit (first_of b)) (λ _ b. entry_at known b) (λ n (e : Entry). journal_line report (n, e)) (InPlace known.script) (λ b. Unit {0})
+journals_again : (known : Known) (report : Report) → AreNamed known.script report → IsReadAgain entry_begins (λ _ b. entry_at known b) (λ n (e : Entry). journal_line report (n, e)) (InPlace known.script) (λ b. Unit {0})
 journals_again known report named = record {
   some = λ n entry is. line_some _;
-  begin = λ n entry rest is e. ap (λ w. is_digit (first_of w)) (entry_parts report n entry rest) ∙ decimal_front n _ is.0;
-  again = λ n entry rest is e. entry_again known report n entry rest named is.0 is.1;
+  begin = λ n entry rest is e. rw (lt-ltb n (2 ^ 64 - 1) (let lt = is.0 in omega (arith, lt)), ap (λ w. is_digit (first_of w)) (entry_parts report n entry rest) ∙ decimal_front n _ (let lt = is.0 in omega (arith, lt))) refl;
+  again = λ n entry rest is e. entry_again known report n entry rest named (let lt = is.0 in omega (arith, lt)) is.1;
   end = λ n entry rest is e. tt;
 }
 
@@ -123,7 +124,7 @@ journal_again : (known : Known) (report : Report) (journal : List Entry) (rest :
     → journal_at known (flat_map (journal_line report) (enumerate_from 0 journal) ++ rest) ≡ Some (journal, rest)
 journal_again known report journal rest named few all stop =
     rw (texts_placed (journal_line report) 0 journal)
-    (each_again _ _ _ _ _ (journals_again known report named) journal rest (placed known.script 0 journal (omega (arith, few)) all) tt stop)
+    (each_again _ _ _ _ _ (journals_again known report named) journal rest (placed known.script 0 journal (omega (arith, few)) all) tt (rw (stop) (and-false (ltb (length journal) (2 ^ 64 - 1)))))
 
 -- ---- lists with commas
 

@@ -1,9 +1,9 @@
 -- What is read fits: lists, rows, columns and answers.
-use Rattle.std.proofs.Common.{◌≡◌, ℕ, zero, suc, ◌+◌, ◌*◌, ◌^◌, ◌<◌, ◌≤◌, Bool, true, false, not, cond, eqb, ltb, List, [], ◌∷◌, length, take, drop, Option, Some, None, refl, sym, ap, ◌∙◌, arith, inl, inr}
+use Rattle.std.proofs.Common.{◌≡◌, ℕ, zero, suc, ◌+◌, ◌*◌, ◌-◌, ◌/◌, ◌%◌, ◌^◌, ◌<◌, ◌≤◌, Bool, true, false, not, cond, eqb, ltb, List, [], ◌∷◌, length, take, drop, Option, Some, None, refl, sym, ap, ◌∙◌, arith, inl, inr}
 use Rattle.std.specs.Prelude.{codes, IfSome}
 use Rattle.std.specs.List.{AllByRecursion, flat_map}
 use Rattle.std.specs.Str.{bytes_eq}
-use Rattle.std.proofs.lemmas.Bool.{cases_Bool}
+use Rattle.std.proofs.lemmas.Bool.{cases_Bool, and_parts, ltb-true}
 use Rattle.log_node.specs.declared.ids.Key.{Key}
 use Rattle.log_node.specs.declared.node.Head.{Head}
 use Rattle.log_node.specs.declared.marks.Mark.{Mark}
@@ -26,7 +26,7 @@ use Rattle.report_reading.specs.Lists.{◌>>=◌, list_at, each_at}
 use Rattle.report_reading.specs.Meant.{IsWord, IsSmall, IsKeyText, IsColour, IsId, IsKey, AreCounts, IsAt, IsRaise, IsPoint, IsSync, IsMark, IsColourMark, IsOutcome, IsRow, IsHead, Enters, IsEvent, IsEntry, IsColumn, AllFrom}
 use Rattle.report_reading.specs.Pieces.{first_of, word_at, number_at, small_at, named_at, id_at, key_at, counts_at}
 use Rattle.report_reading.specs.RowReadings.{why_at, mark_at, mark_begins, colour_mark_at, outcome_at, row_number_at, marks_at, row_at}
-use Rattle.report_reading.specs.ColumnReadings.{head_at, heads_at, entering_at, unstamped, entered, settle_at, give_at, carry_at, event_at, entry_at, journal_at, listed_begins, behind_comma, behind_dash, queue_key_at, line_at, queue_at, closing_at, column_begins, behind_names, column_at}
+use Rattle.report_reading.specs.ColumnReadings.{head_at, heads_at, entering_at, unstamped, entered, settle_at, give_at, carry_at, event_at, entry_begins, entry_at, journal_at, listed_begins, behind_comma, behind_dash, queue_key_at, line_at, queue_at, closing_at, column_begins, behind_names, column_at}
 use Rattle.report_reading.proofs.FitLemmas.{number_fits, small_fits, named_fits, id_fits, key_fits, counts_fit}
 use Rattle.report_reading.proofs.ListAgain.{Fits, fits_then, each_fits, of_places}
 
@@ -177,3 +177,48 @@ closing_fits known bytes apart =
         cut = counts_fit known.script (drop 5 queue.1) apart;
         base = counts_fit known.script (drop 6 (counts_at known.script (drop 5 queue.1)).1) apart;
       }))
+
+-- places that are below a number are no more than that
+few_places : {X : Type 0} (P : ℕ → X → Type 0) (most k : ℕ) (xs : List X) → k ≤ most → AllFrom (λ n x. (n < most) × P n x) k xs → k + length xs ≤ most
+few_places P most k [] le all = omega (arith, le)
+few_places P most k (x ∷ xs) le all =
+    let lt = all.0.0 in
+    let later = few_places P most (suc k) xs (omega (arith, lt)) all.1 in
+    omega (arith, later)
+
+-- what holds of each item but for its place
+without_places : {X : Type 0} (P : X → Type 0) (most k : ℕ) (xs : List X) → AllFrom (λ n x. (n < most) × P x) k xs → AllByRecursion P xs
+without_places P most k [] all = tt
+without_places P most k (x ∷ xs) all = (all.0.1, without_places P most (suc k) xs all.1)
+
+-- a journal whose places 64 bits count
+abbrev pub IsJournal : Script → List Entry → Type 0
+IsJournal script journal = IsWord (length journal) × AllByRecursion (IsEntry script) journal
+
+journal_fits : (known : Known) (bytes : List ℕ) → AreApart known.script → Fits (IsJournal known.script) (journal_at known bytes)
+journal_fits known bytes apart =
+    fits_map (λ xs. AllFrom (λ n x. (n < 2 ^ 64 - 1) × IsEntry known.script x) 0 xs × (length xs ≤ length bytes)) (IsJournal known.script) (journal_at known bytes)
+    (λ xs p. (let few = few_places (λ n x. IsEntry known.script x) (2 ^ 64 - 1) 0 xs (omega arith) p.0 in omega (arith, few), without_places (IsEntry known.script) (2 ^ 64 - 1) 0 xs p.0))
+    (each_fits entry_begins (λ _ b. entry_at known b) (λ n x. (n < 2 ^ 64 - 1) × IsEntry known.script x)
+      (λ n b here. fits_map (IsEntry known.script) (λ x. (n < 2 ^ 64 - 1) × IsEntry known.script x) (entry_at known b) (λ x is. (ltb-true n (2 ^ 64 - 1) (and_parts (ltb n (2 ^ 64 - 1)) (is_digit (first_of b)) here).0, is)) (entry_fits known b apart)) bytes)
+
+pub column_fits : (known : Known) (place : ℕ) (bytes : List ℕ) → AreApart known.script → Fits (IsColumn known.script place) (column_at known place bytes)
+unfolding column_at
+column_fits known place bytes apart =
+    let region_name = name_of known.script.regions (place / length known.script.colours) in
+    let colour_name = name_of known.script.colours (place % length known.script.colours) in
+    fits_then (IsJournal known.script) (IsColumn known.script place) (journal_at known (behind_names region_name colour_name bytes)) _
+    (journal_fits known (behind_names region_name colour_name bytes) apart)
+    (λ journal all. fits_then (Closes known.script) (IsColumn known.script place) (closing_at known journal.1) _ (closing_fits known journal.1 apart) (λ closing ends. record {
+      region = refl;
+      colour = refl;
+      region_name = refl;
+      colour_name = refl;
+      places = all.0;
+      journal = all.1;
+      clock = ends.clock;
+      line = ends.line;
+      queue = ends.queue;
+      cut = ends.cut;
+      base = ends.base;
+    }))

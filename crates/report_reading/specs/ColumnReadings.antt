@@ -1,5 +1,5 @@
 -- The lines of a column as they are read.
-use Rattle.std.specs.Prelude.{Bool, true, false, ℕ, ◌*◌, ◌/◌, ◌%◌, ◌==◌, ◌||◌, not, nat_lt, List, length, drop, Option, Some, None, if◌then◌else◌}
+use Rattle.std.specs.Prelude.{Bool, true, false, ℕ, ◌*◌, ◌/◌, ◌%◌, ◌-◌, ◌^◌, ◌==◌, ◌&&◌, ◌||◌, not, nat_lt, List, length, drop, Option, Some, None, if◌then◌else◌}
 use Rattle.log_node.specs.declared.ids.Id.{Id}
 use Rattle.log_node.specs.declared.ids.Key.{Key}
 use Rattle.log_node.specs.declared.ids.Counts.{Counts}
@@ -95,9 +95,13 @@ entry_at known bytes =
     event_at known by.0 (drop 1 by.1) >>= λ entry.
     Some (entry.0, drop 1 entry.1)
 
+-- a line of a journal begins; there are no more of them than 64 bits count
+abbrev pub entry_begins : ℕ → List ℕ → Bool
+entry_begins place bytes = nat_lt place (2 ^ 64 - 1) && is_digit (first_of bytes)
+
 -- a journal
 abbrev pub journal_at : Known → List ℕ → Option (List Entry × List ℕ)
-journal_at known bytes = each_at (λ _ b. is_digit (first_of b)) (λ _ b. entry_at known b) bytes
+journal_at known bytes = each_at entry_begins (λ _ b. entry_at known b) bytes
 
 -- one more of a list begins: at a comma, or with a letter or a digit where it is the first
 abbrev pub listed_begins : List ℕ → Bool

@@ -1,10 +1,9 @@
 // The lines of columns.
 ghost use Rattle.std.specs.Prelude.{◌≡◌, Some, drop, ◌==◌, ◌*◌, ◌/◌, ◌%◌, true, nat_lt, length};
-ghost use Rattle.script_text.specs.Pieces.{is_digit, name_of};
 ghost use Rattle.report_reading.specs.Apart.{AreApart};
 ghost use Rattle.report_reading.specs.Pieces.{first_of, key_at};
 ghost use Rattle.report_reading.specs.Lists.{Gives};
-ghost use Rattle.report_reading.specs.ColumnReadings.{head_at, entering_at, entered, settle_at, give_at, carry_at, event_at, entry_at, journal_at, listed_begins, behind_comma, behind_dash, queue_key_at, line_at, queue_at, closing_at, column_begins, behind_names, column_at};
+ghost use Rattle.report_reading.specs.ColumnReadings.{head_at, entering_at, entered, settle_at, give_at, carry_at, event_at, entry_begins, entry_at, listed_begins, behind_comma, behind_dash, queue_key_at, line_at, queue_at, closing_at, column_begins, behind_names, column_at};
 
 use crate::fault::ReadFault;
 use crate::lists::{Readable, list};
@@ -189,11 +188,11 @@ fn event<'b>(
 }
 
 impl Readable for Entry {
-    ghost begins_at = { λ _ _ bytes. is_digit (first_of bytes) };
+    ghost begins_at = { λ _ place bytes. entry_begins place bytes };
     ghost value_at = { λ known _ bytes. entry_at known bytes };
 
-    fn begins(_setting: &Setting<'_>, _place: usize, bytes: &[u8]) -> bool {
-        first(bytes).is_ascii_digit()
+    fn begins(_setting: &Setting<'_>, place: usize, bytes: &[u8]) -> bool {
+        place < usize::MAX && first(bytes).is_ascii_digit()
     }
 
     #[tactic(auto, unfolding(crate::specs::ColumnReadings::entry_at))]
