@@ -16,3 +16,4 @@ mod ReplyLemmas
 mod NamedLemmas
 mod ReportLemmas
 mod FitLaws
+mod FitAnswers

@@ -1,7 +1,7 @@
 use Rattle.std.proofs.Common.{◌≡◌, ℕ, List, ap}
 use Rattle.report_reading.proofs.WordLemmas.{word_letters}
 use Rattle.report_reading.proofs.FitLemmas.{sync_fits}
-use Rattle.report_reading.proofs.FitLaws.{column_fits}
+use Rattle.report_reading.proofs.FitAnswers.{answer_fits}
 use Rattle.report_reading.proofs.ReportLemmas.{only_report}
 use Rattle.report_reading.proofs.reads.key_text.Goals as goal
 
