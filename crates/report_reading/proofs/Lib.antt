@@ -17,3 +17,4 @@ mod NamedLemmas
 mod ReportLemmas
 mod FitLaws
 mod FitAnswers
+mod ReportLaws

@@ -3,7 +3,7 @@ use Rattle.std.proofs.Common.{◌≡◌, ℕ, zero, suc, ◌+◌, ◌*◌, ◌^�
 use Rattle.std.specs.Prelude.{decimal, codes}
 use Rattle.std.specs.List.{AllByRecursion, flat_map}
 use Rattle.std.specs.Str.{bytes_eq}
-use Rattle.std.proofs.lemmas.Bool.{lt-ltb, le-ltb}
+use Rattle.std.proofs.lemmas.Bool.{lt-ltb, le-ltb, eq-eqb}
 use Rattle.std.proofs.lemmas.Slice.Eq.{bytes_eq-Decides}
 use Rattle.script_text.specs.declared.script.Script.{Script}
 use Rattle.report_text.specs.declared.report.ClientReport.{ClientReport}
@@ -100,7 +100,12 @@ candidate_again script report apart is =
 -- what is printed of a report of the script is read as that report
 pub report_again : (script : Script) (report : Report) → AreApart script → IsReportOf script report → report_at script (report_bytes report) ≡ Some report
 unfolding report_at
-report_again script report apart is = rw (candidate_again script report apart is, (bytes_eq-Decides (report_bytes report) (report_bytes report)).1 refl) refl
+report_again script report apart is = rw (
+  candidate_again script report apart is,
+  eq-eqb (length report.clients) (length script.clients) is.all_clients,
+  eq-eqb (length report.columns) (length script.regions * length script.colours) is.all_columns,
+  (bytes_eq-Decides (report_bytes report) (report_bytes report)).1 refl,
+) refl
 
 -- a value that was read
 abbrev told : Report → Option Report

@@ -9,3 +9,4 @@ pub mod ColumnReadings
 pub mod AnswerReadings
 pub mod ReplyReadings
 pub mod ReportReadings
+pub mod Faults

@@ -1,5 +1,5 @@
 -- A whole report as it is read.
-use Rattle.std.specs.Prelude.{ℕ, List, [], drop, Option, Some, None, if◌then◌else◌}
+use Rattle.std.specs.Prelude.{Bool, ◌==◌, ◌&&◌, ◌*◌, ℕ, List, [], length, drop, Option, Some, None, if◌then◌else◌}
 use Rattle.std.specs.Str.{bytes_eq}
 use Rattle.script_text.specs.declared.script.Script.{Script}
 use Rattle.report_text.specs.declared.report.Report.{Report}
@@ -24,7 +24,14 @@ candidate_at known bytes =
     each_at (λ n _. column_begins known n) (column_at known) rows.1 >>= λ columns.
     Some (record { version = known.script.version; clients = clients.0; rows = rows.0; columns = columns.0 })
 
+-- all clients and all columns of the script are there
+abbrev pub has_all : Script → Report → Bool
+has_all script report =
+    (length report.clients == length script.clients)
+    && (length report.columns == length script.regions * length script.colours)
+
 -- the report that the bytes are
 unfoldable pub report_at : Script → List ℕ → Option Report
 report_at script bytes =
-    candidate_at (known_in script) bytes >>= λ report. if bytes_eq (report_bytes report) bytes then Some report else None
+    candidate_at (known_in script) bytes >>= λ report.
+    if has_all script report && bytes_eq (report_bytes report) bytes then Some report else None

@@ -316,9 +316,9 @@ fn closing_of<'b>(
     Ok((closing, behind(rest, 1)))
 }
 
-// How many columns a script has.
+/// How many columns a script has.
 #[tactic(auto, using(crate::proofs::CountLemmas::few_columns))]
-fn column_count(script: &Script) -> usize
+pub fn column_count(script: &Script) -> usize
     requires { AreApart script.now }
     ensures { result ≡ length script.now.regions * length script.now.colours }
 {

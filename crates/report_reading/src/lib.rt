@@ -4,6 +4,7 @@
 mod answers;
 mod columns;
 mod fault;
+mod laws;
 mod lists;
 mod pieces;
 mod reads;
@@ -13,3 +14,5 @@ mod rows;
 mod setting;
 
 pub use fault::ReportFault;
+pub use laws::one_report;
+pub use report::read_report;

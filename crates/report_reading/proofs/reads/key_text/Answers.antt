@@ -1,8 +1,5 @@
-use Rattle.std.proofs.Common.{◌≡◌, ℕ, List, ap}
+use Rattle.std.proofs.Common.{ℕ, List, ap}
 use Rattle.report_reading.proofs.WordLemmas.{word_letters}
-use Rattle.report_reading.proofs.FitLemmas.{sync_fits}
-use Rattle.report_reading.proofs.FitAnswers.{answer_fits}
-use Rattle.report_reading.proofs.ReportLemmas.{only_report}
 use Rattle.report_reading.proofs.reads.key_text.Goals as goal
 
 pub is_key-requires : goal.is_key-requires
