@@ -23,7 +23,7 @@ use Rattle.report_reading.specs.RowReadings.{row_begins, row_at}
 use Rattle.report_reading.specs.ColumnReadings.{column_begins, column_at}
 use Rattle.report_reading.specs.AnswerReadings.{answer_at}
 use Rattle.report_reading.specs.ReplyReadings.{line_len, text_at, shown_at, nodes_at, word_named, fitting_answer_at, reply_at, replies_at, client_begins, client_at}
-use Rattle.report_reading.specs.ReportReadings.{known_in, candidate_at, has_all, report_at}
+use Rattle.report_reading.specs.ReportReadings.{known_in, behind_clients_at, candidate_at, has_all, report_at}
 use Rattle.report_reading.proofs.FitLemmas.{number_fits, small_fits, id_fits}
 use Rattle.report_reading.proofs.ListAgain.{Fits, fits_then, each_fits}
 use Rattle.report_reading.proofs.FitLaws.{fits_map, all_fits, row_fits, column_fits}
@@ -100,7 +100,7 @@ ends_then P Q None f p q = tt
 ends_then P Q (Some x) f p q = q x p
 
 candidate_fits : (known : Known) (bytes : List ℕ) → AreApart known.script → IfSome (candidate_at known bytes) (FitsAll known.script)
-unfolding candidate_at
+unfolding candidate_at behind_clients_at
 candidate_fits known bytes apart =
     let start = drop 1 (number_at (drop 7 bytes)).1 in
     ends_then (λ cs. AllFrom (IsClientReport known.script) 0 cs × (length cs ≤ length start)) (FitsAll known.script) (each_at (λ n _. client_begins known n) (client_at known) start) _

@@ -22,7 +22,7 @@ use Rattle.report_reading.specs.Meant.{IsRow, IsColumn, IsClientReport, IsReport
 use Rattle.report_reading.specs.RowReadings.{row_begins, row_at}
 use Rattle.report_reading.specs.ColumnReadings.{column_begins, column_at}
 use Rattle.report_reading.specs.ReplyReadings.{client_begins, client_at}
-use Rattle.report_reading.specs.ReportReadings.{known_in, candidate_at, report_at}
+use Rattle.report_reading.specs.ReportReadings.{known_in, behind_clients_at, candidate_at, report_at}
 use Rattle.report_reading.proofs.WordLemmas.{number_again}
 use Rattle.report_reading.proofs.Joins.{join3, join4}
 use Rattle.report_reading.proofs.PieceLemmas.{AreNamed}
@@ -76,7 +76,7 @@ report_parts report =
     ∙ join3 (codes "report ") (decimal report.version) line_end (clients ++ (rows ++ (columns ++ [])))
 
 pub candidate_again : (script : Script) (report : Report) → AreApart script → IsReportOf script report → candidate_at (known_in script) (report_bytes report) ≡ Some report
-unfolding candidate_at
+unfolding candidate_at behind_clients_at
 candidate_again script report apart is =
     let known = known_in script in
     let named = named_in script report apart is in

@@ -2,6 +2,7 @@
 use Rattle.std.specs.Prelude.{Bool, ◌==◌, ◌&&◌, ◌*◌, ℕ, List, [], length, drop, Option, Some, None, if◌then◌else◌}
 use Rattle.std.specs.Str.{bytes_eq}
 use Rattle.script_text.specs.declared.script.Script.{Script}
+use Rattle.report_text.specs.declared.report.ClientReport.{ClientReport}
 use Rattle.report_text.specs.declared.report.Report.{Report}
 use Rattle.report_text.specs.ReportText.{report_bytes}
 use Rattle.report_reading.specs.Known.{Known}
@@ -15,14 +16,19 @@ use Rattle.report_reading.specs.ColumnReadings.{column_begins, column_at}
 abbrev pub known_in : Script → Known
 known_in script = record { script = script; many = [] }
 
+-- the report that has these clients, and rows and columns from the bytes
+unfoldable pub behind_clients_at : Known → List ClientReport → List ℕ → Option Report
+behind_clients_at known clients bytes =
+    each_at (λ _ b. row_begins b) (λ _ b. row_at known b) bytes >>= λ rows.
+    each_at (λ n _. column_begins known n) (column_at known) rows.1 >>= λ columns.
+    Some (record { version = known.script.version; clients = clients; rows = rows.0; columns = columns.0 })
+
 -- the report that the bytes are, if they are one
 unfoldable pub candidate_at : Known → List ℕ → Option Report
 candidate_at known bytes =
     let version = number_at (drop 7 bytes) in
     each_at (λ n _. client_begins known n) (client_at known) (drop 1 version.1) >>= λ clients.
-    each_at (λ _ b. row_begins b) (λ _ b. row_at known b) clients.1 >>= λ rows.
-    each_at (λ n _. column_begins known n) (column_at known) rows.1 >>= λ columns.
-    Some (record { version = known.script.version; clients = clients.0; rows = rows.0; columns = columns.0 })
+    behind_clients_at known clients.0 clients.1
 
 -- all clients and all columns of the script are there
 abbrev pub has_all : Script → Report → Bool

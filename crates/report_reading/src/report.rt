@@ -4,7 +4,7 @@ ghost use Rattle.std.specs.Str.{bytes_eq};
 ghost use Rattle.report_text.specs.ReportText.{report_bytes};
 ghost use Rattle.report_reading.specs.Apart.{AreApart};
 ghost use Rattle.report_reading.specs.Lists.{Gives};
-ghost use Rattle.report_reading.specs.ReportReadings.{candidate_at, has_all, report_at};
+ghost use Rattle.report_reading.specs.ReportReadings.{behind_clients_at, candidate_at, has_all, report_at};
 ghost use Rattle.report_reading.specs.Meant.{IsReportOf};
 ghost use Rattle.report_reading.specs.Faults.{IsBadForm, TellsLength};
 ghost use Rattle.report_text.specs.declared.report.Report.{Report};
@@ -15,9 +15,30 @@ use crate::lists::list;
 use crate::pieces::{behind, number};
 use crate::setting::Setting;
 use fuzzy_io::MemorySink;
-use report_text::{Report, print};
+use log_node::ListOf;
+use report_text::{ClientReport, Report, print};
 use script_text::Script;
 use std::alloc::Global;
+
+// The report that has these clients, and rows and columns from the bytes.
+#[tactic(auto, unfolding(crate::specs::ReportReadings::behind_clients_at))]
+fn behind_clients(
+    alloc: Global,
+    setting: &Setting<'_>,
+    clients: ListOf<ClientReport>,
+    bytes: &[u8],
+) -> Result<Report, ReadFault>
+    ensures { Gives (λ r. r) result (behind_clients_at setting.now clients bytes.now) }
+{
+    let (rows, rest) = list(alloc, setting, bytes)?;
+    let (columns, _) = list(alloc, setting, rest)?;
+    Ok(Report {
+        version: setting.script().version,
+        clients,
+        rows,
+        columns,
+    })
+}
 
 // The report that the bytes are, if they are one.
 #[tactic(auto, unfolding(crate::specs::ReportReadings::candidate_at))]
@@ -26,14 +47,7 @@ fn candidate(alloc: Global, setting: &Setting<'_>, bytes: &[u8]) -> Result<Repor
 {
     let (_, rest) = number(behind(bytes, 7));
     let (clients, rest) = list(alloc, setting, behind(rest, 1))?;
-    let (rows, rest) = list(alloc, setting, rest)?;
-    let (columns, _) = list(alloc, setting, rest)?;
-    Ok(Report {
-        version: setting.script().version,
-        clients,
-        rows,
-        columns,
-    })
+    behind_clients(alloc, setting, clients, rest)
 }
 
 // Whether the bytes are the text of the report, unless memory runs out.
