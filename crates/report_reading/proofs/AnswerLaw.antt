@@ -87,7 +87,7 @@ answer_again known report many word (Ruled None stamp row points read_stamp rais
 answer_again known report many word (Ruled (Some key) stamp row points read_stamp raises syncs) rest named has is =
     let text = ruled_text report row points read_stamp raises syncs (10 ∷ rest) in
     ap (answer_at known many word) (join6 (verdict_text (Some key) stamp) (row_text row) (spaced (point_text report) points) (codes " at ") (decimal read_stamp) (read_text report raises syncs) (10 ∷ rest)
-      ∙ join3 (codes "conflict ") key (32 ∷ decimal stamp) text)
+    ∙ join3 (codes "conflict ") key (32 ∷ decimal stamp) text)
     ∙ conflict_head known many word (key ++ (32 ∷ (decimal stamp ++ text))) ∙ (commit_ruled known word _ has).1 ∙ conflict_so known report key stamp row points read_stamp raises syncs rest named is.0 is.1
 answer_again known report many word (Changed None stamp row points read_stamp raises syncs) rest named has is =
     ap (answer_at known many word) (join6 (change_text None stamp) (row_text row) (spaced (point_text report) points) (codes " at ") (decimal read_stamp) (read_text report raises syncs) (10 ∷ rest))
@@ -95,11 +95,11 @@ answer_again known report many word (Changed None stamp row points read_stamp ra
 answer_again known report many word (Changed (Some why) stamp row points read_stamp raises syncs) rest named has is =
     let text = ruled_text report row points read_stamp raises syncs (10 ∷ rest) in
     ap (answer_at known many word) (join6 (change_text (Some why) stamp) (row_text row) (spaced (point_text report) points) (codes " at ") (decimal read_stamp) (read_text report raises syncs) (10 ∷ rest)
-      ∙ join3 (codes "failed ") (why_text why) (32 ∷ decimal stamp) text)
+    ∙ join3 (codes "failed ") (why_text why) (32 ∷ decimal stamp) text)
     ∙ failed_first known many word (why_text why ++ (32 ∷ (decimal stamp ++ text))) ∙ failed_head known why (decimal stamp ++ text) ∙ changed_so known report (Some why) stamp row points read_stamp raises syncs rest named is
 answer_again known report many word (Listed (Some names) stamp raises syncs) rest named has is =
     ap (answer_at known many word) (ap (λ t. (codes "ok " ++ decimal stamp ++ 32 ∷ t ++ read_text report raises syncs) ++ (10 ∷ rest)) (or_dash names)
-      ∙ join4 (codes "ok ") (decimal stamp) (32 ∷ listed (λ n. n) names) (read_text report raises syncs) (10 ∷ rest))
+    ∙ join4 (codes "ok ") (decimal stamp) (32 ∷ listed (λ n. n) names) (read_text report raises syncs) (10 ∷ rest))
     ∙ ok_head known many word _ ∙ ok_ls known many word _ has ∙ listed_so known report names stamp raises syncs rest named is.0 is.1 is.2
 answer_again known report many word (Listed None stamp raises syncs) rest named has is =
     ap (answer_at known many word) (join3 (codes "missing ") (decimal stamp) (read_text report raises syncs) (10 ∷ rest))
@@ -117,7 +117,7 @@ answer_again known report many word (Decided false stamp sync read_stamp raises 
     ∙ (decide_so known word _ has).1 ∙ decided_so known report false stamp sync read_stamp raises syncs ended rest named is.0 is.1 is.2 is.3 is.4
 answer_again known report many word (Moved lined waiting colour events) rest named has is =
     ap (answer_at known many word) (join4 (codes "moved ") (decimal lined) (32 ∷ decimal waiting) (32 ∷ look_text report colour events) (10 ∷ rest)
-      ∙ ap (λ w. codes "moved " ++ (decimal lined ++ (32 ∷ (decimal waiting ++ (32 ∷ w))))) (append_assoc (colour_name report colour) (63 ∷ decimal events) (10 ∷ rest)))
+    ∙ ap (λ w. codes "moved " ++ (decimal lined ++ (32 ∷ (decimal waiting ++ (32 ∷ w))))) (append_assoc (colour_name report colour) (63 ∷ decimal events) (10 ∷ rest)))
     ∙ ap Some (moved_so known report lined waiting colour events rest named is.0 is.1 is.2 is.3)
 answer_again known report many word NoTx rest named has is = refl
 answer_again known report many word (Took (Some value) point sync) rest named has is =

@@ -248,7 +248,10 @@ column_again known report place column rest named is =
     join6 (codes "column ") column.region_name (32 ∷ column.colour_name) line_end journal (closing_line report column) rest in
     ap (column_at known place) regrouped
     ∙ rw (
-      ← is.region, ← is.colour, ← is.region_name, ← is.colour_name,
+      ← is.region,
+      ← is.colour,
+      ← is.region_name,
+      ← is.colour_name,
       names_passed column.region_name column.colour_name (journal ++ last),
       journal_again known report column.journal last named is.places is.journal refl,
       closing_again known report column place rest named is,

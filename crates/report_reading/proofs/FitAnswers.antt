@@ -55,8 +55,8 @@ read_fits known bytes apart =
     fits_then (AllByRecursion (IsRaise known.script)) (FitsRead known.script) (raises_at known bytes) _
     (all_fits (λ _ b. raise_begins b) (λ _ b. Some (raise_at known.script (drop 1 b))) (IsRaise known.script) (λ n b. raise_fits known.script (drop 1 b) apart) bytes)
     (λ raises first. fits_then (AllByRecursion (IsSync known.script)) (FitsRead known.script) (syncs_at known raises.1) _
-      (all_fits (λ _ b. sync_begins b) (λ _ b. Some (sync_at known.script (drop 1 b))) (IsSync known.script) (λ n b. sync_fits known.script (drop 1 b) apart) raises.1)
-      (λ syncs second. record { raises = first; syncs = second }))
+    (all_fits (λ _ b. sync_begins b) (λ _ b. Some (sync_at known.script (drop 1 b))) (IsSync known.script) (λ n b. sync_fits known.script (drop 1 b) apart) raises.1)
+    (λ syncs second. record { raises = first; syncs = second }))
 
 row_fits : (bytes : List ℕ) → IfSome (row_number_told_at bytes).0 IsSmall
 unfolding row_number_told_at
@@ -73,7 +73,7 @@ ruling_fits known bytes apart =
     let row = row_number_told_at stamp.1 in
     fits_then (AllByRecursion (IsPoint known.script)) (FitsRuling known.script) (points_at known row.1) _ (points_fit known row.1 apart)
     (λ points all. fits_then (FitsRead known.script) (FitsRuling known.script) (read_at known (number_at (drop 4 points.1)).1) _ (read_fits known (number_at (drop 4 points.1)).1 apart)
-      (λ read are. record { stamp = number_fits bytes; row = row_fits stamp.1; points = all; read_stamp = number_fits (drop 4 points.1); read = are }))
+    (λ read are. record { stamp = number_fits bytes; row = row_fits stamp.1; points = all; read_stamp = number_fits (drop 4 points.1); read = are }))
 
 value_fits : (found : Bool) (bytes : List ℕ) → Fits (λ (v : Option (List ℕ)). IfSome v IsKeyText) (value_at found bytes)
 unfolding value_at

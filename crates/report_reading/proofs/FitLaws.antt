@@ -166,17 +166,17 @@ closing_fits known bytes apart =
     let clock = number_at (drop 8 bytes) in
     fits_then (AllByRecursion (IsKey known.script)) (Closes known.script) (line_at known (drop 6 clock.1)) _
     (fits_then (AllByRecursion (IsKey known.script)) (AllByRecursion (IsKey known.script)) (each_at (λ _ b. listed_begins b) (λ _ b. Some (key_at known.script (behind_comma b))) (drop 6 clock.1)) _
-      (all_fits (λ _ b. listed_begins b) (λ _ b. Some (key_at known.script (behind_comma b))) (IsKey known.script) (λ n b. key_fits known.script (behind_comma b) apart) (drop 6 clock.1)) (λ keys all. all))
+    (all_fits (λ _ b. listed_begins b) (λ _ b. Some (key_at known.script (behind_comma b))) (IsKey known.script) (λ n b. key_fits known.script (behind_comma b) apart) (drop 6 clock.1)) (λ keys all. all))
     (λ line first. fits_then (AllByRecursion (λ (q : QueueKey). IsKey known.script q.key)) (Closes known.script) (queue_at known (drop 7 line.1)) _
-      (fits_then (AllByRecursion (λ (q : QueueKey). IsKey known.script q.key)) (AllByRecursion (λ (q : QueueKey). IsKey known.script q.key)) (each_at (λ _ b. listed_begins b) (λ _ b. Some (queue_key_at known.script (behind_comma b))) (drop 7 line.1)) _
-        (all_fits (λ _ b. listed_begins b) (λ _ b. Some (queue_key_at known.script (behind_comma b))) (λ (q : QueueKey). IsKey known.script q.key) (λ n b. queue_key_fits known.script (behind_comma b) apart) (drop 7 line.1)) (λ keys all. all))
-      (λ queue second. record {
-        clock = number_fits (drop 8 bytes);
-        line = first;
-        queue = second;
-        cut = counts_fit known.script (drop 5 queue.1) apart;
-        base = counts_fit known.script (drop 6 (counts_at known.script (drop 5 queue.1)).1) apart;
-      }))
+    (fits_then (AllByRecursion (λ (q : QueueKey). IsKey known.script q.key)) (AllByRecursion (λ (q : QueueKey). IsKey known.script q.key)) (each_at (λ _ b. listed_begins b) (λ _ b. Some (queue_key_at known.script (behind_comma b))) (drop 7 line.1)) _
+    (all_fits (λ _ b. listed_begins b) (λ _ b. Some (queue_key_at known.script (behind_comma b))) (λ (q : QueueKey). IsKey known.script q.key) (λ n b. queue_key_fits known.script (behind_comma b) apart) (drop 7 line.1)) (λ keys all. all))
+    (λ queue second. record {
+      clock = number_fits (drop 8 bytes);
+      line = first;
+      queue = second;
+      cut = counts_fit known.script (drop 5 queue.1) apart;
+      base = counts_fit known.script (drop 6 (counts_at known.script (drop 5 queue.1)).1) apart;
+    }))
 
 -- places that are below a number are no more than that
 few_places : {X : Type 0} (P : ℕ → X → Type 0) (most k : ℕ) (xs : List X) → k ≤ most → AllFrom (λ n x. (n < most) × P n x) k xs → k + length xs ≤ most
@@ -200,7 +200,7 @@ journal_fits known bytes apart =
     fits_map (λ xs. AllFrom (λ n x. (n < 2 ^ 64 - 1) × IsEntry known.script x) 0 xs × (length xs ≤ length bytes)) (IsJournal known.script) (journal_at known bytes)
     (λ xs p. (let few = few_places (λ n x. IsEntry known.script x) (2 ^ 64 - 1) 0 xs (omega arith) p.0 in omega (arith, few), without_places (IsEntry known.script) (2 ^ 64 - 1) 0 xs p.0))
     (each_fits entry_begins (λ _ b. entry_at known b) (λ n x. (n < 2 ^ 64 - 1) × IsEntry known.script x)
-      (λ n b here. fits_map (IsEntry known.script) (λ x. (n < 2 ^ 64 - 1) × IsEntry known.script x) (entry_at known b) (λ x is. (ltb-true n (2 ^ 64 - 1) (and_parts (ltb n (2 ^ 64 - 1)) (is_digit (first_of b)) here).0, is)) (entry_fits known b apart)) bytes)
+    (λ n b here. fits_map (IsEntry known.script) (λ x. (n < 2 ^ 64 - 1) × IsEntry known.script x) (entry_at known b) (λ x is. (ltb-true n (2 ^ 64 - 1) (and_parts (ltb n (2 ^ 64 - 1)) (is_digit (first_of b)) here).0, is)) (entry_fits known b apart)) bytes)
 
 pub column_fits : (known : Known) (place : ℕ) (bytes : List ℕ) → AreApart known.script → Fits (IsColumn known.script place) (column_at known place bytes)
 unfolding column_at

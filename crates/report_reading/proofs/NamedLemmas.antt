@@ -171,15 +171,15 @@ named_in script report apart is =
     let some_colours = apart.colours.some in
     record {
       clients = said 64 script.clients (client_name report) apart.clients (λ n lt.
-        let all = is.all_clients in
-        client_named script 0 report.clients n is.clients (omega (arith, all, lt)) ∙ ap (name_of script.clients) (omega arith));
+          let all = is.all_clients in
+          client_named script 0 report.clients n is.clients (omega (arith, all, lt)) ∙ ap (name_of script.clients) (omega arith));
       colours = said 64 script.colours (colour_name report) apart.colours (λ n lt.
-        let few : 1 * colours ≤ regions * colours = mul-le 1 colours regions colours some_regions (omega arith) in
-        colour_named script 0 report.columns n n is.columns (omega (arith, few, lt, whole)) (ap (λ m. m % colours) (omega arith) ∙ mod-eq_of_lt lt));
+          let few : 1 * colours ≤ regions * colours = mul-le 1 colours regions colours some_regions (omega arith) in
+          colour_named script 0 report.columns n n is.columns (omega (arith, few, lt, whole)) (ap (λ m. m % colours) (omega arith) ∙ mod-eq_of_lt lt));
       regions = said 4 script.regions (region_name report) apart.regions (λ n lt.
-        let few : (n + 1) * colours ≤ regions * colours = mul-le (n + 1) colours regions colours (omega (arith, lt)) (omega arith) in
-        let more : n * colours + colours ≤ regions * colours = next_row n colours (regions * colours) few in
-        region_named script 0 report.columns (n * colours) n is.columns (omega (arith, more, some_colours, whole)) (ap (λ m. m / colours) (omega arith) ∙ mul-div_cancel n some_colours));
+          let few : (n + 1) * colours ≤ regions * colours = mul-le (n + 1) colours regions colours (omega (arith, lt)) (omega arith) in
+          let more : n * colours + colours ≤ regions * colours = next_row n colours (regions * colours) few in
+          region_named script 0 report.columns (n * colours) n is.columns (omega (arith, more, some_colours, whole)) (ap (λ m. m / colours) (omega arith) ∙ mul-div_cancel n some_colours));
       count = regions_counted script below.0 report.columns below.1 is.columns is.all_columns;
       few = apart.regions.few;
       some = apart.regions.some;

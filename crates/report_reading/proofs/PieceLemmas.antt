@@ -93,7 +93,7 @@ numbers_again (suc (suc (suc zero))) a b c d rest some few p q r s no_b no_c no_
     rw (no_d (omega arith)) (ap (numbers_at 3) (append_assoc (decimal a) (44 ∷ (decimal b ++ (44 ∷ decimal c))) rest ∙ ap (λ w. decimal a ++ (44 ∷ w)) (append_assoc (decimal b) (44 ∷ decimal c) rest)) ∙ three_again a b c rest p q r e)
 numbers_again (suc (suc (suc (suc zero)))) a b c d rest some few p q r s no_b no_c no_d e =
     ap (numbers_at 4) (append_assoc (decimal a) (44 ∷ (decimal b ++ (44 ∷ (decimal c ++ (44 ∷ decimal d))))) rest
-      ∙ ap (λ w. decimal a ++ (44 ∷ w)) (append_assoc (decimal b) (44 ∷ (decimal c ++ (44 ∷ decimal d))) rest ∙ ap (λ w. decimal b ++ (44 ∷ w)) (append_assoc (decimal c) (44 ∷ decimal d) rest)))
+    ∙ ap (λ w. decimal a ++ (44 ∷ w)) (append_assoc (decimal b) (44 ∷ (decimal c ++ (44 ∷ decimal d))) rest ∙ ap (λ w. decimal b ++ (44 ∷ w)) (append_assoc (decimal c) (44 ∷ decimal d) rest)))
     ∙ four_again a b c d rest p q r s e
 numbers_again (suc (suc (suc (suc (suc n))))) a b c d rest some few p q r s no_b no_c no_d e = absurd (omega (arith, few))
 

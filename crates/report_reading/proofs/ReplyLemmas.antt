@@ -36,8 +36,8 @@ line_len_again [] rest all = refl
 line_len_again (b ∷ t) rest all =
     let p = and_parts (is_between 33 126 b) (list_all (is_between 33 126) t) all in
     let other : eqb b 10 ≡ false = false_from_ne_true (eqb b 10) (λ same.
-      let low = leb-true 33 b (and_parts _ _ p.0).0 in
-      let ten = eqb-true b 10 same in absurd (omega (arith, low, ten))) in
+    let low = leb-true 33 b (and_parts _ _ p.0).0 in
+    let ten = eqb-true b 10 same in absurd (omega (arith, low, ten))) in
     rw (other) (ap suc (line_len_again t rest p.1))
 
 text_again : (t rest : List ℕ) → is_text t ≡ true → text_at (t ++ (10 ∷ rest)) ≡ Some (t, 10 ∷ rest)
@@ -57,7 +57,7 @@ shown_again known report item rest named is =
       number_again item.head.key.stamp third is.key.stamp refl,
       text_again item.node.text rest is.text,
     ) (ap (λ (needs : Counts). Some (record { head = record { key = item.head.key; needs = needs }; node = bare_node item.head.key.id item.node.text }, rest)) (sym is.needs)
-      ∙ ap (λ (node : Node). Some (record { head = item.head; node = node }, rest)) (sym is.bare))
+    ∙ ap (λ (node : Node). Some (record { head = item.head; node = node }, rest)) (sym is.bare))
 
 -- a line with something behind it is no empty text
 lines_some : (xs ys : List ℕ) → 0 < length (xs ++ (10 ∷ []) ++ ys)

@@ -70,10 +70,10 @@ reply_fits known place bytes apart =
     let line = small_at bytes in
     let word = word_at (drop 1 line.1) in
     found_then (IsReply known place) (word_named word.0) _ (λ named.
-      fits_then (FitsWord known (is_many known place) named) (IsReply known place) (fitting_answer_at known (is_many known place) named (drop 1 word.1)) _ (fitting_fits known (is_many known place) named (drop 1 word.1) apart)
-      (λ answer is. fits_then (AllByRecursion (IsShown known.script)) (IsReply known place) (nodes_at known (drop 1 answer.1)) _
-        (all_fits (λ _ b. eqb (first_of b) 43) (λ _ b. shown_at known b) (IsShown known.script) (λ n b. shown_fits known b apart) (drop 1 answer.1))
-        (λ nodes all. record { line = small_fits bytes; has = is.0; answer = is.1; nodes = all })))
+    fits_then (FitsWord known (is_many known place) named) (IsReply known place) (fitting_answer_at known (is_many known place) named (drop 1 word.1)) _ (fitting_fits known (is_many known place) named (drop 1 word.1) apart)
+    (λ answer is. fits_then (AllByRecursion (IsShown known.script)) (IsReply known place) (nodes_at known (drop 1 answer.1)) _
+    (all_fits (λ _ b. eqb (first_of b) 43) (λ _ b. shown_at known b) (IsShown known.script) (λ n b. shown_fits known b apart) (drop 1 answer.1))
+    (λ nodes all. record { line = small_fits bytes; has = is.0; answer = is.1; nodes = all })))
 
 client_fits : (known : Known) (place : ℕ) (bytes : List ℕ) → AreApart known.script → Fits (IsClientReport known.script place) (client_at known place bytes)
 unfolding client_at
@@ -106,10 +106,10 @@ candidate_fits known bytes apart =
     ends_then (λ cs. AllFrom (IsClientReport known.script) 0 cs × (length cs ≤ length start)) (FitsAll known.script) (each_at (λ n _. client_begins known n) (client_at known) start) _
     (each_fits (λ n _. client_begins known n) (client_at known) (IsClientReport known.script) (λ n b here. client_fits known n b apart) start)
     (λ clients first. ends_then (AllByRecursion (IsRow known.script)) (FitsAll known.script) (each_at (λ _ b. row_begins b) (λ _ b. row_at known b) clients.1) _
-      (all_fits (λ _ b. row_begins b) (λ _ b. row_at known b) (IsRow known.script) (λ n b. row_fits known b apart) clients.1)
-      (λ rows second. ends_then (λ cs. AllFrom (IsColumn known.script) 0 cs × (length cs ≤ length rows.1)) (FitsAll known.script) (each_at (λ n _. column_begins known n) (column_at known) rows.1) _
-        (each_fits (λ n _. column_begins known n) (column_at known) (IsColumn known.script) (λ n b here. column_fits known n b apart) rows.1)
-        (λ columns third. record { version = refl; clients = first.0; rows = second; columns = third.0 })))
+    (all_fits (λ _ b. row_begins b) (λ _ b. row_at known b) (IsRow known.script) (λ n b. row_fits known b apart) clients.1)
+    (λ rows second. ends_then (λ cs. AllFrom (IsColumn known.script) 0 cs × (length cs ≤ length rows.1)) (FitsAll known.script) (each_at (λ n _. column_begins known n) (column_at known) rows.1) _
+    (each_fits (λ n _. column_begins known n) (column_at known) (IsColumn known.script) (λ n b here. column_fits known n b apart) rows.1)
+    (λ columns third. record { version = refl; clients = first.0; rows = second; columns = third.0 })))
 
 -- what stands in a test that was passed
 passed : (b : Bool) (candidate r : Report) → cond b (Some candidate) None ≡ Some r → (b ≡ true) × (candidate ≡ r)
@@ -123,14 +123,17 @@ judged script bytes (Some candidate) r fits e =
     let p = passed (has_all script candidate && bytes_eq (report_bytes candidate) bytes) candidate r e in
     let q = and_parts (has_all script candidate) (bytes_eq (report_bytes candidate) bytes) p.0 in
     let n = and_parts (eqb (length candidate.clients) (length script.clients)) (eqb (length candidate.columns) (length script.regions * length script.colours)) q.0 in
-    rw (← p.1) (record {
-      version = fits.version;
-      all_clients = eqb-true (length candidate.clients) (length script.clients) n.0;
-      clients = fits.clients;
-      rows = fits.rows;
-      all_columns = eqb-true (length candidate.columns) (length script.regions * length script.colours) n.1;
-      columns = fits.columns;
-    }, (bytes_eq-Decides (report_bytes candidate) bytes).0 q.1)
+    rw (← p.1) (
+      record {
+        version = fits.version;
+        all_clients = eqb-true (length candidate.clients) (length script.clients) n.0;
+        clients = fits.clients;
+        rows = fits.rows;
+        all_columns = eqb-true (length candidate.columns) (length script.regions * length script.colours) n.1;
+        columns = fits.columns;
+      },
+      (bytes_eq-Decides (report_bytes candidate) bytes).0 q.1,
+    )
 
 pub is_read : (script : Script) (bytes : List ℕ) (r : Report) → AreApart script → report_at script bytes ≡ Some r → IsReportOf script r × (report_bytes r ≡ bytes)
 unfolding report_at

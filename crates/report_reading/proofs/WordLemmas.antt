@@ -67,8 +67,8 @@ digits_again n lt = decimal_by_steps
     (λ n ds. n < 2 ^ 64 → (rest : List ℕ) → digits_at 0 (ds ++ rest) ≡ digits_at n rest)
     (λ n small fits rest. digit_next 0 n n rest small (omega arith) fits)
     (λ n ds ten so_far fits rest.
-      ap (digits_at 0) (append_assoc ds ((48 + n % 10) ∷ []) rest) ∙ so_far (omega (arith, fits)) ((48 + n % 10) ∷ rest)
-      ∙ digit_next (n / 10) (n % 10) n rest (omega arith) (omega arith) fits)
+    ap (digits_at 0) (append_assoc ds ((48 + n % 10) ∷ []) rest) ∙ so_far (omega (arith, fits)) ((48 + n % 10) ∷ rest)
+    ∙ digit_next (n / 10) (n % 10) n rest (omega arith) (omega arith) fits)
     n lt lt
 
 pub number_again : (n : ℕ) (rest : List ℕ) → n < 2 ^ 64 → ends rest ≡ true → number_at (decimal n ++ rest) ≡ (n, rest)
@@ -94,7 +94,7 @@ number_again_of [] n lt differ = absurd (omega (arith, lt))
 number_again_of (first ∷ names) zero lt differ = rw ((bytes_eq-Decides first first).1 refl) refl
 number_again_of (first ∷ names) (suc n) lt differ =
     let other : bytes_eq (name_of names n) first ≡ false = false_from_ne_true (bytes_eq (name_of names n) first) (λ same.
-      let one = differ (suc n) 0 lt (omega arith) ((bytes_eq-Decides (name_of names n) first).0 same) in absurd (omega (arith, one))) in
+    let one = differ (suc n) 0 lt (omega arith) ((bytes_eq-Decides (name_of names n) first).0 same) in absurd (omega (arith, one))) in
     let later = number_again_of names n (omega (arith, lt)) (λ i j p q e. let one = differ (suc i) (suc j) (omega (arith, p)) (omega (arith, q)) e in omega (arith, one)) in
     rw (other, later) refl
 

@@ -172,11 +172,11 @@ unfoldable pub ended_at : Known → List ℕ → Ended × List ℕ
 ended_at known bytes =
     let next = first_of bytes in
     if next == 111 then
-      (let stamp = number_at (drop 3 bytes) in
-      let point = point_at known.script (drop 1 stamp.1) in
-      (endings.Stood stamp.0 point.0, point.1))
+    (let stamp = number_at (drop 3 bytes) in
+    let point = point_at known.script (drop 1 stamp.1) in
+    (endings.Stood stamp.0 point.0, point.1))
     else if next == 115 then
-      (let colour = named_at known.script.colours (drop 9 bytes) in (endings.StampEnd colour.0, colour.1))
+    (let colour = named_at known.script.colours (drop 9 bytes) in (endings.StampEnd colour.0, colour.1))
     else (endings.NoMemory, drop 8 bytes)
 
 -- a decision: whether it commits, the sync, the stamped read, and its append
@@ -235,9 +235,9 @@ unfoldable pub unread_at : Known → List ℕ → Answer × List ℕ
 unread_at known bytes =
     let stamp = number_at bytes in
     if first_of (drop 1 stamp.1) == 116 then
-      (let colour = named_at known.script.colours (drop 9 stamp.1) in
-      let base = counts_at known.script (drop 1 colour.1) in
-      (UnreadTrimmed stamp.0 colour.0 base.0, base.1))
+    (let colour = named_at known.script.colours (drop 9 stamp.1) in
+    let base = counts_at known.script (drop 1 colour.1) in
+    (UnreadTrimmed stamp.0 colour.0 base.0, base.1))
     else (UnreadNoMemory stamp.0, drop 9 stamp.1)
 
 -- nodes that are trimmed

@@ -74,15 +74,15 @@ unfoldable pub event_at : Known → ℕ → List ℕ → Option (Entry × List �
 event_at known by bytes =
     let next = first_of bytes in
     if next == 115 then
-      (if first_of (drop 1 bytes) == 105 then
-        (let e = entering_at known.script (drop 7 bytes) in
-        Some (entered by true e.0, e.1))
-      else Some (settle_at known.script by (drop 7 bytes)))
+    (if first_of (drop 1 bytes) == 105 then
+    (let e = entering_at known.script (drop 7 bytes) in
+    Some (entered by true e.0, e.1))
+    else Some (settle_at known.script by (drop 7 bytes)))
     else if next == 112 then
-      (let e = entering_at known.script (drop 8 bytes) in
-      Some (entered by false e.0, e.1))
+    (let e = entering_at known.script (drop 8 bytes) in
+    Some (entered by false e.0, e.1))
     else if next == 114 then
-      Some (unstamped by (Raise (number_at (drop 6 bytes)).0), (number_at (drop 6 bytes)).1)
+    Some (unstamped by (Raise (number_at (drop 6 bytes)).0), (number_at (drop 6 bytes)).1)
     else if next == 103 then Some (give_at known.script by (drop 5 bytes))
     else if next == 99 then carry_at known by (drop 6 bytes)
     else Some (unstamped by (Trim (counts_at known.script (drop 5 bytes)).0), (counts_at known.script (drop 5 bytes)).1)
@@ -161,15 +161,18 @@ column_at known place bytes =
     let colour_name = name_of known.script.colours colour in
     journal_at known (behind_names region_name colour_name bytes) >>= λ journal.
     closing_at known journal.1 >>= λ closing.
-    Some (record {
-      region = region;
-      colour = colour;
-      region_name = region_name;
-      colour_name = colour_name;
-      journal = journal.0;
-      clock = closing.0.clock;
-      line = closing.0.line;
-      queue = closing.0.queue;
-      cut = closing.0.cut;
-      base = closing.0.base;
-    }, closing.1)
+    Some (
+      record {
+        region = region;
+        colour = colour;
+        region_name = region_name;
+        colour_name = colour_name;
+        journal = journal.0;
+        clock = closing.0.clock;
+        line = closing.0.line;
+        queue = closing.0.queue;
+        cut = closing.0.cut;
+        base = closing.0.base;
+      },
+      closing.1,
+    )

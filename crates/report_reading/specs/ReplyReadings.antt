@@ -33,10 +33,13 @@ shown_at known bytes =
     let id = id_at known.script (drop 2 bytes) in
     let stamp = number_at (drop 1 id.1) in
     text_at (drop 1 stamp.1) >>= λ text.
-    Some (record {
-      head = record { key = record { stamp = stamp.0; id = id.0 }; needs = zeros };
-      node = bare_node id.0 text.0;
-    }, drop 1 text.1)
+    Some (
+      record {
+        head = record { key = record { stamp = stamp.0; id = id.0 }; needs = zeros };
+        node = bare_node id.0 text.0;
+      },
+      drop 1 text.1,
+    )
 
 -- nodes that are shown, each on a line
 abbrev pub nodes_at : Known → List ℕ → Option (List PlacedNode × List ℕ)

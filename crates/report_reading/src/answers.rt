@@ -6,7 +6,9 @@ ghost use Rattle.report_reading.specs.AnswerReadings.{stood_at, synced_at, scann
 
 use crate::fault::ReadFault;
 use crate::lists::list;
-use crate::pieces::{behind, byte, colour, counts, first, number, place, point, region, small, sync, word};
+use crate::pieces::{
+    behind, byte, colour, counts, first, number, place, point, region, small, sync, word,
+};
 use crate::reads::{key_text, read_of, row_told, ruling_of, texts, value, values};
 use crate::setting::Setting;
 use log_node::Text;
@@ -16,7 +18,11 @@ use script_text::Word;
 use std::alloc::Global;
 
 #[tactic(auto, unfolding(crate::specs::AnswerReadings::stood_at))]
-fn stood<'b>(alloc: Global, setting: &Setting<'_>, bytes: &'b [u8]) -> Result<(Answer, &'b [u8]), ReadFault>
+fn stood<'b>(
+    alloc: Global,
+    setting: &Setting<'_>,
+    bytes: &'b [u8],
+) -> Result<(Answer, &'b [u8]), ReadFault>
     ensures { Gives (λ x. (x.0, x.1.now)) result (stood_at setting.now bytes.now) }
 {
     let (stamp, rest) = number(bytes);
@@ -36,7 +42,11 @@ fn synced<'b>(setting: &Setting<'_>, bytes: &'b [u8]) -> (Answer, &'b [u8])
 }
 
 #[tactic(auto, unfolding(crate::specs::AnswerReadings::scanned_at))]
-fn scanned<'b>(alloc: Global, setting: &Setting<'_>, bytes: &'b [u8]) -> Result<(Answer, &'b [u8]), ReadFault>
+fn scanned<'b>(
+    alloc: Global,
+    setting: &Setting<'_>,
+    bytes: &'b [u8],
+) -> Result<(Answer, &'b [u8]), ReadFault>
     ensures { Gives (λ x. (x.0, x.1.now)) result (scanned_at setting.now bytes.now) }
 {
     let (stamp, rest) = number(bytes);
@@ -71,7 +81,12 @@ fn based<'b>(setting: &Setting<'_>, bytes: &'b [u8]) -> (Answer, &'b [u8])
 }
 
 #[tactic(auto, unfolding(crate::specs::AnswerReadings::got_at))]
-fn got<'b>(alloc: Global, setting: &Setting<'_>, found: bool, bytes: &'b [u8]) -> Result<(Answer, &'b [u8]), ReadFault>
+fn got<'b>(
+    alloc: Global,
+    setting: &Setting<'_>,
+    found: bool,
+    bytes: &'b [u8],
+) -> Result<(Answer, &'b [u8]), ReadFault>
     ensures { Gives (λ x. (x.0, x.1.now)) result (got_at setting.now found bytes.now) }
 {
     let (value, rest) = value(alloc, found, bytes)?;
@@ -80,7 +95,12 @@ fn got<'b>(alloc: Global, setting: &Setting<'_>, found: bool, bytes: &'b [u8]) -
 }
 
 #[tactic(auto, unfolding(crate::specs::AnswerReadings::got_many_at))]
-fn got_many<'b>(alloc: Global, setting: &Setting<'_>, found: bool, bytes: &'b [u8]) -> Result<(Answer, &'b [u8]), ReadFault>
+fn got_many<'b>(
+    alloc: Global,
+    setting: &Setting<'_>,
+    found: bool,
+    bytes: &'b [u8],
+) -> Result<(Answer, &'b [u8]), ReadFault>
     ensures { Gives (λ x. (x.0, x.1.now)) result (got_many_at setting.now found bytes.now) }
 {
     let (values, rest) = values(alloc, setting, found, bytes)?;
@@ -89,7 +109,11 @@ fn got_many<'b>(alloc: Global, setting: &Setting<'_>, found: bool, bytes: &'b [u
 }
 
 #[tactic(auto, unfolding(crate::specs::AnswerReadings::got_keys_at))]
-fn got_keys<'b>(alloc: Global, setting: &Setting<'_>, bytes: &'b [u8]) -> Result<(Answer, &'b [u8]), ReadFault>
+fn got_keys<'b>(
+    alloc: Global,
+    setting: &Setting<'_>,
+    bytes: &'b [u8],
+) -> Result<(Answer, &'b [u8]), ReadFault>
     ensures { Gives (λ x. (x.0, x.1.now)) result (got_keys_at setting.now bytes.now) }
 {
     let (stamp, rest) = number(bytes);
@@ -105,7 +129,12 @@ fn got_keys<'b>(alloc: Global, setting: &Setting<'_>, bytes: &'b [u8]) -> Result
 }
 
 #[tactic(auto, unfolding(crate::specs::AnswerReadings::took_at))]
-fn took<'b>(alloc: Global, setting: &Setting<'_>, found: bool, bytes: &'b [u8]) -> Result<(Answer, &'b [u8]), ReadFault>
+fn took<'b>(
+    alloc: Global,
+    setting: &Setting<'_>,
+    found: bool,
+    bytes: &'b [u8],
+) -> Result<(Answer, &'b [u8]), ReadFault>
     ensures { Gives (λ x. (x.0, x.1.now)) result (took_at setting.now found bytes.now) }
 {
     let script = setting.script();
@@ -116,7 +145,11 @@ fn took<'b>(alloc: Global, setting: &Setting<'_>, found: bool, bytes: &'b [u8]) 
 }
 
 #[tactic(auto, unfolding(crate::specs::AnswerReadings::listed_at))]
-fn listed<'b>(alloc: Global, setting: &Setting<'_>, bytes: &'b [u8]) -> Result<(Answer, &'b [u8]), ReadFault>
+fn listed<'b>(
+    alloc: Global,
+    setting: &Setting<'_>,
+    bytes: &'b [u8],
+) -> Result<(Answer, &'b [u8]), ReadFault>
     ensures { Gives (λ x. (x.0, x.1.now)) result (listed_at setting.now bytes.now) }
 {
     let (stamp, rest) = number(bytes);
@@ -132,7 +165,11 @@ fn listed<'b>(alloc: Global, setting: &Setting<'_>, bytes: &'b [u8]) -> Result<(
 }
 
 #[tactic(auto, unfolding(crate::specs::AnswerReadings::missing_at))]
-fn missing<'b>(alloc: Global, setting: &Setting<'_>, bytes: &'b [u8]) -> Result<(Answer, &'b [u8]), ReadFault>
+fn missing<'b>(
+    alloc: Global,
+    setting: &Setting<'_>,
+    bytes: &'b [u8],
+) -> Result<(Answer, &'b [u8]), ReadFault>
     ensures { Gives (λ x. (x.0, x.1.now)) result (missing_at setting.now bytes.now) }
 {
     let (stamp, rest) = number(bytes);
@@ -177,7 +214,12 @@ fn ended_of<'b>(setting: &Setting<'_>, bytes: &'b [u8]) -> (Ended, &'b [u8])
 
 // Whether a transaction commits, the sync, the stamped read, and the append of the decision.
 #[tactic(auto, unfolding(crate::specs::AnswerReadings::decided_at))]
-fn decided<'b>(alloc: Global, setting: &Setting<'_>, commits: bool, bytes: &'b [u8]) -> Result<(Answer, &'b [u8]), ReadFault>
+fn decided<'b>(
+    alloc: Global,
+    setting: &Setting<'_>,
+    commits: bool,
+    bytes: &'b [u8],
+) -> Result<(Answer, &'b [u8]), ReadFault>
     ensures { Gives (λ x. (x.0, x.1.now)) result (decided_at setting.now commits bytes.now) }
 {
     let (stamp, rest) = number(bytes);
@@ -199,7 +241,12 @@ fn decided<'b>(alloc: Global, setting: &Setting<'_>, commits: bool, bytes: &'b [
 
 // A transaction that commits, or does not because of this key.
 #[tactic(auto, unfolding(crate::specs::AnswerReadings::ruled_at))]
-fn ruled<'b>(alloc: Global, setting: &Setting<'_>, conflict: Option<Text>, bytes: &'b [u8]) -> Result<(Answer, &'b [u8]), ReadFault>
+fn ruled<'b>(
+    alloc: Global,
+    setting: &Setting<'_>,
+    conflict: Option<Text>,
+    bytes: &'b [u8],
+) -> Result<(Answer, &'b [u8]), ReadFault>
     ensures { Gives (λ x. (x.0, x.1.now)) result (ruled_at setting.now conflict bytes.now) }
 {
     let (ruling, rest) = ruling_of(alloc, setting, bytes)?;
@@ -217,7 +264,11 @@ fn ruled<'b>(alloc: Global, setting: &Setting<'_>, conflict: Option<Text>, bytes
 
 // A transaction that does not commit, and the key for which it does not.
 #[tactic(auto, unfolding(crate::specs::AnswerReadings::conflict_at))]
-fn conflict<'b>(alloc: Global, setting: &Setting<'_>, bytes: &'b [u8]) -> Result<(Answer, &'b [u8]), ReadFault>
+fn conflict<'b>(
+    alloc: Global,
+    setting: &Setting<'_>,
+    bytes: &'b [u8],
+) -> Result<(Answer, &'b [u8]), ReadFault>
     ensures { Gives (λ x. (x.0, x.1.now)) result (conflict_at setting.now bytes.now) }
 {
     let (key, rest) = key_text(alloc, bytes)?;
@@ -226,7 +277,12 @@ fn conflict<'b>(alloc: Global, setting: &Setting<'_>, bytes: &'b [u8]) -> Result
 
 // A change of a tree.
 #[tactic(auto, unfolding(crate::specs::AnswerReadings::changed_at))]
-fn changed<'b>(alloc: Global, setting: &Setting<'_>, failed: Option<TreeWhy>, bytes: &'b [u8]) -> Result<(Answer, &'b [u8]), ReadFault>
+fn changed<'b>(
+    alloc: Global,
+    setting: &Setting<'_>,
+    failed: Option<TreeWhy>,
+    bytes: &'b [u8],
+) -> Result<(Answer, &'b [u8]), ReadFault>
     ensures { Gives (λ x. (x.0, x.1.now)) result (changed_at setting.now failed bytes.now) }
 {
     let (ruling, rest) = ruling_of(alloc, setting, bytes)?;
@@ -263,7 +319,11 @@ fn why_named(name: &[u8]) -> TreeWhy
 
 // A change that failed.
 #[tactic(auto, unfolding(crate::specs::AnswerReadings::failed_at))]
-fn failed<'b>(alloc: Global, setting: &Setting<'_>, bytes: &'b [u8]) -> Result<(Answer, &'b [u8]), ReadFault>
+fn failed<'b>(
+    alloc: Global,
+    setting: &Setting<'_>,
+    bytes: &'b [u8],
+) -> Result<(Answer, &'b [u8]), ReadFault>
     ensures { Gives (λ x. (x.0, x.1.now)) result (failed_at setting.now bytes.now) }
 {
     let (why, rest) = word(bytes);
@@ -321,7 +381,13 @@ fn trimmed<'b>(setting: &Setting<'_>, bytes: &'b [u8]) -> (Answer, &'b [u8])
 
 // What stands behind `ok`.
 #[tactic(auto, unfolding(crate::specs::AnswerReadings::ok_at))]
-fn ok<'b>(alloc: Global, setting: &Setting<'_>, many: bool, word: Word, bytes: &'b [u8]) -> Result<(Answer, &'b [u8]), ReadFault>
+fn ok<'b>(
+    alloc: Global,
+    setting: &Setting<'_>,
+    many: bool,
+    word: Word,
+    bytes: &'b [u8],
+) -> Result<(Answer, &'b [u8]), ReadFault>
     ensures { Gives (λ x. (x.0, x.1.now)) result (ok_at setting.now many word bytes.now) }
 {
     match word {
@@ -346,7 +412,13 @@ fn ok<'b>(alloc: Global, setting: &Setting<'_>, many: bool, word: Word, bytes: &
 
 // What stands behind `none`.
 #[tactic(auto, unfolding(crate::specs::AnswerReadings::none_at))]
-fn none<'b>(alloc: Global, setting: &Setting<'_>, many: bool, word: Word, bytes: &'b [u8]) -> Result<(Answer, &'b [u8]), ReadFault>
+fn none<'b>(
+    alloc: Global,
+    setting: &Setting<'_>,
+    many: bool,
+    word: Word,
+    bytes: &'b [u8],
+) -> Result<(Answer, &'b [u8]), ReadFault>
     ensures { Gives (λ x. (x.0, x.1.now)) result (none_at setting.now many word bytes.now) }
 {
     match word {
@@ -364,7 +436,12 @@ fn none<'b>(alloc: Global, setting: &Setting<'_>, many: bool, word: Word, bytes:
 
 // What stands behind `committed`.
 #[tactic(auto, unfolding(crate::specs::AnswerReadings::committed_at))]
-fn committed<'b>(alloc: Global, setting: &Setting<'_>, word: Word, bytes: &'b [u8]) -> Result<(Answer, &'b [u8]), ReadFault>
+fn committed<'b>(
+    alloc: Global,
+    setting: &Setting<'_>,
+    word: Word,
+    bytes: &'b [u8],
+) -> Result<(Answer, &'b [u8]), ReadFault>
     ensures { Gives (λ x. (x.0, x.1.now)) result (committed_at setting.now word bytes.now) }
 {
     match word {
@@ -375,7 +452,12 @@ fn committed<'b>(alloc: Global, setting: &Setting<'_>, word: Word, bytes: &'b [u
 
 // What stands behind `conflict`.
 #[tactic(auto, unfolding(crate::specs::AnswerReadings::conflicting_at))]
-fn conflicting<'b>(alloc: Global, setting: &Setting<'_>, word: Word, bytes: &'b [u8]) -> Result<(Answer, &'b [u8]), ReadFault>
+fn conflicting<'b>(
+    alloc: Global,
+    setting: &Setting<'_>,
+    word: Word,
+    bytes: &'b [u8],
+) -> Result<(Answer, &'b [u8]), ReadFault>
     ensures { Gives (λ x. (x.0, x.1.now)) result (conflicting_at setting.now word bytes.now) }
 {
     match word {
@@ -422,7 +504,12 @@ fn not_home<'b>(setting: &Setting<'_>, bytes: &'b [u8]) -> (Answer, &'b [u8])
 
 // An answer that takes no memory, by its first word; `rest` is behind that, and `end` directly behind it.
 #[tactic(auto, unfolding(crate::specs::AnswerReadings::short_at))]
-fn short<'b>(setting: &Setting<'_>, head: &[u8], rest: &'b [u8], end: &'b [u8]) -> (Answer, &'b [u8])
+fn short<'b>(
+    setting: &Setting<'_>,
+    head: &[u8],
+    rest: &'b [u8],
+    end: &'b [u8],
+) -> (Answer, &'b [u8])
     ensures { short_at setting.now head.now rest.now end.now ≡ (result.0, result.1.now) }
 {
     if head == b"stampend".as_slice() {
@@ -532,13 +619,7 @@ fn is_of_log(word: Word) -> bool
 {
     matches!(
         word,
-        Word::Append
-            | Word::Only
-            | Word::Stop
-            | Word::Sync
-            | Word::Scan
-            | Word::Pull
-            | Word::Trim
+        Word::Append | Word::Only | Word::Stop | Word::Sync | Word::Scan | Word::Pull | Word::Trim
     )
 }
 

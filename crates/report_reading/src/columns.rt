@@ -47,6 +47,7 @@ fn head<'b>(script: &Script, bytes: &'b [u8]) -> (Head, &'b [u8])
 
 impl Readable for Head {
     ghost begins_at = { λ _ _ bytes. first_of bytes == 32 };
+
     ghost value_at = { λ known _ bytes. Some (head_at known.script (drop 1 bytes)) };
 
     fn begins(_setting: &Setting<'_>, _place: usize, bytes: &[u8]) -> bool {
@@ -189,6 +190,7 @@ fn event<'b>(
 
 impl Readable for Entry {
     ghost begins_at = { λ _ place bytes. entry_begins place bytes };
+
     ghost value_at = { λ known _ bytes. entry_at known bytes };
 
     fn begins(_setting: &Setting<'_>, place: usize, bytes: &[u8]) -> bool {
@@ -241,6 +243,7 @@ pub fn behind_dash(bytes: &[u8]) -> &[u8]
 
 impl Readable for Key {
     ghost begins_at = { λ _ _ bytes. listed_begins bytes };
+
     ghost value_at = { λ known _ bytes. Some (key_at known.script (behind_comma bytes)) };
 
     fn begins(_setting: &Setting<'_>, _place: usize, bytes: &[u8]) -> bool {
@@ -276,6 +279,7 @@ fn queue_key<'b>(script: &Script, bytes: &'b [u8]) -> (QueueKey, &'b [u8])
 
 impl Readable for QueueKey {
     ghost begins_at = { λ _ _ bytes. listed_begins bytes };
+
     ghost value_at = { λ known _ bytes. Some (queue_key_at known.script (behind_comma bytes)) };
 
     fn begins(_setting: &Setting<'_>, _place: usize, bytes: &[u8]) -> bool {
@@ -354,6 +358,7 @@ fn behind_names<'b>(region: &[u8], colour: &[u8], bytes: &'b [u8]) -> &'b [u8]
 
 impl Readable for ColumnReport {
     ghost begins_at = { λ known place _. column_begins known place };
+
     ghost value_at = { λ known place bytes. column_at known place bytes };
 
     fn begins(setting: &Setting<'_>, place: usize, _bytes: &[u8]) -> bool {

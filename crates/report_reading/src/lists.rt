@@ -11,6 +11,7 @@ use std::alloc::Global;
 /// Is read from the front of the bytes. The place is that in a list of such.
 pub trait Readable: Sized + Drop {
     ghost begins_at: { Known → ℕ → List ℕ → Bool };
+
     ghost value_at: { Known → ℕ → List ℕ → Option (Self × List ℕ) };
 
     /// Whether one more begins here.

@@ -74,7 +74,9 @@ pub fn number(bytes: &[u8]) -> (u64, &[u8])
         if !first.is_ascii_digit() {
             break;
         }
-        value = value.wrapping_mul(10).wrapping_add(u64::from(*first - b'0'));
+        value = value
+            .wrapping_mul(10)
+            .wrapping_add(u64::from(*first - b'0'));
         rest = others;
     }
     (value, rest)

@@ -58,6 +58,7 @@ pub fn key_text(alloc: Global, bytes: &[u8]) -> Result<(Text, &[u8]), ReadFault>
 
 impl Readable for Text {
     ghost begins_at = { λ _ _ bytes. listed_begins bytes };
+
     ghost value_at = { λ _ _ bytes. key_text_at (behind_comma bytes) };
 
     fn begins(_setting: &Setting<'_>, _place: usize, bytes: &[u8]) -> bool {
@@ -88,6 +89,7 @@ pub fn texts<'b>(
 
 impl Readable for PointPiece {
     ghost begins_at = { λ _ _ bytes. point_begins bytes };
+
     ghost value_at = { λ known _ bytes. Some (point_at known.script (drop 1 bytes)) };
 
     fn begins(_setting: &Setting<'_>, _place: usize, bytes: &[u8]) -> bool {
@@ -106,6 +108,7 @@ impl Readable for PointPiece {
 
 impl Readable for RaisePiece {
     ghost begins_at = { λ _ _ bytes. raise_begins bytes };
+
     ghost value_at = { λ known _ bytes. Some (raise_at known.script (drop 1 bytes)) };
 
     fn begins(_setting: &Setting<'_>, _place: usize, bytes: &[u8]) -> bool {
@@ -124,6 +127,7 @@ impl Readable for RaisePiece {
 
 impl Readable for SyncPiece {
     ghost begins_at = { λ _ _ bytes. sync_begins bytes };
+
     ghost value_at = { λ known _ bytes. Some (sync_at known.script (drop 1 bytes)) };
 
     fn begins(_setting: &Setting<'_>, _place: usize, bytes: &[u8]) -> bool {
@@ -199,11 +203,7 @@ pub fn ruling_of<'b>(
 
 /// A value and a space, or none.
 #[tactic(auto, unfolding(crate::specs::AnswerReadings::value_at))]
-pub fn value(
-    alloc: Global,
-    found: bool,
-    bytes: &[u8],
-) -> Result<(Option<Text>, &[u8]), ReadFault>
+pub fn value(alloc: Global, found: bool, bytes: &[u8]) -> Result<(Option<Text>, &[u8]), ReadFault>
     ensures { Gives (λ x. (x.0, x.1.now)) result (value_at found bytes.now) }
 {
     if !found {
@@ -249,6 +249,7 @@ fn key_answer(alloc: Global, bytes: &[u8]) -> Result<(KeyAnswer, &[u8]), ReadFau
 
 impl Readable for KeyAnswer {
     ghost begins_at = { λ _ _ bytes. key_answer_begins bytes };
+
     ghost value_at = { λ _ _ bytes. key_answer_at (drop 1 bytes) };
 
     fn begins(_setting: &Setting<'_>, _place: usize, bytes: &[u8]) -> bool {

@@ -88,6 +88,7 @@ fn shown(alloc: Global, key: Key, text: Text) -> Result<Item, AllocError>
 
 impl Readable for Item {
     ghost begins_at = { λ _ _ bytes. first_of bytes == 43 };
+
     ghost value_at = { λ known _ bytes. shown_at known bytes };
 
     fn begins(_setting: &Setting<'_>, _place: usize, bytes: &[u8]) -> bool {
@@ -213,6 +214,7 @@ fn fitting_answer<'b>(
 
 impl Readable for ReplyLine {
     ghost begins_at = { λ _ _ bytes. is_digit (first_of bytes) };
+
     ghost value_at = { λ known place bytes. reply_at known place bytes };
 
     fn begins(_setting: &Setting<'_>, _place: usize, bytes: &[u8]) -> bool {
@@ -272,6 +274,7 @@ fn many_of(alloc: Global, script: &Script, client: usize) -> Result<Vec<bool>, A
 
 impl Readable for ClientReport {
     ghost begins_at = { λ known place _. client_begins known place };
+
     ghost value_at = { λ known place bytes. client_at known place bytes };
 
     fn begins(setting: &Setting<'_>, place: usize, _bytes: &[u8]) -> bool {

@@ -90,11 +90,7 @@ fn report(alloc: Global, script: &Script, bytes: &[u8]) -> Result<Report, ReadFa
 
 /// The report that the bytes are, as one of this script.
 #[tactic(auto, using(crate::proofs::ReportLaws::is_read, crate::proofs::ReportLaws::none_read))]
-pub fn read_report(
-    alloc: Global,
-    script: &Script,
-    bytes: &[u8],
-) -> Result<Report, ReportFault>
+pub fn read_report(alloc: Global, script: &Script, bytes: &[u8]) -> Result<Report, ReportFault>
     requires { AreApart script.now }
     // What is read is a report of the script, and the bytes are its text.
     ensures is { IfOk result (λ r. IsReportOf script.now r × (report_bytes r ≡ bytes.now)) }

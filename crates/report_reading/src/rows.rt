@@ -83,6 +83,7 @@ fn row_number<'b>(script: &Script, bytes: &'b [u8]) -> (Row, &'b [u8])
 
 impl Readable for ColourMark {
     ghost begins_at = { λ _ _ bytes. mark_begins bytes };
+
     ghost value_at = { λ known _ bytes. Some (colour_mark_at known.script (drop 1 bytes)) };
 
     fn begins(_setting: &Setting<'_>, _place: usize, bytes: &[u8]) -> bool {
@@ -101,6 +102,7 @@ impl Readable for ColourMark {
 
 impl Readable for RowReport {
     ghost begins_at = { λ _ _ bytes. row_begins bytes };
+
     ghost value_at = { λ known _ bytes. row_at known bytes };
 
     fn begins(_setting: &Setting<'_>, _place: usize, bytes: &[u8]) -> bool {
