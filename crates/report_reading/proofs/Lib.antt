@@ -18,3 +18,4 @@ mod ReportLemmas
 mod FitLaws
 mod FitAnswers
 mod ReportLaws
+mod ErrorLemmas
