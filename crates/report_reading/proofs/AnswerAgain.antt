@@ -1,41 +1,26 @@
 -- Answers as a whole: what is printed is read again.
-use Rattle.std.proofs.Common.{◌≡◌, ℕ, zero, suc, ◌+◌, ◌^◌, ◌<◌, Bool, true, false, not, cond, eqb, ◌&&◌, ◌||◌, List, [], ◌∷◌, ◌++◌, length, drop, Option, Some, None, refl, sym, ap, ◌∙◌, append_assoc, arith, inl, inr}
+use Rattle.std.proofs.Common.{◌≡◌, ℕ, true, false, eqb, List, [], ◌∷◌, ◌++◌, Option, Some, None, refl, append_assoc}
 use Rattle.std.specs.Prelude.{decimal, codes, IfSome}
 use Rattle.std.specs.List.{AllByRecursion, flat_map}
-use Rattle.std.proofs.lemmas.Bool.{and_parts, or_cases}
 use Rattle.std.proofs.Math.Bool.{and-false}
 use Rattle.log_node.specs.declared.ids.Counts.{Counts}
 use Rattle.log_node.specs.declared.node.At.{At}
-use Rattle.object_form.specs.declared.tree_why.TreeWhy.{TreeWhy}
-use Rattle.object_form.specs.declared.tree_why.TreeWhy.TheVariants as whys
-use Rattle.object_form.specs.Reasons.{why_text}
-use Rattle.script_text.specs.declared.commands.Word.{Word}
-use Rattle.script_text.specs.declared.commands.Word.TheVariants as words
 use Rattle.report_text.specs.declared.report.SyncPiece.{SyncPiece}
 use Rattle.report_text.specs.declared.report.RaisePiece.{RaisePiece}
 use Rattle.report_text.specs.declared.report.PointPiece.{PointPiece}
-use Rattle.report_text.specs.declared.report.KeyAnswer.{KeyAnswer}
-use Rattle.report_text.specs.declared.report.Ended.{Ended}
-use Rattle.report_text.specs.declared.report.Ended.TheVariants as endings
-use Rattle.report_text.specs.declared.report.Answer.{Answer}
-use Rattle.report_text.specs.declared.report.Answer.TheVariants.{Stood, StampEnd, Full, Stopped, Synced, Scanned, Pulled, SameRegion, Based, Got, GotMany, GotKeys, Ruled, Changed, Listed, Undecided, Decided, Moved, NoTx, Took, UnreadTrimmed, UnreadNoMemory, Trimmed, NotHome, NoMemory}
+use Rattle.report_text.specs.declared.report.Answer.TheVariants.{Stood, Synced, Scanned, Pulled, Based, Got, GotMany, Listed, Undecided, Moved, Took, UnreadTrimmed, UnreadNoMemory, Trimmed}
 use Rattle.report_text.specs.declared.report.Report.{Report}
-use Rattle.report_text.specs.Names.{region_name, colour_name}
-use Rattle.report_text.specs.Pieces.{spaced, listed, at_text, counts_text, point_text, raise_text, sync_text}
-use Rattle.report_text.specs.Replies.{row_text, value_text, key_answer_text, verdict_text, change_text, read_text, ended_text, answer_text}
-use Rattle.report_reading.specs.declared.reads.Read.{Read}
-use Rattle.report_reading.specs.declared.reads.Ruling.{Ruling}
+use Rattle.report_text.specs.Names.{colour_name}
+use Rattle.report_text.specs.Pieces.{spaced, listed, at_text, counts_text, point_text, sync_text}
+use Rattle.report_text.specs.Replies.{row_text, read_text}
 use Rattle.report_reading.specs.Known.{Known}
-use Rattle.report_reading.specs.Lists.{◌>>=◌, each_at}
-use Rattle.report_reading.specs.Answers.{appending, is_of, is_word, has_answer}
-use Rattle.report_reading.specs.Meant.{IsWord, IsSmall, IsKeyText, IsColour, IsAt, IsRaise, IsPoint, IsSync, AreRead, IsKeyAnswer, IsRuling, IsEnded, IsAnswer, AreCounts}
-use Rattle.report_reading.specs.Pieces.{first_of, word_at, number_at, named_at, place_at, point_at, sync_at, counts_at, behind_word, point_begins}
-use Rattle.report_reading.specs.AnswerReadings.{key_text_at, texts_at, points_at, read_at, has_row, row_number_told_at, ruling_at, value_at, key_answer_at, key_answer_begins, stood_at, synced_at, scanned_at, pulled_at, based_at, got_at, values_at, got_many_at, got_keys_at, took_at, listed_at, missing_at, undecided_at, ended_at, decided_at, ruled_at, conflict_at, changed_at, why_named, failed_at, moved_at, unread_at, trimmed_at, ok_at, none_at, committed_at, conflicting_at, stamp_end_at, full_at, stopped_at, not_home_at, short_at, answer_at}
-use Rattle.report_reading.proofs.WordLemmas.{ends, number_again, small_again, byte_again, behind_word_is}
-use Rattle.report_reading.proofs.Joins.{join3, join4, join5, join6}
+use Rattle.report_reading.specs.Meant.{IsWord, IsSmall, IsKeyText, IsColour, IsAt, IsPoint, IsSync, AreRead, IsRuling, AreCounts}
+use Rattle.report_reading.specs.Pieces.{first_of, word_at, point_begins}
+use Rattle.report_reading.specs.AnswerReadings.{texts_at, points_at, has_row, row_number_told_at, ruling_at, value_at, stood_at, synced_at, scanned_at, pulled_at, based_at, got_at, values_at, got_many_at, took_at, listed_at, missing_at, undecided_at, moved_at, unread_at, trimmed_at}
+use Rattle.report_reading.proofs.WordLemmas.{ends, number_again, small_again}
 use Rattle.report_reading.proofs.PieceLemmas.{AreNamed, said_again, place_again, point_again, sync_again, counts_again}
-use Rattle.report_reading.proofs.ListAgain.{all_again, all_end, in_places, IsReadAgain}
-use Rattle.report_reading.proofs.AnswerLemmas.{key_letters, key_text_again, listed_again, listed_line, points_again, point_so, EndsRead, read_again}
+use Rattle.report_reading.proofs.ListAgain.{all_again, all_end, in_places}
+use Rattle.report_reading.proofs.AnswerLemmas.{key_text_again, listed_again, listed_line, points_again, point_so, EndsRead, read_again}
 
 -- a line feed ends a stamped read
 pub line_ends : (rest : List ℕ) → EndsRead (10 ∷ rest)

@@ -1,34 +1,28 @@
 -- Answers: what is printed is read again.
-use Rattle.std.proofs.Common.{◌≡◌, ℕ, zero, suc, ◌+◌, ◌^◌, ◌<◌, ◌≤◌, Bool, true, false, not, cond, eqb, ltb, List, [], ◌∷◌, ◌++◌, length, drop, Option, Some, None, refl, sym, ap, ◌∙◌, append_assoc, length-append, arith}
-use Rattle.std.specs.Prelude.{decimal, codes, IsTrue, IfSome}
+use Rattle.std.proofs.Common.{◌≡◌, ℕ, ◌<◌, true, false, eqb, List, [], ◌∷◌, ◌++◌, length, drop, Some, refl, ap, ◌∙◌, append_assoc, arith}
+use Rattle.std.specs.Prelude.{decimal}
 use Rattle.std.specs.List.{AllByRecursion, flat_map, list_all}
 use Rattle.std.proofs.lemmas.Bool.{and_parts}
 use Rattle.log_node.specs.declared.node.At.{At}
 use Rattle.log_node.specs.declared.node.At.TheVariants as places
-use Rattle.object_form.specs.declared.tree_why.TreeWhy.{TreeWhy}
-use Rattle.object_form.specs.declared.tree_why.TreeWhy.TheVariants as whys
 use Rattle.script_text.specs.declared.script.Script.{Script}
-use Rattle.script_text.specs.declared.commands.Word.{Word}
-use Rattle.script_text.specs.declared.commands.Word.TheVariants as words
-use Rattle.script_text.specs.Pieces.{is_letter_or_digit, is_between, is_key}
+use Rattle.script_text.specs.Pieces.{is_letter_or_digit, is_between}
 use Rattle.report_text.specs.declared.report.SyncPiece.{SyncPiece}
 use Rattle.report_text.specs.declared.report.RaisePiece.{RaisePiece}
 use Rattle.report_text.specs.declared.report.PointPiece.{PointPiece}
-use Rattle.report_text.specs.declared.report.KeyAnswer.{KeyAnswer}
 use Rattle.report_text.specs.declared.report.Report.{Report}
-use Rattle.report_text.specs.Names.{region_name, colour_name, client_name}
+use Rattle.report_text.specs.Names.{colour_name}
 use Rattle.report_text.specs.Pieces.{spaced, listed, at_text, point_text, raise_text, sync_text, counts_text}
-use Rattle.report_text.specs.Replies.{row_text, value_text, values_text, key_answer_text, read_text}
-use Rattle.report_reading.specs.declared.reads.Read.{Read}
+use Rattle.report_text.specs.Replies.{read_text}
 use Rattle.report_reading.specs.Known.{Known}
-use Rattle.report_reading.specs.Lists.{◌>>=◌, list_at, each_at}
-use Rattle.report_reading.specs.Meant.{IsWord, IsSmall, IsKeyText, IsColour, IsAt, IsRaise, IsPoint, IsSync, AreRead, IsKeyAnswer}
-use Rattle.report_reading.specs.Pieces.{first_of, word_at, number_at, named_at, place_at, raise_at, point_at, sync_at, behind_word, point_begins, behind_events, raise_begins, sync_begins}
-use Rattle.report_reading.specs.ColumnReadings.{listed_begins, behind_comma, behind_dash}
-use Rattle.report_reading.specs.AnswerReadings.{key_text_at, texts_at, points_at, raises_at, syncs_at, read_at, has_row, row_number_told_at, value_at, key_answer_at, key_answer_begins}
-use Rattle.report_reading.proofs.WordLemmas.{cons_on, ends, right_false, word_again, number_again, small_again, behind_word_is, word_front, letter_unlike}
-use Rattle.report_reading.proofs.PieceLemmas.{AreSaid, AreNamed, said_again, raise_again, point_again, sync_again, counts_again, place_ends}
-use Rattle.report_reading.proofs.ListAgain.{IsReadAgain, comma, listed_texts, each_again, all_again, all_end, in_places}
+use Rattle.report_reading.specs.Lists.{list_at}
+use Rattle.report_reading.specs.Meant.{IsKeyText, IsColour, IsAt, IsRaise, IsPoint, IsSync, AreRead}
+use Rattle.report_reading.specs.Pieces.{first_of, raise_at, point_at, sync_at, behind_word, point_begins, behind_events, raise_begins, sync_begins}
+use Rattle.report_reading.specs.ColumnReadings.{listed_begins, behind_comma}
+use Rattle.report_reading.specs.AnswerReadings.{key_text_at, texts_at, read_at}
+use Rattle.report_reading.proofs.WordLemmas.{cons_on, ends, right_false, word_again, number_again, behind_word_is, word_front}
+use Rattle.report_reading.proofs.PieceLemmas.{AreNamed, raise_again, point_again, sync_again}
+use Rattle.report_reading.proofs.ListAgain.{IsReadAgain, comma, listed_texts, each_again, all_again, in_places}
 use Rattle.report_reading.proofs.ColumnLemmas.{no_comma, comma_begins, comma_append, comma_some}
 
 -- a key is letters and digits, one at least

@@ -1,5 +1,5 @@
 -- The lines of columns: what is printed is read again.
-use Rattle.std.proofs.Common.{◌≡◌, ℕ, zero, suc, ◌+◌, ◌*◌, ◌/◌, ◌%◌, ◌^◌, ◌-◌, ◌<◌, ◌≤◌, Bool, true, false, not, cond, eqb, ltb, List, [], ◌∷◌, ◌++◌, length, drop, Option, Some, None, refl, sym, ap, ◌∙◌, append_assoc, length-append, arith}
+use Rattle.std.proofs.Common.{◌≡◌, ℕ, zero, suc, ◌+◌, ◌^◌, ◌-◌, ◌<◌, Bool, true, false, cond, eqb, ltb, List, [], ◌∷◌, ◌++◌, length, drop, Some, refl, ap, ◌∙◌, append_assoc, length-append, arith}
 use Rattle.std.specs.Prelude.{decimal, codes}
 use Rattle.std.specs.List.{AllByRecursion, flat_map, enumerate_from}
 use Rattle.std.proofs.Math.Bool.{or-true, and-false}
@@ -18,22 +18,19 @@ use Rattle.report_text.specs.declared.report.QueueKey.{QueueKey}
 use Rattle.report_text.specs.declared.report.ColumnReport.{ColumnReport}
 use Rattle.report_text.specs.declared.report.Report.{Report}
 use Rattle.report_text.specs.Names.{region_name, client_name}
-use Rattle.report_text.specs.Pieces.{line_end, spaced, listed, id_text, key_text, counts_text}
+use Rattle.report_text.specs.Pieces.{line_end, listed, id_text, key_text, counts_text}
 use Rattle.report_text.specs.Rows.{outcome_text}
 use Rattle.report_text.specs.Columns.{entering_text, head_text, event_text, journal_line, queue_key_text, closing_line, column_lines}
-use Rattle.report_reading.specs.declared.columns.Entering.{Entering}
-use Rattle.report_reading.specs.declared.columns.Closing.{Closing}
 use Rattle.report_reading.specs.Known.{Known}
-use Rattle.report_reading.specs.Lists.{◌>>=◌, list_at, each_at}
-use Rattle.report_reading.specs.Meant.{IsWord, IsKey, IsHead, Enters, IsEvent, IsEntry, IsColumn, AreCounts, AllFrom}
-use Rattle.report_reading.specs.Pieces.{first_of, number_at, named_at, id_at, key_at, counts_at}
-use Rattle.report_reading.specs.ColumnReadings.{head_at, heads_at, entering_at, unstamped, entered, settle_at, give_at, carry_at, event_at, entry_begins, entry_at, journal_at, listed_begins, behind_comma, behind_dash, queue_key_at, line_at, queue_at, closing_at, column_begins, behind_names, column_at}
-use Rattle.report_reading.specs.RowReadings.{outcome_at}
-use Rattle.report_reading.proofs.WordLemmas.{cons_on, nil_on, line_some, ends, number_again, decimal_front, decimal_some, word_front, letter_unlike}
-use Rattle.report_reading.proofs.PieceLemmas.{AreSaid, AreNamed, said_again, id_again, key_again, counts_again}
+use Rattle.report_reading.specs.Lists.{list_at}
+use Rattle.report_reading.specs.Meant.{IsWord, IsKey, IsHead, Enters, IsEvent, IsEntry, IsColumn, AllFrom}
+use Rattle.report_reading.specs.Pieces.{first_of, key_at}
+use Rattle.report_reading.specs.ColumnReadings.{head_at, entering_at, settle_at, give_at, carry_at, event_at, entry_begins, entry_at, journal_at, listed_begins, behind_comma, queue_key_at, line_at, queue_at, closing_at, behind_names, column_at}
+use Rattle.report_reading.proofs.WordLemmas.{cons_on, nil_on, line_some, ends, number_again, decimal_front, word_front, letter_unlike}
+use Rattle.report_reading.proofs.PieceLemmas.{AreNamed, said_again, id_again, key_again, counts_again}
 use Rattle.report_reading.proofs.RowLemmas.{outcome_again}
 use Rattle.report_reading.proofs.Joins.{join4, join6, join11}
-use Rattle.report_reading.proofs.ListAgain.{IsReadAgain, comma, listed_texts, texts, texts_placed, each_again, all_again, all_end, in_places}
+use Rattle.report_reading.proofs.ListAgain.{IsReadAgain, comma, listed_texts, texts_placed, each_again, all_again, all_end, in_places}
 
 head_again : (script : Script) (report : Report) (head : Head) (rest : List ℕ) → AreNamed script report → IsHead script head → ends rest ≡ true → head_at script (head_text report head ++ rest) ≡ (head, rest)
 unfolding head_at

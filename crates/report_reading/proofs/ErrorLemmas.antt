@@ -1,11 +1,11 @@
 -- Where columns are lacking, no report stands there.
-use Rattle.std.proofs.Common.{◌≡◌, ℕ, List, Some, None, refl}
+use Rattle.std.proofs.Common.{◌≡◌, ℕ, List, Some, refl}
 use Rattle.report_text.specs.declared.report.ClientReport.{ClientReport}
 use Rattle.report_text.specs.declared.report.RowReport.{RowReport}
 use Rattle.report_reading.specs.declared.fault.ReadFault.{ReadFault}
 use Rattle.report_reading.specs.declared.fault.ReadFault.TheVariants.{Memory, Form}
 use Rattle.report_reading.specs.Known.{Known}
-use Rattle.report_reading.specs.Lists.{◌>>=◌, Lacks, each_at}
+use Rattle.report_reading.specs.Lists.{Lacks, each_at}
 use Rattle.report_reading.specs.RowReadings.{row_begins, row_at}
 use Rattle.report_reading.specs.ColumnReadings.{column_begins, column_at}
 use Rattle.report_reading.specs.ReportReadings.{behind_clients_at}

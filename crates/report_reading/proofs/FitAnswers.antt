@@ -1,5 +1,5 @@
 -- What is read fits: answers.
-use Rattle.std.proofs.Common.{◌≡◌, ℕ, ◌^◌, ◌<◌, Bool, true, false, cond, eqb, List, [], ◌∷◌, length, drop, Option, Some, None, refl, arith}
+use Rattle.std.proofs.Common.{◌≡◌, ℕ, Bool, true, false, cond, eqb, List, drop, Option, Some, None, refl}
 use Rattle.std.specs.Prelude.{codes, IfSome}
 use Rattle.std.specs.List.{AllByRecursion}
 use Rattle.std.specs.Str.{bytes_eq}
@@ -8,21 +8,16 @@ use Rattle.script_text.specs.declared.script.Script.{Script}
 use Rattle.script_text.specs.declared.commands.Word.{Word}
 use Rattle.script_text.specs.declared.commands.Word.TheVariants as words
 use Rattle.script_text.specs.Pieces.{is_key}
-use Rattle.report_text.specs.declared.report.SyncPiece.{SyncPiece}
-use Rattle.report_text.specs.declared.report.RaisePiece.{RaisePiece}
-use Rattle.report_text.specs.declared.report.PointPiece.{PointPiece}
-use Rattle.report_text.specs.declared.report.KeyAnswer.{KeyAnswer}
 use Rattle.report_text.specs.declared.report.Ended.{Ended}
-use Rattle.report_text.specs.declared.report.Ended.TheVariants as endings
 use Rattle.report_text.specs.declared.report.Answer.{Answer}
 use Rattle.report_reading.specs.declared.reads.Read.{Read}
 use Rattle.report_reading.specs.declared.reads.Ruling.{Ruling}
 use Rattle.report_reading.specs.Apart.{AreApart}
 use Rattle.report_reading.specs.Known.{Known}
-use Rattle.report_reading.specs.Lists.{◌>>=◌, each_at}
-use Rattle.report_reading.specs.Meant.{IsWord, IsSmall, IsKeyText, IsRaise, IsPoint, IsSync, AreRead, IsKeyAnswer, IsRuling, IsEnded, IsAnswer}
-use Rattle.report_reading.specs.Pieces.{first_of, word_at, number_at, small_at, byte_at, named_at, counts_at, place_at, raise_at, point_at, sync_at, point_begins, raise_begins, sync_begins}
-use Rattle.report_reading.specs.ColumnReadings.{listed_begins, behind_comma, behind_dash}
+use Rattle.report_reading.specs.Lists.{each_at}
+use Rattle.report_reading.specs.Meant.{IsSmall, IsKeyText, IsRaise, IsPoint, IsSync, AreRead, IsKeyAnswer, IsRuling, IsEnded, IsAnswer}
+use Rattle.report_reading.specs.Pieces.{first_of, word_at, number_at, small_at, named_at, place_at, raise_at, point_at, sync_at, point_begins, raise_begins, sync_begins}
+use Rattle.report_reading.specs.ColumnReadings.{listed_begins, behind_comma}
 use Rattle.report_reading.specs.AnswerReadings.{key_text_at, texts_at, points_at, raises_at, syncs_at, read_at, has_row, row_number_told_at, ruling_at, value_at, key_answer_at, key_answer_begins, stood_at, synced_at, scanned_at, pulled_at, based_at, got_at, values_at, got_many_at, got_keys_at, took_at, listed_at, missing_at, undecided_at, ended_at, decided_at, ruled_at, conflict_at, changed_at, why_named, failed_at, moved_at, unread_at, trimmed_at, ok_at, none_at, committed_at, conflicting_at, stamp_end_at, full_at, stopped_at, not_home_at, short_at, answer_at}
 use Rattle.report_reading.proofs.FitLemmas.{number_fits, small_fits, byte_fits, named_fits, counts_fit, place_fits, raise_fits, point_fits, sync_fits}
 use Rattle.report_reading.proofs.ListAgain.{Fits, fits_then}

@@ -1,32 +1,25 @@
 -- What is read fits: lists, rows, columns and answers.
-use Rattle.std.proofs.Common.{◌≡◌, ℕ, zero, suc, ◌+◌, ◌*◌, ◌-◌, ◌/◌, ◌%◌, ◌^◌, ◌<◌, ◌≤◌, Bool, true, false, not, cond, eqb, ltb, List, [], ◌∷◌, length, take, drop, Option, Some, None, refl, sym, ap, ◌∙◌, arith, inl, inr}
-use Rattle.std.specs.Prelude.{codes, IfSome}
-use Rattle.std.specs.List.{AllByRecursion, flat_map}
-use Rattle.std.specs.Str.{bytes_eq}
-use Rattle.std.proofs.lemmas.Bool.{cases_Bool, and_parts, ltb-true}
-use Rattle.log_node.specs.declared.ids.Key.{Key}
-use Rattle.log_node.specs.declared.node.Head.{Head}
+use Rattle.std.proofs.Common.{ℕ, suc, ◌+◌, ◌-◌, ◌/◌, ◌%◌, ◌^◌, ◌<◌, ◌≤◌, Bool, true, false, cond, eqb, ltb, List, [], ◌∷◌, length, drop, Option, Some, None, refl, arith}
+use Rattle.std.specs.List.{AllByRecursion}
+use Rattle.std.proofs.lemmas.Bool.{and_parts, ltb-true}
 use Rattle.log_node.specs.declared.marks.Mark.{Mark}
 use Rattle.log_node.specs.declared.marks.Mark.TheVariants as marks
-use Rattle.log_node.specs.declared.marks.ColourMark.{ColourMark}
 use Rattle.log_node.specs.declared.marks.Outcome.{Outcome}
 use Rattle.log_node.specs.declared.marks.Outcome.TheVariants.{Open, Gone, Final}
 use Rattle.col_core.specs.declared.Event.{Event}
 use Rattle.col_core.specs.declared.Entry.{Entry}
 use Rattle.script_text.specs.declared.script.Script.{Script}
-use Rattle.script_text.specs.Pieces.{is_digit, is_key, name_of}
+use Rattle.script_text.specs.Pieces.{is_digit, name_of}
 use Rattle.report_text.specs.declared.report.QueueKey.{QueueKey}
-use Rattle.report_text.specs.declared.report.ColumnReport.{ColumnReport}
-use Rattle.report_text.specs.declared.report.RowReport.{RowReport}
 use Rattle.report_reading.specs.declared.columns.Entering.{Entering}
 use Rattle.report_reading.specs.declared.columns.Closing.{Closing}
 use Rattle.report_reading.specs.Apart.{AreApart}
 use Rattle.report_reading.specs.Known.{Known}
-use Rattle.report_reading.specs.Lists.{◌>>=◌, list_at, each_at}
-use Rattle.report_reading.specs.Meant.{IsWord, IsSmall, IsKeyText, IsColour, IsId, IsKey, AreCounts, IsAt, IsRaise, IsPoint, IsSync, IsMark, IsColourMark, IsOutcome, IsRow, IsHead, Enters, IsEvent, IsEntry, IsColumn, AllFrom}
-use Rattle.report_reading.specs.Pieces.{first_of, word_at, number_at, small_at, named_at, id_at, key_at, counts_at}
+use Rattle.report_reading.specs.Lists.{each_at}
+use Rattle.report_reading.specs.Meant.{IsWord, IsKey, AreCounts, IsMark, IsColourMark, IsOutcome, IsRow, IsHead, Enters, IsEvent, IsEntry, IsColumn, AllFrom}
+use Rattle.report_reading.specs.Pieces.{first_of, number_at, small_at, named_at, id_at, key_at, counts_at}
 use Rattle.report_reading.specs.RowReadings.{why_at, mark_at, mark_begins, colour_mark_at, outcome_at, row_number_at, marks_at, row_at}
-use Rattle.report_reading.specs.ColumnReadings.{head_at, heads_at, entering_at, unstamped, entered, settle_at, give_at, carry_at, event_at, entry_begins, entry_at, journal_at, listed_begins, behind_comma, behind_dash, queue_key_at, line_at, queue_at, closing_at, column_begins, behind_names, column_at}
+use Rattle.report_reading.specs.ColumnReadings.{head_at, heads_at, entering_at, entered, settle_at, give_at, carry_at, event_at, entry_begins, entry_at, journal_at, listed_begins, behind_comma, queue_key_at, line_at, queue_at, closing_at, behind_names, column_at}
 use Rattle.report_reading.proofs.FitLemmas.{number_fits, small_fits, named_fits, id_fits, key_fits, counts_fit}
 use Rattle.report_reading.proofs.ListAgain.{Fits, fits_then, each_fits, of_places}
 

@@ -1,5 +1,5 @@
 -- The names of a script are those that a report of it has.
-use Rattle.std.proofs.Common.{◌≡◌, ℕ, zero, suc, ◌+◌, ◌*◌, ◌-◌, ◌/◌, ◌%◌, ◌<◌, ◌≤◌, Bool, true, false, cond, eqb, ltb, ◌&&◌, ◌||◌, List, [], ◌∷◌, length, Option, Some, None, slice_get, add-mul, refl, sym, ap, ◌∙◌, arith, inl, inr}
+use Rattle.std.proofs.Common.{◌≡◌, ℕ, zero, suc, ◌+◌, ◌*◌, ◌-◌, ◌/◌, ◌%◌, ◌<◌, ◌≤◌, Bool, true, cond, eqb, ltb, ◌&&◌, List, [], ◌∷◌, length, slice_get, add-mul, refl, sym, ap, ◌∙◌, arith, inl, inr}
 use Rattle.std.specs.List.{list_all, count_by}
 use Rattle.std.proofs.lemmas.Bool.{cases_Bool, and_parts, or_left, eq-eqb, eqb-true, eqb-false}
 use Rattle.std.proofs.lemmas.List.Sums.{sum_by-cons}
@@ -10,7 +10,7 @@ use Rattle.script_text.specs.Pieces.{is_letter, is_digit, is_letter_or_digit, is
 use Rattle.report_text.specs.declared.report.ClientReport.{ClientReport}
 use Rattle.report_text.specs.declared.report.ColumnReport.{ColumnReport}
 use Rattle.report_text.specs.declared.report.Report.{Report}
-use Rattle.report_text.specs.Names.{name_among, name_of_client, client_name, colour_name, region_name, region_count}
+use Rattle.report_text.specs.Names.{name_among, name_of_client, client_name, colour_name, region_name}
 use Rattle.report_reading.specs.Apart.{AreNames, AreApart}
 use Rattle.report_reading.specs.Meant.{IsClientReport, IsColumn, IsReportOf, AllFrom}
 use Rattle.report_reading.proofs.PieceLemmas.{AreSaid, AreNamed}

@@ -1,5 +1,5 @@
 -- The pieces of lines: what is printed is read again.
-use Rattle.std.proofs.Common.{◌≡◌, ℕ, zero, suc, ◌+◌, ◌^◌, ◌<◌, ◌≤◌, Bool, true, false, ltb, List, [], ◌∷◌, ◌++◌, length, map, refl, sym, ap, ◌∙◌, append_assoc, arith}
+use Rattle.std.proofs.Common.{◌≡◌, ℕ, zero, suc, ◌^◌, ◌<◌, ◌≤◌, true, List, [], ◌∷◌, ◌++◌, length, map, refl, ap, ◌∙◌, append_assoc, arith}
 use Rattle.std.specs.Prelude.{decimal}
 use Rattle.std.specs.List.{list_all, range_with_len, join_with_byte}
 use Rattle.log_node.specs.declared.ids.Id.{Id}
@@ -16,9 +16,9 @@ use Rattle.report_text.specs.declared.report.PointPiece.{PointPiece}
 use Rattle.report_text.specs.declared.report.Report.{Report}
 use Rattle.report_text.specs.Names.{client_name, colour_name, region_name, region_count}
 use Rattle.report_text.specs.Pieces.{id_text, key_text, counts_text, at_text, point_text, raise_text, sync_text}
-use Rattle.report_reading.specs.Meant.{IsWord, IsId, IsKey, AreCounts, IsAt, IsRaise, IsPoint, IsSync}
-use Rattle.report_reading.specs.Pieces.{number_at, named_at, id_at, key_at, further_at, numbers_at, counts_at, place_at, raise_at, point_at, sync_at}
-use Rattle.report_reading.proofs.WordLemmas.{cons_on, ends, word_again, number_again, Differ, named_again}
+use Rattle.report_reading.specs.Meant.{IsId, IsKey, AreCounts, IsAt, IsRaise, IsPoint, IsSync}
+use Rattle.report_reading.specs.Pieces.{named_at, id_at, key_at, further_at, numbers_at, counts_at, place_at, raise_at, point_at, sync_at}
+use Rattle.report_reading.proofs.WordLemmas.{cons_on, ends, number_again, Differ, named_again}
 
 -- names of one kind, which a report has under the same numbers
 pub record AreSaid (names : List (List ℕ)) (said : ℕ → List ℕ) : Type 0 where

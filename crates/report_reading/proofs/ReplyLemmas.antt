@@ -1,17 +1,15 @@
 -- The replies of clients: what is printed is read again.
-use Rattle.std.proofs.Common.{◌≡◌, ℕ, zero, suc, ◌+◌, ◌^◌, ◌<◌, ◌≤◌, Bool, true, false, eqb, ltb, ◌&&◌, List, [], ◌∷◌, ◌++◌, length, take, drop, Option, Some, None, refl, sym, ap, ◌∙◌, append_assoc, length-append, arith}
+use Rattle.std.proofs.Common.{◌≡◌, ℕ, suc, ◌<◌, true, false, eqb, List, [], ◌∷◌, ◌++◌, length, Some, refl, sym, ap, ◌∙◌, length-append, arith}
 use Rattle.std.specs.Prelude.{decimal, codes}
-use Rattle.std.specs.List.{AllByRecursion, flat_map, list_all}
+use Rattle.std.specs.List.{flat_map, list_all}
 use Rattle.std.proofs.lemmas.Bool.{and_parts, leb-true, false_from_ne_true, eqb-true, lt-ltb}
 use Rattle.std.proofs.lemmas.List.{take_at, drop_at}
 use Rattle.log_node.specs.declared.ids.Counts.{Counts}
 use Rattle.log_node.specs.declared.node.Node.{Node}
 use Rattle.log_node.specs.Seen.{PlacedNode}
-use Rattle.log_node.specs.Vectors.{zeros}
 use Rattle.script_text.specs.declared.commands.Word.{Word}
 use Rattle.script_text.specs.declared.commands.Word.TheVariants as words
-use Rattle.script_text.specs.declared.script.Script.{Script}
-use Rattle.script_text.specs.Pieces.{is_between, is_digit, is_letter_or_digit, is_text, name_of}
+use Rattle.script_text.specs.Pieces.{is_between, is_digit, is_letter_or_digit, is_text}
 use Rattle.script_text.specs.Words.{word_text}
 use Rattle.report_text.specs.declared.report.ReplyLine.{ReplyLine}
 use Rattle.report_text.specs.declared.report.ClientReport.{ClientReport}
@@ -19,14 +17,13 @@ use Rattle.report_text.specs.declared.report.Report.{Report}
 use Rattle.report_text.specs.Pieces.{line_end, id_text}
 use Rattle.report_text.specs.Replies.{answer_text, node_line, reply_lines, client_lines}
 use Rattle.report_reading.specs.Known.{Known, known_of, is_many}
-use Rattle.report_reading.specs.Lists.{◌>>=◌, each_at}
-use Rattle.report_reading.specs.Meant.{IsSmall, IsShown, IsReply, IsClientReport, bare_node, AllFrom}
-use Rattle.report_reading.specs.Pieces.{first_of, word_at, small_at}
-use Rattle.report_reading.specs.ReplyReadings.{line_len, text_at, shown_at, nodes_at, word_named, fitting_answer_at, reply_at, replies_at, client_begins, client_at}
-use Rattle.report_reading.proofs.WordLemmas.{ends, word_again, number_again, small_again, decimal_front, digit_unlike}
+use Rattle.report_reading.specs.Meant.{IsSmall, IsShown, IsReply, IsClientReport, bare_node}
+use Rattle.report_reading.specs.Pieces.{first_of}
+use Rattle.report_reading.specs.ReplyReadings.{line_len, text_at, shown_at, word_named, fitting_answer_at, reply_at, client_begins, client_at}
+use Rattle.report_reading.proofs.WordLemmas.{word_again, number_again, small_again, decimal_front, digit_unlike}
 use Rattle.report_reading.proofs.Joins.{join4, join5}
 use Rattle.report_reading.proofs.PieceLemmas.{AreNamed, id_again}
-use Rattle.report_reading.proofs.ListAgain.{IsReadAgain, all_again, all_end, in_places}
+use Rattle.report_reading.proofs.ListAgain.{IsReadAgain, all_again, in_places}
 use Rattle.report_reading.proofs.AnswerLaw.{answer_again}
 
 -- ---- nodes

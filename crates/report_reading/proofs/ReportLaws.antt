@@ -1,17 +1,15 @@
 -- What is read is a report of the script, and its text is the bytes.
-use Rattle.std.proofs.Common.{◌≡◌, ℕ, suc, ◌*◌, ◌^◌, ◌<◌, ◌≤◌, Bool, true, false, cond, eqb, ◌&&◌, List, [], ◌∷◌, length, take, drop, Option, Some, None, refl, sym, ap, ◌∙◌, inl, inr}
+use Rattle.std.proofs.Common.{◌≡◌, ℕ, ◌*◌, ◌≤◌, Bool, true, false, cond, eqb, ◌&&◌, List, length, take, drop, Option, Some, None, refl, sym, ap, ◌∙◌}
 use Rattle.std.specs.Prelude.{IfSome}
 use Rattle.std.specs.List.{AllByRecursion}
 use Rattle.std.specs.Str.{bytes_eq}
-use Rattle.std.proofs.lemmas.Bool.{cases_Bool, and_parts, eqb-true}
+use Rattle.std.proofs.lemmas.Bool.{and_parts, eqb-true}
 use Rattle.std.proofs.lemmas.Slice.Eq.{bytes_eq-Decides}
-use Rattle.log_node.specs.Seen.{PlacedNode}
 use Rattle.script_text.specs.declared.script.Script.{Script}
 use Rattle.script_text.specs.declared.commands.Word.{Word}
 use Rattle.script_text.specs.Pieces.{is_digit, is_text, name_of}
 use Rattle.report_text.specs.declared.report.Answer.{Answer}
 use Rattle.report_text.specs.declared.report.Report.{Report}
-use Rattle.report_text.specs.declared.report.RowReport.{RowReport}
 use Rattle.report_text.specs.ReportText.{report_bytes}
 use Rattle.report_reading.specs.Apart.{AreApart}
 use Rattle.report_reading.specs.Answers.{has_answer}
@@ -26,7 +24,7 @@ use Rattle.report_reading.specs.ReplyReadings.{line_len, text_at, shown_at, node
 use Rattle.report_reading.specs.ReportReadings.{known_in, behind_clients_at, candidate_at, has_all, report_at}
 use Rattle.report_reading.proofs.FitLemmas.{number_fits, small_fits, id_fits}
 use Rattle.report_reading.proofs.ListAgain.{Fits, fits_then, each_fits}
-use Rattle.report_reading.proofs.FitLaws.{fits_map, all_fits, row_fits, column_fits}
+use Rattle.report_reading.proofs.FitLaws.{all_fits, row_fits, column_fits}
 use Rattle.report_reading.proofs.FitAnswers.{answer_fits}
 use Rattle.report_reading.proofs.ReportLemmas.{report_again}
 

@@ -1,12 +1,10 @@
 -- A whole report: what is printed is read again.
-use Rattle.std.proofs.Common.{◌≡◌, ℕ, zero, suc, ◌+◌, ◌*◌, ◌^◌, ◌<◌, ◌≤◌, Bool, true, false, eqb, ltb, List, [], ◌∷◌, ◌++◌, length, drop, Option, Some, None, refl, sym, ap, subst, ◌∙◌, append_assoc, append-nil, arith}
+use Rattle.std.proofs.Common.{◌≡◌, ℕ, suc, ◌+◌, ◌*◌, ◌<◌, false, List, [], ◌∷◌, ◌++◌, length, Option, Some, refl, sym, ap, ◌∙◌, append-nil, arith}
 use Rattle.std.specs.Prelude.{decimal, codes}
-use Rattle.std.specs.List.{AllByRecursion, flat_map}
-use Rattle.std.specs.Str.{bytes_eq}
+use Rattle.std.specs.List.{flat_map}
 use Rattle.std.proofs.lemmas.Bool.{lt-ltb, le-ltb, eq-eqb}
 use Rattle.std.proofs.lemmas.Slice.Eq.{bytes_eq-Decides}
 use Rattle.script_text.specs.declared.script.Script.{Script}
-use Rattle.report_text.specs.declared.report.ClientReport.{ClientReport}
 use Rattle.report_text.specs.declared.report.ColumnReport.{ColumnReport}
 use Rattle.report_text.specs.declared.report.RowReport.{RowReport}
 use Rattle.report_text.specs.declared.report.Report.{Report}
@@ -17,11 +15,9 @@ use Rattle.report_text.specs.Columns.{column_lines}
 use Rattle.report_text.specs.ReportText.{version_line, report_bytes}
 use Rattle.report_reading.specs.Apart.{AreApart}
 use Rattle.report_reading.specs.Known.{Known}
-use Rattle.report_reading.specs.Lists.{◌>>=◌, each_at}
 use Rattle.report_reading.specs.Meant.{IsRow, IsColumn, IsClientReport, IsReportOf, AllFrom}
 use Rattle.report_reading.specs.RowReadings.{row_begins, row_at}
 use Rattle.report_reading.specs.ColumnReadings.{column_begins, column_at}
-use Rattle.report_reading.specs.ReplyReadings.{client_begins, client_at}
 use Rattle.report_reading.specs.ReportReadings.{known_in, behind_clients_at, candidate_at, report_at}
 use Rattle.report_reading.proofs.WordLemmas.{number_again}
 use Rattle.report_reading.proofs.Joins.{join3, join4}

@@ -1,5 +1,5 @@
 -- The lines of rows: what is printed is read again, and what is read fits.
-use Rattle.std.proofs.Common.{◌≡◌, ℕ, ◌+◌, ◌^◌, ◌<◌, Bool, true, false, cond, eqb, List, [], ◌∷◌, ◌++◌, length, drop, Option, Some, None, refl, sym, ap, ◌∙◌, append_assoc, length-append, arith, lit<}
+use Rattle.std.proofs.Common.{◌≡◌, ℕ, true, false, eqb, List, ◌∷◌, ◌++◌, drop, Some, refl, ap, ◌∙◌, append_assoc, arith}
 use Rattle.std.specs.Prelude.{decimal, codes}
 use Rattle.std.specs.List.{flat_map}
 use Rattle.log_node.specs.declared.ids.Row.{Row}
@@ -11,19 +11,17 @@ use Rattle.log_node.specs.declared.marks.ColourMark.{ColourMark}
 use Rattle.log_node.specs.declared.marks.Outcome.{Outcome}
 use Rattle.log_node.specs.declared.marks.Outcome.TheVariants.{Open, Gone, Final}
 use Rattle.script_text.specs.declared.script.Script.{Script}
-use Rattle.script_text.specs.Pieces.{is_digit}
 use Rattle.report_text.specs.declared.report.RowReport.{RowReport}
 use Rattle.report_text.specs.declared.report.Report.{Report}
 use Rattle.report_text.specs.Names.{region_name, colour_name, client_name}
-use Rattle.report_text.specs.Pieces.{line_end, spaced, id_text}
+use Rattle.report_text.specs.Pieces.{line_end, id_text}
 use Rattle.report_text.specs.Rows.{why_text, mark_text, colour_mark_text, outcome_text, row_number_text, row_line}
 use Rattle.report_reading.specs.Known.{Known}
-use Rattle.report_reading.specs.Lists.{◌>>=◌, each_at}
 use Rattle.report_reading.specs.Meant.{IsSmall, IsClient, IsMark, IsColourMark, IsOutcome, IsRow}
-use Rattle.report_reading.specs.Pieces.{word_at, number_at, named_at}
-use Rattle.report_reading.specs.RowReadings.{why_at, mark_at, mark_begins, colour_mark_at, outcome_at, row_number_at, marks_at, row_begins, row_at}
-use Rattle.report_reading.proofs.WordLemmas.{ends, word_again, number_again, small_again, decimal_front, digit_unlike, behind_word_is}
-use Rattle.report_reading.proofs.PieceLemmas.{AreSaid, AreNamed, said_again, id_again}
+use Rattle.report_reading.specs.Pieces.{word_at}
+use Rattle.report_reading.specs.RowReadings.{why_at, mark_at, mark_begins, colour_mark_at, outcome_at, row_number_at, row_at}
+use Rattle.report_reading.proofs.WordLemmas.{ends, number_again, small_again, decimal_front, digit_unlike, behind_word_is}
+use Rattle.report_reading.proofs.PieceLemmas.{AreNamed, said_again, id_again}
 use Rattle.report_reading.proofs.Joins.{join7}
 use Rattle.report_reading.proofs.ListAgain.{IsReadAgain, all_end, all_again, in_places}
 

@@ -1,5 +1,5 @@
 -- Answers as they are read, by their first word and by the word of the command.
-use Rattle.std.specs.Prelude.{Bool, true, false, ℕ, ◌==◌, ◌&&◌, not, List, [], ◌∷◌, drop, Option, Some, None, codes, if◌then◌else◌}
+use Rattle.std.specs.Prelude.{Bool, true, false, ℕ, ◌==◌, ◌&&◌, not, List, [], drop, Option, Some, None, codes, if◌then◌else◌}
 use Rattle.std.specs.Str.{bytes_eq}
 use Rattle.object_form.specs.declared.tree_why.TreeWhy.{TreeWhy}
 use Rattle.object_form.specs.declared.tree_why.TreeWhy.TheVariants as whys

@@ -1,7 +1,6 @@
 -- The replies of clients as they are read, and the nodes that they show.
-use Rattle.std.specs.Prelude.{Bool, ℕ, zero, suc, ◌==◌, nat_lt, List, [], ◌∷◌, length, take, drop, Option, Some, None, codes, if◌then◌else◌}
+use Rattle.std.specs.Prelude.{Bool, ℕ, suc, ◌==◌, nat_lt, List, [], ◌∷◌, length, take, drop, Option, Some, None, codes, if◌then◌else◌}
 use Rattle.std.specs.Str.{bytes_eq}
-use Rattle.log_node.specs.declared.ids.Key.{Key}
 use Rattle.log_node.specs.Seen.{PlacedNode}
 use Rattle.log_node.specs.Vectors.{zeros}
 use Rattle.script_text.specs.declared.commands.Word.{Word}

@@ -1,5 +1,5 @@
 -- The line of a begun row as it is read.
-use Rattle.std.specs.Prelude.{Bool, ℕ, ◌==◌, List, drop, Option, Some, None, if◌then◌else◌}
+use Rattle.std.specs.Prelude.{Bool, ℕ, ◌==◌, List, drop, Option, Some, if◌then◌else◌}
 use Rattle.log_node.specs.declared.ids.Row.{Row}
 use Rattle.log_node.specs.declared.marks.Why.{Why}
 use Rattle.log_node.specs.declared.marks.Why.TheVariants.{Memory, StampEnd}

@@ -1,6 +1,5 @@
 use Rattle.std.proofs.Common.{◌≡◌, ◌++◌, ◌∷◌, [], ◌∙◌, sym, length}
 use Rattle.std.proofs.lemmas.Result.{err_from_is_err_and}
-use Rattle.report_reading.specs.Lists.{each_at}
 use Rattle.report_reading.proofs.ListLemmas.{goes_on, ends, is_full, is_over}
 use Rattle.report_reading.proofs.lists.list.Goals as goal
 use Rattle.report_reading.proofs.lists.list.Goals.{then-loop-place-test+else-begins, else-loop-place-test}
