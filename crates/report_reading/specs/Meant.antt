@@ -50,13 +50,15 @@ IsSmall n = n < 2 ^ 32
 abbrev pub IsKeyText : List ℕ → Type 0
 IsKeyText text = IsTrue (is_key text)
 
--- the number of a client, of a colour, of a region
+-- the number of a client
 abbrev pub IsClient : Script → ℕ → Type 0
 IsClient script n = n < length script.clients
 
+-- of a colour
 abbrev pub IsColour : Script → ℕ → Type 0
 IsColour script n = n < length script.colours
 
+-- of a region
 abbrev pub IsRegion : Script → ℕ → Type 0
 IsRegion script n = n < length script.regions
 
@@ -65,6 +67,7 @@ pub record IsId (script : Script) (id : Id) : Type 0 where
   pub client : IsClient script id.client
   pub count : IsWord id.count
 
+-- the same of a key
 pub record IsKey (script : Script) (key : Key) : Type 0 where
   pub id : IsId script key.id
   pub stamp : IsWord key.stamp
@@ -75,38 +78,46 @@ pub record AreCounts (script : Script) (counts : Counts) : Type 0 where
   pub small : (region : ℕ) → IsWord (at counts region)
   pub beyond : (region : ℕ) → length script.regions ≤ region → at counts region ≡ 0
 
+-- a place, or a number of events, of 64 bits
 abbrev pub IsAt : At → Type 0
 IsAt (places.Event place) = IsWord place
 IsAt (places.Look events) = IsWord events
 
+-- a raise of one of the script's colours
 pub record IsRaise (script : Script) (raise : RaisePiece) : Type 0 where
   pub colour : IsColour script raise.colour
   pub place : IsAt raise.at
 
+-- where an append stands in one of them
 pub record IsPoint (script : Script) (point : PointPiece) : Type 0 where
   pub colour : IsColour script point.colour
   pub place : IsAt point.at
   pub position : IsWord point.position
 
+-- a sync of one of them
 pub record IsSync (script : Script) (sync : SyncPiece) : Type 0 where
   pub colour : IsColour script sync.colour
   pub events : IsWord sync.events
   pub counts : AreCounts script sync.counts
 
+-- a mark, of 64 bits where it is a stamp
 abbrev pub IsMark : Mark → Type 0
 IsMark (marks.Number stamp) = IsWord stamp
 IsMark _ = Unit {0}
 
+-- the mark of one of them
 pub record IsColourMark (script : Script) (m : ColourMark) : Type 0 where
   pub colour : IsColour script m.colour
   pub mark : IsMark m.mark
 
+-- an outcome, with a stamp of 64 bits
 abbrev pub IsOutcome : Outcome → Type 0
 IsOutcome (Final stamp) = IsWord stamp
 IsOutcome _ = Unit {0}
 
 -- ---- rows
 
+-- a begun row
 pub record IsRow (script : Script) (r : RowReport) : Type 0 where
   pub region : IsRegion script r.region
   pub client : IsClient script r.row.client
@@ -117,6 +128,7 @@ pub record IsRow (script : Script) (r : RowReport) : Type 0 where
 
 -- ---- columns
 
+-- a node that is carried
 pub record IsHead (script : Script) (head : Head) : Type 0 where
   pub key : IsKey script head.key
   pub needs : AreCounts script head.needs
@@ -139,6 +151,7 @@ IsEvent script (events.Carry region start heads) stamp =
     IsRegion script region × IsWord start × AllByRecursion (IsHead script) heads × (stamp ≡ 0)
 IsEvent script (events.Trim counts) stamp = AreCounts script counts × (stamp ≡ 0)
 
+-- an entry of a journal
 pub record IsEntry (script : Script) (entry : Entry) : Type 0 where
   pub by : IsClient script entry.by
   pub event : IsEvent script entry.event entry.stamp
@@ -164,6 +177,7 @@ pub record AreRead (script : Script) (read : List RaisePiece × List SyncPiece) 
   pub raises : AllByRecursion (IsRaise script) read.0
   pub syncs : AllByRecursion (IsSync script) read.1
 
+-- what a read says of a key
 pub record IsKeyAnswer (answer : KeyAnswer) : Type 0 where
   pub key : IsKeyText answer.key
   pub value : IfSome answer.value IsKeyText
@@ -176,6 +190,7 @@ pub record IsRuling (script : Script) (own : ℕ) (begun : Option ℕ) (places :
   pub read_stamp : IsWord last
   pub read : AreRead script reads
 
+-- how the append of a decision ended
 abbrev pub IsEnded : Script → Ended → Type 0
 IsEnded script (endings.Stood stamp point) = IsWord stamp × IsPoint script point
 IsEnded script (endings.StampEnd colour) = IsColour script colour
