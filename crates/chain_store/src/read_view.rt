@@ -1,0 +1,2 @@
+// A published copy of a column: looks that wait for nobody.
+pub(crate) mod shown;
