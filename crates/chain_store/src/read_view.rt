@@ -1,4 +1,5 @@
 // A published copy of a column: looks that wait for nobody.
+mod absorb;
 pub(crate) mod copied;
 pub(crate) mod copies;
 pub(crate) mod desk;
