@@ -14,13 +14,18 @@ impl Absorb<News> for Copied {
     ghost applied = { with_news };
 
     fn absorb_first(&mut self, operation: &News, _other: &Copied) -> Result<(), AllocError> {
-        match operation.first.moved() {
-            Some(rest) => {
-                self.shown.add_shared(&operation.view)?;
+        let Some(rest) = operation.first.moved() else {
+            return Err(AllocError);
+        };
+        match self.shown.add_shared(&operation.view) {
+            Ok(()) => {
                 self.rest = rest;
                 Ok(())
             }
-            None => Err(AllocError),
+            Err(_) => {
+                operation.first.take_back(rest);
+                Err(AllocError)
+            }
         }
     }
 

@@ -1,7 +1,5 @@
 // The writer of a column's copies, under turns of its own.
-ghost use Rattle.std.specs.Prelude.{IfSome};
 ghost use Rattle.chain_store.specs.Copies.{IsAside};
-ghost use Rattle.chain_store.specs.Shelves.{IsKeptOn};
 
 use crate::read_view::name::ColumnName;
 use crate::read_view::shelf::Shelf;
@@ -17,7 +15,6 @@ pub struct Copies {
     pub(crate) cut: Counts,
     pub(crate) shelf: Option<Shelf>,
     ghost aside: { IsAside pass },
-    ghost kept: { IfSome shelf (λ s. IsKeptOn s pass cut) },
 }
 
 impl HasHistory for Copies {
@@ -26,9 +23,9 @@ impl HasHistory for Copies {
     type Tag = ColumnName;
 
     ghost use Rattle.std.specs.Prelude.{None};
-    ghost use Rattle.chain_store.specs.Desks.{StandsAlone, column_copied};
+    ghost use Rattle.chain_store.specs.Desks.{StandsCopied, column_copied};
 
-    ghost stands = { StandsAlone };
+    ghost stands = { StandsCopied };
 
     ghost by = { λ _. 0 };
 
