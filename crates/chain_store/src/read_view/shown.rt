@@ -156,8 +156,8 @@ fn move_each(chains: &mut [Chain; 4], old: Counts, base: Counts, more: Chains)
     chains[3].move_on(between(old, base, 3), fourth);
 }
 
-// A view once more, with the same nodes.
-fn shared(alloc: Global, view: &View) -> Result<View, AllocError>
+/// A view once more, with the same nodes.
+pub(crate) fn shared(alloc: Global, view: &View) -> Result<View, AllocError>
     ensures { IfOk result (λ copy. copy ≡ view.now) }
 {
     let items = shared_chains(alloc, view.items.as_slice())?;
