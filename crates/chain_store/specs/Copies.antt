@@ -1,8 +1,6 @@
 -- Copies of a column: what they show, of which column they are, and what their writer keeps.
-use Rattle.std.specs.Prelude.{◌≡◌, ℕ, List, fold, drop, Option, Some}
+use Rattle.std.specs.Prelude.{◌≡◌, List, [], fold, Some}
 use mathlib.Core.List.{IsPrefix}
-use Rattle.core.specs.Mem.{manually_drop_value}
-use Rattle.left_right.specs.Sides.{view}
 use Rattle.log_node.specs.declared.ids.Counts.{Counts}
 use Rattle.log_node.specs.Vectors.{zeros}
 use Rattle.col_core.specs.declared.view.View.{View}
@@ -16,8 +14,6 @@ use Rattle.chain_store.specs.declared.read_view.name.ColumnName.{ColumnName}
 use Rattle.chain_store.specs.declared.read_view.name.Shape.{Shape}
 use Rattle.chain_store.specs.declared.read_view.copied.Copied.{Copied}
 use Rattle.chain_store.specs.declared.read_view.copied.News.{News}
-use Rattle.chain_store.specs.declared.read_view.rule.ViewWriter.{ViewWriter}
-use Rattle.chain_store.specs.declared.read_view.shelf.Shelf.{Shelf}
 use Rattle.chain_store.specs.Histories.{HasIds}
 use Rattle.chain_store.specs.Passes.{ColumnCell, ColumnPass, IsLawfulTold, ShowsHistory, tag_in}
 use Rattle.chain_store.specs.Shown.{shown_view, merged}
@@ -65,14 +61,6 @@ pub record IsKept (shown : Copied) (pending : List News) (p : ColumnPass) (cut :
   pub shown_of : column_of_rest shown.rest ≡ column_of p
   pub seen_by : IsPrefix (shape_with shown pending).seen (seen p)
   pub cut_is : (shape_with shown pending).view.cut ≡ cut
-
--- a writer of such copies, that knows the column
-pub record IsWriterOf (w : ViewWriter) (p : ColumnPass) (cut : Counts) : Type 0 where
-  pub kept : IsKept w.desk.shown.value (drop w.behind w.log.items) p cut
-  pub knows : view w.desk.place ≡ Some (column_of p)
-
-abbrev pub IsKeptOn : Shelf → ColumnPass → Counts → Type 0
-IsKeptOn s p cut = IsWriterOf (manually_drop_value s.writer) p cut
 
 -- News from this cut on that show what the pass has seen, of its column.
 pub record IsNews (n : News) (p : ColumnPass) (cut : Counts) : Type 0 where

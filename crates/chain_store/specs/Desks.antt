@@ -8,14 +8,19 @@ use Rattle.chain_store.specs.declared.read_view.desk.Share.{Share}
 use Rattle.chain_store.specs.declared.read_view.desk.Desk.{Desk}
 use Rattle.chain_store.specs.Passes.{ColumnCell}
 use Rattle.chain_store.specs.Copies.{column_of, column_in}
+use Rattle.chain_store.specs.Shelves.{IsKeptOn}
 
 -- the column of which they are copies
 abbrev pub column_copied : Copies → ColumnName
 column_copied c = column_of c.pass
 
--- they are a value without a history
-abbrev pub StandsAlone : Copies → List (Unit {0}) → Type 0
-StandsAlone c log = log ≡ []
+-- where there are copies, their writer keeps them
+abbrev pub AreKept : Copies → Type 0
+AreKept c = IfSome c.shelf (λ s. IsKeptOn s c.pass c.cut)
+
+-- they are a value without a history, of which each turn knows so much
+abbrev pub StandsCopied : Copies → List (Unit {0}) → Type 0
+StandsCopied c log = (log ≡ []) × AreKept c
 
 -- the copies are of the column under these turns
 abbrev pub IsShareOf : ColumnCell → Share → Type 0

@@ -1,9 +1,11 @@
 -- Views of a column: from its base on, with more added, and in part.
-use Rattle.std.specs.Prelude.{◌≡◌, ℕ, ◌-◌, List, ◌++◌, map, drop, slice_index_or, []}
+use Rattle.std.specs.Prelude.{◌≡◌, ℕ, ◌-◌, List, ◌++◌, map, drop, slice_index_or, [], true, false}
 use Rattle.log_node.specs.declared.ids.Counts.{Counts}
 use Rattle.log_node.specs.Seen.{PlacedNode}
-use Rattle.log_node.specs.Vectors.{all_regions, at, greater, zeros}
+use Rattle.log_node.specs.Vectors.{all_regions, at, greater, is_within, zeros}
 use Rattle.col_core.specs.declared.view.View.{View}
+use Rattle.chain_store.specs.declared.looks.Looked.{Looked}
+use Rattle.chain_store.specs.declared.looks.Looked.TheVariants.{On, Behind}
 use Rattle.chain_store.specs.declared.read_view.shown.Shown.{Shown}
 
 -- the nodes that a view has of a region's chain
@@ -45,3 +47,9 @@ part s from = record {
   from = greater from s.base;
   items = map (λ region. drop (at from region - at s.base region) (items_at s region)) all_regions;
 }
+
+-- what is shown of a view to one who goes on from these counts: the part from there on where they are not behind the
+-- base, and else the base alone
+abbrev pub IsPart : View → Counts → Looked → Type 0
+IsPart s from (On view) = (view ≡ part s from) × (is_within s.base from ≡ true)
+IsPart s from (Behind shown) = (shown ≡ s.base) × (is_within shown from ≡ false)

@@ -1,5 +1,5 @@
 -- What contracts say of a pass that rests.
-use Rattle.std.specs.Prelude.{◌≡◌, List, [], Some, None}
+use Rattle.std.specs.Prelude.{◌≡◌, List, [], Option, Some, None}
 use Rattle.atomic_table.specs.Seated.{TableId}
 use Rattle.turn_cell.specs.declared.cell.Cell.{Cell}
 use Rattle.turn_cell.specs.declared.rest.Rest.{Rest}
@@ -16,13 +16,21 @@ module _ {E T : Type 0} where
   abbrev pub rest_view : Rest E T → View E T
   rest_view r = r.perch.view
 
+  -- the tag of that cell
+  abbrev pub rest_tag : Rest E T → Option T
+  rest_tag r = r.perch.view.tag
+
   -- the beginning of the history that the pass which rests has seen
   abbrev pub rest_seen : Rest E T → List E
   rest_seen r = r.perch.view.seen
 
-  -- the view of a pass with no number, of a cell with this tag, that does not hold the turn
+  -- the view of a pass with no number that does not hold the turn
+  abbrev pub IsAtRest : View E T → Type 0
+  IsAtRest v = (v.stage ≡ Idle) × (v.own ≡ None) × (v.met ≡ [])
+
+  -- the same, of a cell with this tag
   abbrev pub IsListener : T → View E T → Type 0
-  IsListener t v = (v.stage ≡ Idle) × (v.tag ≡ Some t) × (v.own ≡ None) × (v.met ≡ [])
+  IsListener t v = IsAtRest v × (v.tag ≡ Some t)
 
   -- such a pass rests
   abbrev pub IsRest : T → Rest E T → Type 0

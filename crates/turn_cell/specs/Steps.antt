@@ -79,10 +79,6 @@ module _ {S E T : Type 0} where
       × Balances by es m.0)
       × (found ≢ 0 → m' ≡ m)
 
-  -- the count is the length of the history that the holder has seen
-  abbrev pub Counts : Tale S E T
-  Counts st m found m' = (m' ≡ m) × (found ≡ length m.0.seen)
-
   -- the newest entry of the value in the slot is then seen and made, at the place that was found
   abbrev pub Raises : (S → Option E) → Tale S E T
   Raises newest st m found m' =

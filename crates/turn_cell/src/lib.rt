@@ -15,7 +15,7 @@ mod view;
 
 pub use cell::Cell;
 pub use history::HasHistory;
-pub use pass::{Pass, Passes};
+pub use pass::{Pass, PassOf, Passes};
 pub use rest::Rest;
 pub use turn::Turn;
 pub use view::{Maker, Stage, View};

@@ -1,5 +1,5 @@
 //! The rule of a cell's table, and what each step on the table tells the pass that makes it.
-ghost use Rattle.turn_cell.specs.Steps.{Takes, Counts, Raises, Frees, Parts, Compares, giver_after, numbered, told};
+ghost use Rattle.turn_cell.specs.Steps.{Takes, Raises, Frees, Parts, Compares, giver_after, numbered, told};
 ghost use Rattle.turn_cell.specs.Steps.{joined, spent};
 
 use crate::history::HasHistory;
@@ -41,13 +41,6 @@ pub(crate) struct Take;
 
 impl<V: HasHistory> Play<Option<Box<V>>, View<V::Entry, V::Tag>> for Take {
     ghost then = { Takes (λ b. V.stands b.value) V.by (λ b. V.tag b.value) };
-}
-
-/// Loads the counting word, with the turn.
-pub(crate) struct Count;
-
-impl<S, E, T> Play<Option<S>, View<E, T>> for Count {
-    ghost then = { Counts };
 }
 
 /// Raises the counting word, for the newest entry of the value that lies in the slot.

@@ -1,5 +1,5 @@
 // The copy that is published, and what it takes in.
-ghost use Rattle.std.specs.Prelude.{◌≡◌};
+ghost use Rattle.std.specs.Prelude.{◌≡◌, length};
 ghost use Rattle.turn_cell.specs.Rests.{IsAtRest, rest_seen, rest_table, rest_tag, rest_view};
 
 use crate::read_view::shown::Shown;
@@ -21,6 +21,7 @@ pub struct News {
     pub(crate) view: View,
     pub(crate) first: Rest<Told, Tag>,
     pub(crate) second: Rest<Told, Tag>,
+    ghost four: { length view.items ≡ 4 },
     ghost rests: { IsAtRest (rest_view first) × IsAtRest (rest_view second) },
     ghost alike: { (rest_seen second ≡ rest_seen first) × (rest_table second ≡ rest_table first)
         × (rest_tag second ≡ rest_tag first) },

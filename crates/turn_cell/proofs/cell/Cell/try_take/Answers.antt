@@ -15,7 +15,7 @@ exchange-requires g c =
 pub returns-then-compare_exchange-eq-FREE : goal.returns-then-compare_exchange-eq-FREE
 returns-then-compare_exchange-eq-FREE g c =
     let t = c.compare_exchange.ensures.2.0 c.if-compare_exchange-eq-FREE.true in
-    let before : c.args.pass.now.me ≡ c.args.pass.now.me = refl in
+    let before : c.args.pass.now.seat.me ≡ c.args.pass.now.seat.me = refl in
     let e = took_out _ _ _ _ t.0 t.1 before c.requires.2 t.2 c.exchange.ensures.3 in
     let y : Some t.0 ≡ Some c.unwrap-value.result =
     took_value _ t.0 _ _ _ t.2 c.exchange.ensures.2 ∙ c.unwrap-value.ensures in
@@ -30,7 +30,7 @@ returns-then-compare_exchange-eq-FREE g c =
         subst (λ x. g.V.HasHistory.tag x.value ≡ g.V.HasHistory.tag c.args.self.now.table.shared.key.value) is
             (t.5 _ c.requires.0.1),
       );
-      seen = subst (IsPrefix c.args.pass.now.me.0.seen) (sym (ap (λ m. m.0.seen) e)) t.3;
+      seen = subst (IsPrefix c.args.pass.now.seat.me.0.seen) (sym (ap (λ m. m.0.seen) e)) t.3;
       made = (
         (ap (λ m. m.0.own) e, ap (λ m. m.0.met) e),
         subst (λ v. Balances g.V.HasHistory.by v.seen v) (sym (ap (λ m. m.0) e)) t.6,
@@ -43,7 +43,7 @@ returns g c =
     let e = c.compare_exchange.ensures.2.1 c.if-compare_exchange-eq-FREE.false in record {
       turn = tt;
       value = tt;
-      seen = subst (IsPrefix c.args.pass.now.me.0.seen) (sym (ap (λ m. m.0.seen) e)) prefix_self;
+      seen = subst (IsPrefix c.args.pass.now.seat.me.0.seen) (sym (ap (λ m. m.0.seen) e)) prefix_self;
       made = tt;
       none = λ _. (
         (
@@ -54,5 +54,5 @@ returns g c =
         (ap (λ m. m.0.seen) e, (ap (λ m. m.0.own) e, ap (λ m. m.0.met) e)),
       );
     } where
-      prefix_self : IsPrefix c.args.pass.now.me.0.seen c.args.pass.now.me.0.seen
-      prefix_self = ([], append-nil c.args.pass.now.me.0.seen)
+      prefix_self : IsPrefix c.args.pass.now.seat.me.0.seen c.args.pass.now.seat.me.0.seen
+      prefix_self = ([], append-nil c.args.pass.now.seat.me.0.seen)
