@@ -4,7 +4,7 @@ use Rattle.chain_store.specs.declared.told.Tag.{Tag}
 use Rattle.chain_store.specs.declared.told.Told.{Told}
 use Rattle.chain_store.specs.Looking.{ShowsOn}
 use Rattle.chain_store.specs.Passes.{SeesMore}
-use Rattle.chain_store.proofs.Holding.{holder, desks_set}
+use Rattle.chain_store.proofs.Holding.{holder, desk_there, desks_set}
 use Rattle.chain_store.proofs.Passing.{ok_as}
 use Rattle.chain_store.proofs.ByColour.{turned_but, of_turned, turned_hold}
 use Rattle.chain_store.proofs.region.Region.look_on.Goals as goal
@@ -13,6 +13,11 @@ pub look_on_shared-requires-clause-pass : goal.look_on_shared-requires-clause-pa
 look_on_shared-requires-clause-pass g c =
     holder c.args.self.now c.args.hold.now c.args.colour c.column.result.now c.index_mut-pass.result.now c.requires.hold
     c.requires.colour c.column.ensures c.index_mut-pass.ensures.value
+
+pub look_on_shared-requires-clause-desk : goal.look_on_shared-requires-clause-desk
+look_on_shared-requires-clause-desk g c =
+    desk_there c.args.self.now.shares.items c.args.hold.now.desks.items c.args.colour c.share.result.now
+    c.index_mut-desk.result.now c.requires.hold.desks c.share.ensures.there c.index_mut-desk.ensures.value
 
 pub returns-clause-hold : goal.returns-clause-hold
 returns-clause-hold g c =
