@@ -67,9 +67,9 @@ abbrev pub read_text : Report → List RaisePiece → List SyncPiece → List �
 read_text report raises syncs = spaced (raise_text report) raises ++ spaced (sync_text report) syncs
 
 -- `committed` or `conflict`, and the stamp of the transaction that is decided
-abbrev pub decision_text : Bool → ℕ → List ℕ
-decision_text true stamp = codes "committed " ++ decimal stamp
-decision_text false stamp = codes "conflict " ++ decimal stamp
+abbrev pub decided_words : Bool → ℕ → List ℕ
+decided_words true stamp = codes "committed " ++ decimal stamp
+decided_words false stamp = codes "conflict " ++ decimal stamp
 
 -- how the append of a decision ended: where it stands, or why there is none
 abbrev pub ended_text : Report → Ended → List ℕ
@@ -107,7 +107,7 @@ answer_text report (Changed failed stamp row points read_stamp raises syncs) =
 answer_text report (Listed names stamp raises syncs) = names_text names stamp ++ read_text report raises syncs
 answer_text report (Undecided stamp sync) = codes "undecided " ++ decimal stamp ++ 32 ∷ sync_text report sync
 answer_text report (Decided commits stamp sync read_stamp raises syncs ended) =
-    decision_text commits stamp ++ 32 ∷ sync_text report sync
+    decided_words commits stamp ++ 32 ∷ sync_text report sync
     ++ codes " at " ++ decimal read_stamp ++ read_text report raises syncs ++ 32 ∷ ended_text report ended
 answer_text report (Moved lined waiting colour events) =
     codes "moved " ++ decimal lined ++ 32 ∷ decimal waiting ++ 32 ∷ look_text report colour events

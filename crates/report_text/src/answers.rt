@@ -1,6 +1,6 @@
 // What a command was answered.
 ghost use Rattle.report_text.specs.Output.{Adds};
-ghost use Rattle.report_text.specs.Replies.{row_text, value_text, values_text, key_answer_text, verdict_text, change_text, listed_or_dash, look_text, names_text, read_text, decision_text, ended_text, answer_text};
+ghost use Rattle.report_text.specs.Replies.{row_text, value_text, values_text, key_answer_text, verdict_text, change_text, listed_or_dash, look_text, names_text, read_text, decided_words, ended_text, answer_text};
 
 use crate::names::NameIndex;
 use crate::output::Output;
@@ -131,7 +131,7 @@ fn print_read<O: Output>(
 
 /// `committed` or `conflict`, and the stamp of the transaction that is decided.
 fn print_decision<O: Output>(commits: bool, stamp: u64, out: &mut O)
-    ensures { Adds (O.state out.old) (O.state out.new) (decision_text commits stamp) }
+    ensures { Adds (O.state out.old) (O.state out.new) (decided_words commits stamp) }
 {
     if commits {
         out.put(b"committed ");
