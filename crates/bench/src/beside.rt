@@ -25,6 +25,7 @@ const CLIENTS: u8 = 4;
 const MOST: u32 = 100_000_000;
 
 /// What clients beside one another share: whether the appends have ended, and how long each sync took, in nanoseconds.
+#[derive(Drop)]
 struct Beside {
     ended: AtomicBool,
     times: Mutex<Vec<u32>>,
