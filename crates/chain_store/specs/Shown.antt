@@ -7,6 +7,7 @@ use Rattle.col_core.specs.declared.view.View.{View}
 use Rattle.chain_store.specs.declared.looks.Looked.{Looked}
 use Rattle.chain_store.specs.declared.looks.Looked.TheVariants.{On, Behind}
 use Rattle.chain_store.specs.declared.read_view.shown.Shown.{Shown}
+use Rattle.chain_store.specs.Kept.{kept_items}
 
 -- the nodes that a view has of a region's chain
 abbrev pub items_at : View → ℕ → List PlacedNode
@@ -21,7 +22,7 @@ shown_view s = record {
   cut = s.cut;
   base = s.base;
   from = greater zeros s.base;
-  items = map (λ chain. chain.items) s.chains.items;
+  items = kept_items s.chains;
 }
 
 -- a view with one that goes on from its cut: what lies below the newer base is left out

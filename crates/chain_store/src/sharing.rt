@@ -1,19 +1,40 @@
 // Columns whose looks need not wait: by the turn where it is free, and else by a published copy.
-ghost use Rattle.std.specs.Prelude.{◌≡◌, ◌<◌, IfOk};
+ghost use Rattle.std.specs.Prelude.{◌≡◌, ℕ, ◌<◌, IfOk, IfSome};
 ghost use Rattle.turn_cell.specs.Cells.{seen, AreNewPasses};
 ghost use Rattle.chain_store.specs.Looking.{ShowsOn};
 ghost use Rattle.chain_store.specs.Passes.{IsHolder, SeesMore, ShowsHistory, tag_in};
 ghost use Rattle.chain_store.specs.Desks.{IsDesk, IsShareOf, column_copied};
 
-use crate::looks::Looked;
+use crate::looks::{Looked, look_in, look_on_in, looked_at, view_at};
+use crate::read_view::beside::{look_beside, look_on_beside};
 use crate::read_view::copies::Copies;
 use crate::read_view::desk::{Desk, Share};
+use crate::read_view::publish::publish;
 use crate::seated::Seated;
+use crate::turns::begin_now;
 use col_core::View;
 use log_node::Counts;
 use std::alloc::{AllocError, Global};
 use std::sync::Wait;
+use std::sync::atomic::AtomicU8;
+use std::sync::atomic::Ordering::Relaxed;
 use turn_cell::{Cell, Pass, Passes};
+
+// Nobody has used the column.
+const NOBODY: u8 = 0;
+
+// Several clients have.
+const SEVERAL: u8 = u8::MAX;
+
+/// Who uses a column, as one client finds when it has used it.
+enum Users {
+    /// No other client does.
+    One,
+    /// Others do as well, and did before.
+    Several,
+    /// Others do as well, from now on.
+    SeveralNow,
+}
 
 impl Share {
     /// The copies of a column, of which there are none yet, and for each client a pass of their writer's turns. The pass of the column is
@@ -29,7 +50,61 @@ impl Share {
         ensures share { IfOk result (λ r. IsShareOf cell.now r.0) }
         ensures passes { IfOk result (λ r. AreNewPasses column_copied r.0.copies clients r.1) }
     {
-        unreachable!()
+        let _ = cell;
+        let copies = Copies {
+            pass,
+            cut: Counts::zeros(),
+            shelf: None,
+        };
+        let (copies, passes) = Cell::open(alloc, copies, clients)?;
+        let share = Share {
+            alloc,
+            copies,
+            users: AtomicU8::new(NOBODY),
+            clients,
+        };
+        Ok((share, passes))
+    }
+
+    // Marks that this client uses the column.
+    #[inline]
+    fn users(&self, by: u8) -> Users {
+        let mine = by.wrapping_add(1);
+        let users = self.users.load(Relaxed);
+        if users == mine {
+            return Users::One;
+        }
+        if users == SEVERAL {
+            return Users::Several;
+        }
+        self.users_now(mine)
+    }
+
+    #[cold]
+    fn users_now(&self, mine: u8) -> Users {
+        let users = match self.users.compare_exchange(NOBODY, mine, Relaxed, Relaxed) {
+            Ok(_) => return Users::One,
+            Err(_) => self.users.swap(SEVERAL, Relaxed),
+        };
+        if users == SEVERAL {
+            Users::Several
+        } else {
+            Users::SeveralNow
+        }
+    }
+
+    // Publishes what there is, if the writer is free.
+    #[cold]
+    fn publish<R: Wait>(&self, rt: &R, cell: &Cell<Seated>, desk: &mut Desk)
+        requires share { IsShareOf cell.now self.now }
+        requires desk { IsDesk self.now desk.old }
+        ensures desk { IsDesk self.now desk.new }
+    {
+        if let Some(mut turn) = self.copies.try_take(&mut desk.pass) {
+            let readers = self.clients.max(1);
+            publish(rt, self.alloc, cell, &mut *turn.value, readers);
+            turn.put(&mut desk.pass);
+        }
     }
 
     /// Behind a turn of a client, which added an event or not: where several clients use the column what there is is
@@ -47,14 +122,98 @@ impl Share {
         requires desk { IsDesk self.now desk.old }
         ensures desk { IsDesk self.now desk.new }
     {
-        unreachable!()
+        let wanted = match self.users(by) {
+            Users::One => false,
+            Users::Several => event,
+            Users::SeveralNow => true,
+        };
+        if wanted {
+            self.publish(rt, cell, desk);
+        }
+    }
+
+    // A reader, if the desk has none, the writer is free and there are copies.
+    fn seat_reader(&self, desk: &mut Desk)
+        requires { IsDesk self.now desk.old }
+        ensures { IsDesk self.now desk.new }
+    {
+        if desk.reader.is_some() {
+            return;
+        }
+        if let Some(mut turn) = self.copies.try_take(&mut desk.pass) {
+            desk.reader = turn.value.reader();
+            turn.put(&mut desk.pass);
+        }
     }
 
     /// The copies' memory is freed, once all clients' holds have come back. Waits for the writer's turn.
     pub(crate) fn close<R: Wait>(self, rt: &R, desk: Desk)
         requires { IsDesk self desk }
     {
-        unreachable!()
+        let Share {
+            alloc: _,
+            copies,
+            users: _,
+            clients: _,
+        } = self;
+        let Desk { pass, reader: _ } = desk;
+        copies.close(rt, pass).end(rt);
+    }
+}
+
+// A look that does not wait, if there is a reader.
+fn view_beside(
+    cell: &Cell<Seated>,
+    share: &Share,
+    alloc: Global,
+    pass: &mut Pass<Seated>,
+    desk: &mut Desk,
+    by: u8,
+    from: Counts,
+) -> Option<View>
+    requires pass { IsHolder cell.now by pass.old }
+    requires share { IsShareOf cell.now share.now }
+    requires desk { IsDesk share.now desk.old }
+    ensures pass { IsHolder cell.now by pass.new × SeesMore by (seen pass.old) (seen pass.new) }
+    ensures view { IfSome result (λ view. ShowsHistory (tag_in cell.now) (seen pass.new) from view) }
+    ensures desk { IsDesk share.now desk.new }
+{
+    share.seat_reader(desk);
+    match desk.reader.take() {
+        Some(reader) => {
+            let (reader, view) = look_beside(alloc, cell, pass, by, reader, from);
+            desk.reader = Some(reader);
+            view
+        }
+        None => None,
+    }
+}
+
+// The same for one who goes on from these counts.
+fn looked_beside(
+    cell: &Cell<Seated>,
+    share: &Share,
+    alloc: Global,
+    pass: &mut Pass<Seated>,
+    desk: &mut Desk,
+    by: u8,
+    from: Counts,
+) -> Option<Looked>
+    requires pass { IsHolder cell.now by pass.old }
+    requires share { IsShareOf cell.now share.now }
+    requires desk { IsDesk share.now desk.old }
+    ensures pass { IsHolder cell.now by pass.new × SeesMore by (seen pass.old) (seen pass.new) }
+    ensures looked { IfSome result (ShowsOn (tag_in cell.now) (seen pass.new) from) }
+    ensures desk { IsDesk share.now desk.new }
+{
+    share.seat_reader(desk);
+    match desk.reader.take() {
+        Some(reader) => {
+            let (reader, looked) = look_on_beside(alloc, cell, pass, by, reader, from);
+            desk.reader = Some(reader);
+            looked
+        }
+        None => None,
     }
 }
 
@@ -77,7 +236,15 @@ pub(crate) fn look_shared<R: Wait>(
     ensures view { IfOk result (λ view. ShowsHistory (tag_in cell.now) (seen pass.new) from view) }
     ensures desk { IsDesk share.now desk.new }
 {
-    unreachable!()
+    let view = if let Some(turn) = begin_now(cell, pass, by) {
+        view_at(alloc, turn, pass, by, from)
+    } else if let Some(view) = view_beside(cell, share, alloc, pass, desk, by, from) {
+        return Ok(view);
+    } else {
+        look_in(rt, alloc, cell, pass, by, from)
+    };
+    share.behind(rt, cell, desk, by, false);
+    view
 }
 
 /// What a reader sees who goes on from these counts, by the turn or the published copy as above; behind the base that is the base alone.
@@ -98,5 +265,13 @@ pub(crate) fn look_on_shared<R: Wait>(
     ensures looked { IfOk result (ShowsOn (tag_in cell.now) (seen pass.new) from) }
     ensures desk { IsDesk share.now desk.new }
 {
-    unreachable!()
+    let looked = if let Some(turn) = begin_now(cell, pass, by) {
+        looked_at(alloc, turn, pass, by, from)
+    } else if let Some(looked) = looked_beside(cell, share, alloc, pass, desk, by, from) {
+        return Ok(looked);
+    } else {
+        look_on_in(rt, alloc, cell, pass, by, from)
+    };
+    share.behind(rt, cell, desk, by, false);
+    looked
 }
