@@ -68,15 +68,18 @@ all_got_new cell s n old new ps qs dealt holders copies = record {
   same = dealt.same;
   each = λ k d at.
       let t = dealt.got k d (omega arith) at in
-      let h = holders.1 k t.1 t.4 in
-      (t.0, t.3, record {
-        pass = t.1;
-        copies = t.2;
-        got = t.6;
-        holder = h.0;
-        none = h.1;
-        desk = new_desk s k t.2 (copies.1 k t.2 t.5);
-      });
+      let h = holders.1 k t.1 t.4 in (
+        t.0,
+        t.3,
+        record {
+          pass = t.1;
+          copies = t.2;
+          got = t.6;
+          holder = h.0;
+          none = h.1;
+          desk = new_desk s k t.2 (copies.1 k t.2 t.5);
+        },
+      );
 }
 
 -- the copies of one cell more

@@ -135,6 +135,7 @@ impl Region {
             Some(own) => close_shares(rt, shares, own),
             None => unreachable!(),
         }
+        drop(desks);
         let closed = close_columns(rt, alloc, columns, clients)?;
         let (columns, column_seats) = split_columns(alloc, closed)?;
         let rows = board.close(alloc, seats.into(), column_seats.into())?;
