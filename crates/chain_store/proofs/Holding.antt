@@ -3,7 +3,7 @@ use Rattle.std.proofs.Common.{Vec, Global, ◌≡◌, ◌≢◌, ℕ, zero, suc,
 use Rattle.std.specs.Prelude.{slice_get}
 use Rattle.std.specs.Vec.{with_item}
 use Rattle.std.proofs.lemmas.Bool.{cases_eq}
-use Rattle.std.proofs.lemmas.Option.{slice_get_read}
+use Rattle.std.proofs.lemmas.Option.{slice_get_read, slice_get_within}
 use Rattle.log_node.specs.declared.limits.TheConstants.{MAX_CLIENTS}
 use Rattle.log_node.specs.declared.node.Node.{Node}
 use Rattle.log_node.specs.declared.node.At.{At}
@@ -27,7 +27,7 @@ use Rattle.chain_store.specs.Histories.{maker}
 use Rattle.chain_store.specs.Passes.{ColumnCell, ColumnPass, IsHolder, SeesMore, MakesOne}
 use Rattle.chain_store.specs.Regions.{IsColumnAt}
 use Rattle.chain_store.specs.Owning.{Owns, IsAccountedFor, row_of}
-use Rattle.chain_store.specs.Desks.{IsDesk, HasDesks, IsShareOf}
+use Rattle.chain_store.specs.Desks.{IsDesk, HasDesks}
 use Rattle.chain_store.specs.Holds.{history_seen, passes_of, turned_in, made_in, view_of, HasPasses, IsHold, SameBut}
 use Rattle.chain_store.proofs.Entering.{get_cases}
 use Rattle.chain_store.proofs.Passing.{made_with}
@@ -83,6 +83,14 @@ desks_set shares ds i s d here good all = record {
     | inr t ↦ all.each k z e at t.1
   ];
 }
+
+-- the desk of a colour
+pub desk_there : (shares : List Share) (ds : List Desk) (k : ℕ) (s : Share) (d : Desk) → HasDesks shares ds
+    → slice_get shares k ≡ Some s → d ≡ get_or ds k d → IsDesk s d
+desk_there shares ds k s d all here e =
+    let many = all.count in
+    let inside = slice_get_within shares k s here in
+    all.each k s d here (slice_get_read ds (length ds) k d refl (omega (arith, many, inside)) e)
 
 -- what is accounted for stays so with more counts given out
 pub accounted_later : (client used next more : ℕ) (nodes : ℕ → Node) (e : Event) → next ≤ more

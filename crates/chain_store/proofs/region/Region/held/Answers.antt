@@ -19,24 +19,24 @@ held_in-requires g c =
 pub returns-clause-hold : goal.returns-clause-hold
 returns-clause-hold g c =
     turned_hold c.args.self.now c.args.hold.now c.args.colour c.column.result.now c.index_mut-pass.result.now
-    c.held_in.new.pass c.requires.hold c.requires.colour c.column.ensures c.index_mut-pass.ensures.value
-    c.held_in.ensures.pass (inl c.held_in.ensures.look.0)
+    c.held_in.new.pass c.args.hold.now.desks c.requires.hold c.requires.colour c.column.ensures c.index_mut-pass.ensures.value
+    c.held_in.ensures.pass c.requires.hold.desks (inl c.held_in.ensures.look.0)
 
 pub returns-clause-others : goal.returns-clause-others
 returns-clause-others g c =
     turned_but c.args.self.now c.args.hold.now c.args.colour c.column.result.now c.index_mut-pass.result.now
-    c.held_in.new.pass c.requires.hold c.requires.colour c.column.ensures c.index_mut-pass.ensures.value
+    c.held_in.new.pass c.args.hold.now.desks c.requires.hold c.requires.colour c.column.ensures c.index_mut-pass.ensures.value
 
 pub returns-clause-look : goal.returns-clause-look
 returns-clause-look g c =
     of_turned c.args.self.now c.args.hold.now c.args.colour c.column.result.now c.index_mut-pass.result.now
-    c.held_in.new.pass c.requires.hold c.requires.colour c.column.ensures c.index_mut-pass.ensures.value
+    c.held_in.new.pass c.args.hold.now.desks c.requires.hold c.requires.colour c.column.ensures c.index_mut-pass.ensures.value
     (λ (t : Tag) (old new : List Told). LooksAt c.args.hold.now.passes.number old new c.held_in.result.0)
     c.held_in.ensures.look
 
 pub returns-clause-held : goal.returns-clause-held
 returns-clause-held g c =
     of_turned c.args.self.now c.args.hold.now c.args.colour c.column.result.now c.index_mut-pass.result.now
-    c.held_in.new.pass c.requires.hold c.requires.colour c.column.ensures c.index_mut-pass.ensures.value
+    c.held_in.new.pass c.args.hold.now.desks c.requires.hold c.requires.colour c.column.ensures c.index_mut-pass.ensures.value
     (λ (t : Tag) (old new : List Told). c.held_in.result.1 ≡ held t.region (dated_in t new))
     c.held_in.ensures.held

@@ -22,25 +22,25 @@ place_in-requires g c =
 pub returns-clause-hold : goal.returns-clause-hold
 returns-clause-hold g c =
     turned_hold c.args.self.now c.args.hold.now c.args.colour c.column.result.now c.index_mut-pass.result.now
-    c.place_in.new.pass c.requires.hold c.requires.colour c.column.ensures c.index_mut-pass.ensures.value
-    c.place_in.ensures.pass (inl c.place_in.ensures.look.0)
+    c.place_in.new.pass c.args.hold.now.desks c.requires.hold c.requires.colour c.column.ensures c.index_mut-pass.ensures.value
+    c.place_in.ensures.pass c.requires.hold.desks (inl c.place_in.ensures.look.0)
 
 pub returns-clause-others : goal.returns-clause-others
 returns-clause-others g c =
     turned_but c.args.self.now c.args.hold.now c.args.colour c.column.result.now c.index_mut-pass.result.now
-    c.place_in.new.pass c.requires.hold c.requires.colour c.column.ensures c.index_mut-pass.ensures.value
+    c.place_in.new.pass c.args.hold.now.desks c.requires.hold c.requires.colour c.column.ensures c.index_mut-pass.ensures.value
 
 pub returns-clause-look : goal.returns-clause-look
 returns-clause-look g c =
     of_turned c.args.self.now c.args.hold.now c.args.colour c.column.result.now c.index_mut-pass.result.now
-    c.place_in.new.pass c.requires.hold c.requires.colour c.column.ensures c.index_mut-pass.ensures.value
+    c.place_in.new.pass c.args.hold.now.desks c.requires.hold c.requires.colour c.column.ensures c.index_mut-pass.ensures.value
     (λ (t : Tag) (old new : List Told). LooksAt c.args.hold.now.passes.number old new c.place_in.result.0)
     c.place_in.ensures.look
 
 pub returns-clause-place : goal.returns-clause-place
 returns-clause-place g c =
     of_turned c.args.self.now c.args.hold.now c.args.colour c.column.result.now c.index_mut-pass.result.now
-    c.place_in.new.pass c.requires.hold c.requires.colour c.column.ensures c.index_mut-pass.ensures.value
+    c.place_in.new.pass c.args.hold.now.desks c.requires.hold c.requires.colour c.column.ensures c.index_mut-pass.ensures.value
     (λ (t : Tag) (old new : List Told). c.place_in.result.1 ≡ position (λ (k : Key). same_key k c.args.key) (line
     (entries_in new)))
     c.place_in.ensures.place
