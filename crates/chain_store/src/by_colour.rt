@@ -47,8 +47,8 @@ use std::sync::{Arc, Wait};
 use turn_cell::Cell;
 
 impl Region {
-    // The colour's column.
-    pub(crate) fn column(&self, colour: u8) -> &Cell<Seated>
+    /// The colour's column, under its turns.
+    pub fn column(&self, colour: u8) -> &Cell<Seated>
         requires { colour < self.now.board.size.colours }
         ensures { IsColumnAt self.now colour result.now }
     {
