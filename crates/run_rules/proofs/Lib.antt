@@ -1,5 +1,7 @@
 mod AppendsAlike
 mod AppendsTold
+mod Computed
+mod ComputedSteps
 pub mod CallerLemmas
 mod Explaining
 mod Facts
@@ -9,6 +11,7 @@ mod Growing
 mod LawfulRules
 mod LeftOut
 mod Lists
+mod NamesAlike
 mod NodesAlike
 mod Numbers
 mod OneAccount

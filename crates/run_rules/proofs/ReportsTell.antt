@@ -20,7 +20,7 @@ use Rattle.report_text.specs.declared.report.ColumnReport.{ColumnReport}
 use Rattle.lawful_run.specs.Callers.{Caller, caller_of, commands_of}
 use Rattle.lawful_run.specs.Columns.{row_report}
 use Rattle.run_rules.specs.Told.{Step, Follow, AreKeysFound, kept_past}
-use Rattle.run_rules.specs.Telling.{journal_among, unnamed, step_of, steps_of, last_of_steps, bare_node, node_or, row_of, is_in, log_of, replies_in, replies_to}
+use Rattle.run_rules.specs.Telling.{journal_among, unnamed, step_of, steps_of, last_of_steps, bare_node, node_or, row_of, is_in, log_of, replies_in, replies_to, places_shown}
 use Rattle.run_rules.specs.Laws.{ReportsTell}
 use Rattle.run_rules.proofs.Lists.{map_map}
 
@@ -97,7 +97,7 @@ module _ (nodes : ℕ → List Node) where
 
 -- STEPS
 
-keys_unnamed : (answer : Answer) → AreKeysFound (unnamed answer) answer
+pub keys_unnamed : (answer : Answer) → AreKeysFound (unnamed answer) answer
 keys_unnamed (answers.GotKeys stamp shown raises syncs) = map_map (λ (v : Version). v.key) _ shown
 keys_unnamed (answers.Stood stamp row points) = tt
 keys_unnamed (answers.StampEnd colour) = tt
@@ -124,39 +124,39 @@ keys_unnamed (answers.Trimmed colour base) = tt
 keys_unnamed (answers.NotHome home) = tt
 keys_unnamed answers.NoMemory = tt
 
-module _ (log : Log) (caller : Caller) where
+module _ (log : Log) (caller : Caller) (shown : ℕ → ℕ → List ℕ) where
   abbrev KeysAt : Step → Type 0
   KeysAt s = AreKeysFound s.untold.found s.reply.answer
 
   steps_asked : (kept : Kept) (cs : List Command) (rs : List ReplyLine) → length cs ≡ length rs
-      → map (λ (s : Step). s.command) (steps_of log caller kept cs rs) ≡ cs
+      → map (λ (s : Step). s.command) (steps_of log caller shown kept cs rs) ≡ cs
   steps_asked kept [] rs e = refl
   steps_asked kept (c ∷ cs) [] e = absurd (let f : ⊥ = omega (arith, e) in f)
   steps_asked kept (c ∷ cs) (r ∷ rs) e =
-      ap (λ (l : List Command). c ∷ l) (steps_asked (kept_past log caller (step_of log caller kept c r)) cs rs (omega (arith, e)))
+      ap (λ (l : List Command). c ∷ l) (steps_asked (kept_past log caller (step_of log caller shown kept c r)) cs rs (omega (arith, e)))
 
   steps_replied : (kept : Kept) (cs : List Command) (rs : List ReplyLine) → length cs ≡ length rs
-      → map (λ (s : Step). s.reply) (steps_of log caller kept cs rs) ≡ rs
+      → map (λ (s : Step). s.reply) (steps_of log caller shown kept cs rs) ≡ rs
   steps_replied kept [] [] e = refl
   steps_replied kept [] (r ∷ rs) e = absurd (let f : ⊥ = omega (arith, e) in f)
   steps_replied kept (c ∷ cs) [] e = refl
   steps_replied kept (c ∷ cs) (r ∷ rs) e =
       ap (λ (l : List ReplyLine). r ∷ l)
-      (steps_replied (kept_past log caller (step_of log caller kept c r)) cs rs (omega (arith, e)))
+      (steps_replied (kept_past log caller (step_of log caller shown kept c r)) cs rs (omega (arith, e)))
 
   steps_follow : (kept : Kept) (cs : List Command) (rs : List ReplyLine)
-      → Follow log caller kept (steps_of log caller kept cs rs) (last_of_steps log caller kept cs rs)
+      → Follow log caller kept (steps_of log caller shown kept cs rs) (last_of_steps log caller shown kept cs rs)
   steps_follow kept [] rs = refl
   steps_follow kept (c ∷ cs) [] = refl
-  steps_follow kept (c ∷ cs) (r ∷ rs) = (refl, steps_follow (kept_past log caller (step_of log caller kept c r)) cs rs)
+  steps_follow kept (c ∷ cs) (r ∷ rs) = (refl, steps_follow (kept_past log caller (step_of log caller shown kept c r)) cs rs)
 
-  steps_keys : (kept : Kept) (cs : List Command) (rs : List ReplyLine) → All KeysAt (steps_of log caller kept cs rs)
+  steps_keys : (kept : Kept) (cs : List Command) (rs : List ReplyLine) → All KeysAt (steps_of log caller shown kept cs rs)
   steps_keys kept [] rs = All-nil KeysAt
   steps_keys kept (c ∷ cs) [] = All-nil KeysAt
   steps_keys kept (c ∷ cs) (r ∷ rs) =
-      All-cons KeysAt (step_of log caller kept c r)
-      (steps_of log caller (kept_past log caller (step_of log caller kept c r)) cs rs) (keys_unnamed r.answer)
-      (steps_keys (kept_past log caller (step_of log caller kept c r)) cs rs)
+      All-cons KeysAt (step_of log caller shown kept c r)
+      (steps_of log caller shown (kept_past log caller (step_of log caller shown kept c r)) cs rs) (keys_unnamed r.answer)
+      (steps_keys (kept_past log caller (step_of log caller shown kept c r)) cs rs)
 
 pub reports_tell : ReportsTell
 reports_tell script report nodes well = record {
@@ -166,11 +166,12 @@ reports_tell script report nodes well = record {
   clients = λ n c there.
       let log = log_of report nodes in
       let caller = caller_of script n in
+      let places = places_shown script report n in
       let shown : replies_to report n ≡ c.replies = ap replies_in there in
       let long = well.replied n c there ∙ ap length (sym shown) in record {
-        commands = steps_asked log caller nothing_kept (commands_of script n) (replies_to report n) long;
-        replied = steps_replied log caller nothing_kept (commands_of script n) (replies_to report n) long ∙ shown;
-        follow = steps_follow log caller nothing_kept (commands_of script n) (replies_to report n);
-        keys = steps_keys log caller nothing_kept (commands_of script n) (replies_to report n);
+        commands = steps_asked log caller places nothing_kept (commands_of script n) (replies_to report n) long;
+        replied = steps_replied log caller places nothing_kept (commands_of script n) (replies_to report n) long ∙ shown;
+        follow = steps_follow log caller places nothing_kept (commands_of script n) (replies_to report n);
+        keys = steps_keys log caller places nothing_kept (commands_of script n) (replies_to report n);
       };
 }
