@@ -23,14 +23,14 @@ use Rattle.lawful_run.specs.Callers.{Caller, caller_of, commands_of}
 use Rattle.lawful_run.specs.Columns.{column_numbers, row_report}
 use Rattle.run_rules.specs.Told.{Step, Account, IsTold, kept_at, kept_past}
 use Rattle.run_rules.specs.Printed.{printed_all}
-use Rattle.run_rules.specs.Telling.{IsWellFormed, account_of, journal_among, places_shown, replies_in, replies_to, step_of, step_places, steps_of, last_of_steps}
+use Rattle.run_rules.specs.Telling.{IsWellFormed, account_of, journal_among, no_nodes, places_shown, replies_in, replies_to, step_of, step_places, steps_of, last_of_steps}
 use Rattle.run_rules.specs.Naming.{Names}
 use Rattle.run_rules.specs.Rules.{IsReplyTo, Rule1, Rule4}
 use Rattle.run_rules.specs.Keeping.{one, two, three, four}
 use Rattle.run_rules.specs.Agreeing.{HasColumn, KeepSame, AreStepsAlike, Agree}
-use Rattle.run_rules.specs.Laws.{ComputedAccountKeeps}
+use Rattle.run_rules.specs.Laws.{ComputedAccountAgrees, ComputedAccountKeeps}
 use Rattle.run_rules.proofs.Lists.{map_map, zip_onto}
-use Rattle.run_rules.proofs.Numbers.{rule1, rule2, rule4}
+use Rattle.run_rules.proofs.Numbers.{rule1, rule2, rule3, rule4}
 use Rattle.run_rules.proofs.Reached.{home_within}
 use Rattle.run_rules.proofs.SameKept.{before_same}
 use Rattle.run_rules.proofs.LeftOut.{Obeys, printed_by}
@@ -38,6 +38,7 @@ use Rattle.run_rules.proofs.NamesAlike.{can_same, names_same}
 use Rattle.run_rules.proofs.OneAccount.{histories_alike, rows_alike, obeys, step_with}
 use Rattle.run_rules.proofs.ComputedSteps.{computed_alike}
 use Rattle.run_rules.proofs.ReportsTell.{reports_tell}
+use Rattle.run_rules.proofs.RowsTold.{third}
 
 -- BEYOND THE SHAPE
 
@@ -229,8 +230,8 @@ module _ (script : Script) (report : Report) (nodes : ℕ → List Node) (a : Ac
         a4.helpers r k e lr lk (subst (λ (h : List Entry). Contains h e) (sym (alike r k (lr, lk))) among) help;
   }
 
-pub computed_account_keeps : ComputedAccountKeeps
-computed_account_keeps script report nodes account fits well told rules =
+pub computed_account_agrees : ComputedAccountAgrees
+computed_account_agrees script report nodes account fits well told rules =
     let a1 = rule1 rules.0.0.0.1 in
     let a4 = rule4 rules.1 in (
       computed_agrees script report nodes account fits well told a1 a4,
@@ -239,3 +240,8 @@ computed_account_keeps script report nodes account fits well told rules =
         four (fourth script report nodes account fits well told a1 a4),
       ),
     )
+
+pub computed_account_keeps : ComputedAccountKeeps
+computed_account_keeps script report account fits well told rules =
+    (computed_account_agrees script report no_nodes account fits well told rules).1
+    (third script report account well told (rule1 rules.0.0.0.1) (rule3 rules.0.1))

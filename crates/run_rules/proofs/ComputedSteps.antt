@@ -59,7 +59,7 @@ is_step id (Give region from) s = absurd s
 is_step id (Carry region start heads) s = absurd s
 is_step id (Trim counts) s = absurd s
 
-among_in : (place : ℕ) (places : List ℕ) → is_among place places ≡ true → In place places
+pub among_in : (place : ℕ) (places : List ℕ) → is_among place places ≡ true → In place places
 among_in place [] t = absurd (let f : ⊥ = cc (t) in f)
 among_in place (p ∷ ps) t = turn (or_cases (p == place) (is_among place ps) t) (among_in place ps) where
   turn : ((p == place) ≡ true) ⊎ (is_among place ps ≡ true) → (is_among place ps ≡ true → In place ps) → In place (p ∷ ps)

@@ -11,6 +11,7 @@ mod Growing
 mod LawfulRules
 mod LeftOut
 mod Lists
+mod MarksWithin
 mod NamesAlike
 mod NodesAlike
 mod Numbers
@@ -22,6 +23,7 @@ mod Reached
 mod ReadsTold
 mod ReportsTell
 mod Room
+mod RowsTold
 mod RulesAlike
 mod RulesLawful
 mod SameKept

@@ -8,6 +8,7 @@ use Rattle.log_node.specs.declared.node.Node.{Node}
 use Rattle.log_node.specs.declared.ids.Id.{Id}
 use Rattle.log_node.specs.declared.forms.Version.{Version}
 use Rattle.log_node.specs.Order.{same_id}
+use Rattle.col_core.specs.declared.Entry.{Entry}
 use Rattle.col_core.specs.Log.{Log}
 use Rattle.col_core.specs.Keeping.{Kept, nothing_kept}
 use Rattle.col_core.proofs.CallerLemmas.{In, all_in, both, by_test, choice, contains_in, if_true, if_false, same_id-true}
@@ -61,37 +62,37 @@ journal_at (d ∷ ds) apart c i = turn i (journal_at ds (λ k m x lt within. apa
 
 -- ROWS
 
-module _ (nodes : ℕ → List Node) where
-  its_id : (r : RowReport) (shown : Option Node) → (node_or r shown).id ≡ r.id
+module _ (histories : ℕ → ℕ → List Entry) (nodes : ℕ → List Node) where
+  its_id : (r : RowReport) (shown : Option Node) → (node_or histories r shown).id ≡ r.id
   its_id r None = refl
   its_id r (Some node) =
-      choice (λ (n : Node). n.id ≡ r.id) (same_id node.id r.id) node (bare_node r) (same_id-true node.id r.id) (λ f. refl)
+      choice (λ (n : Node). n.id ≡ r.id) (same_id node.id r.id) node (bare_node histories r) (same_id-true node.id r.id) (λ f. refl)
 
-  shown_again : (region : ℕ) (r : RowReport) → r.region ≡ region → row_report region (row_of nodes r) ≡ r
+  shown_again : (region : ℕ) (r : RowReport) → r.region ≡ region → row_report region (row_of histories nodes r) ≡ r
   shown_again region r e =
-      ap (λ (n : ℕ). row_report n (row_of nodes r)) (sym e)
+      ap (λ (n : ℕ). row_report n (row_of histories nodes r)) (sym e)
       ∙ ap (λ (id : Id). record { region = r.region; row = r.row; id = id; marks = r.marks; last = r.last })
       (its_id r (slice_get (nodes r.id.client) r.id.count))
 
-  rows_again : (region : ℕ) (rs : List RowReport)
-      → map (row_report region) (map (row_of nodes) (filter (is_in region) rs)) ≡ filter (is_in region) rs
+  pub rows_again : (region : ℕ) (rs : List RowReport)
+      → map (row_report region) (map (row_of histories nodes) (filter (is_in region) rs)) ≡ filter (is_in region) rs
   rows_again region [] = refl
   rows_again region (r ∷ rs) =
       by_test _ (is_in region r)
       (λ t. let e = if_true (is_in region r) (r ∷ filter (is_in region) rs) (filter (is_in region) rs) t in
-      ap (λ (l : List RowReport). map (row_report region) (map (row_of nodes) l)) e
-      ∙ (ap (λ (x : RowReport). x ∷ map (row_report region) (map (row_of nodes) (filter (is_in region) rs)))
+      ap (λ (l : List RowReport). map (row_report region) (map (row_of histories nodes) l)) e
+      ∙ (ap (λ (x : RowReport). x ∷ map (row_report region) (map (row_of histories nodes) (filter (is_in region) rs)))
       (shown_again region r (eqb-true r.region region t))
       ∙ (ap (λ (l : List RowReport). r ∷ l) (rows_again region rs) ∙ sym e)))
       (λ f. let e = if_false (is_in region r) (r ∷ filter (is_in region) rs) (filter (is_in region) rs) f in
-      ap (λ (l : List RowReport). map (row_report region) (map (row_of nodes) l)) e ∙ (rows_again region rs ∙ sym e))
+      ap (λ (l : List RowReport). map (row_report region) (map (row_of histories nodes) l)) e ∙ (rows_again region rs ∙ sym e))
 
   all_rows : (regions : List ℕ) (rs : List RowReport)
-      → flat_map (λ region. map (row_report region) (map (row_of nodes) (filter (is_in region) rs))) regions
+      → flat_map (λ region. map (row_report region) (map (row_of histories nodes) (filter (is_in region) rs))) regions
       ≡ flat_map (λ region. filter (is_in region) rs) regions
   all_rows [] rs = refl
   all_rows (region ∷ regions) rs =
-      ap (λ (l : List RowReport). l ++ flat_map (λ x. map (row_report x) (map (row_of nodes) (filter (is_in x) rs))) regions)
+      ap (λ (l : List RowReport). l ++ flat_map (λ x. map (row_report x) (map (row_of histories nodes) (filter (is_in x) rs))) regions)
       (rows_again region rs)
       ∙ ap (λ (l : List RowReport). filter (is_in region) rs ++ l) (all_rows regions rs)
 
@@ -162,7 +163,7 @@ pub reports_tell : ReportsTell
 reports_tell script report nodes well = record {
   histories = all_in (λ (c : ColumnReport). c.journal ≡ journal_among report.columns c.region c.colour) report.columns
       (journal_at report.columns well.apart);
-  rows = well.rows ∙ sym (all_rows nodes (range_with_len 0 script.shape.regions) report.rows);
+  rows = well.rows ∙ sym (all_rows (journal_among report.columns) nodes (range_with_len 0 script.shape.regions) report.rows);
   clients = λ n c there.
       let log = log_of report nodes in
       let caller = caller_of script n in
