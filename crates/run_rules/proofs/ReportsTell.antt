@@ -63,7 +63,7 @@ journal_at (d ∷ ds) apart c i = turn i (journal_at ds (λ k m x lt within. apa
 -- ROWS
 
 module _ (histories : ℕ → ℕ → List Entry) (nodes : ℕ → List Node) where
-  its_id : (r : RowReport) (shown : Option Node) → (node_or histories r shown).id ≡ r.id
+  pub its_id : (r : RowReport) (shown : Option Node) → (node_or histories r shown).id ≡ r.id
   its_id r None = refl
   its_id r (Some node) =
       choice (λ (n : Node). n.id ≡ r.id) (same_id node.id r.id) node (bare_node histories r) (same_id-true node.id r.id) (λ f. refl)

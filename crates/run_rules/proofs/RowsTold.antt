@@ -38,7 +38,7 @@ use Rattle.run_rules.specs.Agreeing.{HasColumn}
 use Rattle.run_rules.proofs.Lists.{map_map, same_by}
 use Rattle.run_rules.proofs.OneAccount.{histories_alike, rows_alike}
 use Rattle.run_rules.proofs.ComputedSteps.{among_in}
-use Rattle.run_rules.proofs.ReportsTell.{reports_tell, rows_again}
+use Rattle.run_rules.proofs.ReportsTell.{its_id, reports_tell, rows_again}
 
 -- LISTS
 
@@ -186,174 +186,137 @@ mark_of h x y e f (marks.Number s) m = subst (λ (i : Id). Proposes h i s) e m
 mark_of h x y e f (marks.Fenced Memory) m = subst (λ (i : Id). (stamp : ℕ) → Proposes h i stamp → ⊥) e m
 mark_of h x y e f (marks.Fenced StampEnd) m = (subst (λ (i : Id). (stamp : ℕ) → Proposes h i stamp → ⊥) e m.0, f m.1)
 
-module _ (script : Script) (report : Report) (a : Account) (well : IsWellFormed script report)
+-- A row beside one of the same report: it fits, has the same colours, its floor leaves no stamp where the other's does not, and
+-- proposals tell its floor and wants where they tell the other's.
+pub record IsRowBeside (region : ℕ) (histories : ℕ → List Entry) (x y : BegunRow) : Type 0 where
+  fit : FitsRow region y
+  colours : members y.node.colours ≡ members x.node.colours
+  at_end : (h : List Entry) → IsAtEnd h x.node.floor → IsAtEnd h y.node.floor
+  proposed : (c : ℕ) (e : Entry) (floor : ℕ) (wants : Counts) → In c (members x.node.colours) → In e (histories c)
+      → e.event ≡ Propose x.node.id floor wants → x.node.floor ≡ floor → node_wants x.node c ≡ wants
+      → (y.node.floor ≡ floor) × (node_wants y.node c ≡ wants)
+
+module _ (script : Script) (report : Report) (nodes : ℕ → List Node) (a : Account) (well : IsWellFormed script report)
     (ta : IsTold script report a) (first : Rule1 script report a) (rule : Rule3 script a) where
   abbrev b : Account
-  b = account_of script report no_nodes
+  b = account_of script report nodes
 
-  abbrev told_of : ℕ → ℕ → List Entry
+  abbrev pub told_of : ℕ → ℕ → List Entry
   told_of = journal_among report.columns
 
-  alike : (r c : ℕ) → HasColumn script r c → a.log.histories r c ≡ told_of r c
-  alike = histories_alike script report a b ta (reports_tell script report no_nodes well) first
+  pub alike : (r c : ℕ) → HasColumn script r c → a.log.histories r c ≡ told_of r c
+  alike = histories_alike script report a b ta (reports_tell script report nodes well) first
 
-  -- a row of a region with its bare node
-  abbrev bare : ℕ → BegunRow → BegunRow
-  bare region x = row_of told_of no_nodes (row_report region x)
+  -- a row of a region, with its node as it is computed
+  abbrev pub row_with : ℕ → BegunRow → BegunRow
+  row_with region x = row_of told_of nodes (row_report region x)
 
-  rows_are : (region : ℕ) → region < script.shape.regions → b.log.rows region ≡ map (bare region) (a.log.rows region)
+  pub rows_are : (region : ℕ) → region < script.shape.regions → b.log.rows region ≡ map (row_with region) (a.log.rows region)
   rows_are region lt =
-      ap (map (row_of told_of no_nodes))
-      (sym (rows_alike script report a b ta (reports_tell script report no_nodes well) region lt
-      ∙ rows_again told_of no_nodes region report.rows))
-      ∙ map_map (row_of told_of no_nodes) (row_report region) (a.log.rows region)
+      ap (map (row_of told_of nodes))
+      (sym (rows_alike script report a b ta (reports_tell script report nodes well) region lt
+      ∙ rows_again told_of nodes region report.rows))
+      ∙ map_map (row_of told_of nodes) (row_report region) (a.log.rows region)
 
-  module _ (region : ℕ) (lt : region < script.shape.regions) where
+  pub same_id_with : (region : ℕ) (x : BegunRow) → (row_with region x).node.id ≡ x.node.id
+  same_id_with region x = its_id told_of nodes (row_report region x) (slice_get (nodes x.node.id.client) x.node.id.count)
+
+  module _ (region : ℕ) (lt : region < script.shape.regions)
+      (beside : (x : BegunRow) → In x (a.log.rows region) → IsRowBeside region (told_of region) x (row_with region x)) where
     abbrev rows : List BegunRow
     rows = a.log.rows region
 
     lawful : AreLawfulRows region script.shape.colours (a.log.histories region) rows
     lawful = rule.lawful region lt
 
+    its_marks : (x : BegunRow) → In x rows
+        → All (λ (m : ColourMark). IsMarkOf (a.log.histories region m.colour) x.node m.mark) x.marks
+        → All (λ (m : ColourMark). IsMarkOf (told_of region m.colour) (row_with region x).node m.mark) x.marks
+    its_marks x i all = all_in (λ (m : ColourMark). IsMarkOf (told_of region m.colour) (row_with region x).node m.mark) x.marks
+        (λ m j.
+        let less = All-contains (λ (k : ColourMark). k.colour < script.shape.colours) x.marks m
+        (All-contains (λ (r : BegunRow). All (λ (k : ColourMark). k.colour < script.shape.colours) r.marks) rows x
+        (rule.marked region lt) (contains_in rows x i)) (contains_in x.marks m j) in
+        subst (λ (h : List Entry). IsMarkOf h (row_with region x).node m.mark) (alike region m.colour (lt, less))
+        (mark_of (a.log.histories region m.colour) x.node (row_with region x).node (sym (same_id_with region x))
+        ((beside x i).at_end (a.log.histories region m.colour)) m.mark
+        (All-contains (λ (k : ColourMark). IsMarkOf (a.log.histories region k.colour) x.node k.mark) x.marks m all
+        (contains_in x.marks m j))))
+
     -- of each row
-    of_rows : (P Q : BegunRow → Type 0) → ((x : BegunRow) → In x rows → P x → Q (bare region x)) → All P rows
-        → All Q (map (bare region) rows)
-    of_rows P Q f all = all_in Q (map (bare region) rows) (λ y i.
-        let m = in_map (bare region) rows y i in
+    of_rows : (P Q : BegunRow → Type 0) → ((x : BegunRow) → In x rows → P x → Q (row_with region x)) → All P rows
+        → All Q (map (row_with region) rows)
+    of_rows P Q f all = all_in Q (map (row_with region) rows) (λ y i.
+        let m = in_map (row_with region) rows y i in
         subst Q m.2 (f m.0 m.1 (All-contains P rows m.0 all (contains_in rows m.0 m.1))))
 
-    module _ (x : BegunRow) (i : In x rows) where
-      abbrev cs : List ℕ
-      cs = marked_colours x.marks
-
-      fit : FitsRow region x
-      fit = All-contains (FitsRow region) rows x lawful.fit (contains_in rows x i)
-
-      below : (c : ℕ) → In c cs → c < script.shape.colours
-      below c j =
-          let m = in_map (λ (k : ColourMark). k.colour) x.marks c j in
-          let all = All-contains (λ (r : BegunRow). All (λ (k : ColourMark). k.colour < script.shape.colours) r.marks) rows x
-          (rule.marked region lt) (contains_in rows x i) in
-          subst (λ (k : ℕ). k < script.shape.colours) m.2
-          (All-contains (λ (k : ColourMark). k.colour < script.shape.colours) x.marks m.0 all (contains_in x.marks m.0 m.1))
-
-      colours_are : members (set_of cs) ≡ cs
-      colours_are =
-          subst (λ (l : List ℕ). members (set_of l) ≡ l) (sym fit.a_mark_each) (members_again x.node.colours)
-
-      -- what a proposal of the row's id tells is its node's
-      proposed : (c : ℕ) → c < script.shape.colours → (p : ℕ × Counts) → proposal_in x.node.id (told_of region c) ≡ Some p
-          → (x.node.floor ≡ p.0) × (node_wants x.node c ≡ p.1)
-      proposed c less p e =
-          let f = proposal_from x.node.id (told_of region c) p e in
-          let among = subst (In f.0) (sym (alike region c (lt, less))) f.1 in
-          let fits = subst (FitsRows rows c) f.2
-          (All-contains (λ (d : Entry). FitsRows rows c d.event) (a.log.histories region c) f.0 (lawful.events c less)
-          (contains_in (a.log.histories region c) f.0 among)) in
-          let same : fits.1 ≡ x =
-          same_by (λ (r : BegunRow). r.node.id) rows lawful.ids_differ fits.1 x (slice_in rows fits.0 fits.1 fits.2) i fits.3 in (
-            ap (λ (r : BegunRow). r.node.floor) (sym same) ∙ fits.5,
-            ap (λ (r : BegunRow). node_wants r.node c) (sym same) ∙ fits.4,
-          )
-
-      floors : HaveFloor x.node.id (told_of region) x.node.floor cs
-      floors c p j e = sym (proposed c (below c j) p e).0
-
-      its_fit : FitsRow region (bare region x)
-      its_fit = record {
-        client = fit.client;
-        row = refl;
-        in_region = refl;
-        several = let n = fit.several in let l = ap length fit.a_mark_each in let m = ap length colours_are in
-            omega (arith, n, l, m);
-        a_mark_each = sym colours_are;
-      }
-
-      at_end : (h : List Entry) → IsAtEnd h x.node.floor → IsAtEnd h (bare region x).node.floor
-      at_end h e = turn (floor_or_last x.node.id (told_of region) x.node.floor cs floors) where
-        turn : ((bare region x).node.floor ≡ x.node.floor) ⊎ ((bare region x).node.floor ≡ last_stamp)
-            → IsAtEnd h (bare region x).node.floor
-        turn (inl s) = subst (IsAtEnd h) (sym s) e
-        turn (inr s) = subst (IsAtEnd h) (sym s)
-            (let f : max (clock h) x.node.floor ≡ last_stamp = e in let g : max (clock h) last_stamp ≡ last_stamp = omega (arith, f) in g)
-
-      its_marks : All (λ (m : ColourMark). IsMarkOf (a.log.histories region m.colour) x.node m.mark) x.marks
-          → All (λ (m : ColourMark). IsMarkOf (told_of region m.colour) (bare region x).node m.mark) x.marks
-      its_marks all = all_in (λ (m : ColourMark). IsMarkOf (told_of region m.colour) (bare region x).node m.mark) x.marks (λ m j.
-          subst (λ (h : List Entry). IsMarkOf h (bare region x).node m.mark)
-          (alike region m.colour (lt, below m.colour (in_map-back (λ (k : ColourMark). k.colour) x.marks m j)))
-          (mark_of (a.log.histories region m.colour) x.node (bare region x).node refl (at_end (a.log.histories region m.colour))
-          m.mark
-          (All-contains (λ (k : ColourMark). IsMarkOf (a.log.histories region k.colour) x.node k.mark) x.marks m all
-          (contains_in x.marks m j))))
-
-    its_event : (c : ℕ) → c < script.shape.colours → (e : Entry) → In e (told_of region c) → (event : Event) → e.event ≡ event
-        → FitsRows rows c event → FitsRows (map (bare region) rows) c event
-    its_event c less e among (Single id floor wants) is f =
-        of_rows (λ (r : BegunRow). r.node.id ≢ id) (λ (r : BegunRow). r.node.id ≢ id) (λ x i p. p) f
-    its_event c less e among (Propose id floor wants) is (n, r, at, of_id, its_wants, its_floor, k, there) =
+    its_event : (c : ℕ) (e : Entry) → In e (told_of region c) → (event : Event) → e.event ≡ event
+        → FitsRows rows c event → FitsRows (map (row_with region) rows) c event
+    its_event c e among (Single id floor wants) is f =
+        of_rows (λ (r : BegunRow). r.node.id ≢ id) (λ (r : BegunRow). r.node.id ≢ id)
+        (λ x i p s. p (sym (same_id_with region x) ∙ s)) f
+    its_event c e among (Propose id floor wants) is (n, r, at, of_id, its_wants, its_floor, k, there) =
         let i = slice_in rows n r at in
-        let found = proposal_there r.node.id (told_of region c) e floor wants among
-        (is ∙ ap (λ (d : Id). Propose d floor wants) (sym of_id)) in
-        let j : In c (cs r i) = subst (In c) (sym (fit r i).a_mark_each) (slice_in (members r.node.colours) k c there) in
-        let told = proposed r i c less found.0 found.1 in (
+        let told = (beside r i).proposed c e floor wants (slice_in (members r.node.colours) k c there) among
+        (is ∙ ap (λ (d : Id). Propose d floor wants) (sym of_id)) its_floor its_wants in (
           n,
-          bare region r,
-          slice_mapped (bare region) rows n r at,
-          of_id,
-          ap (λ (l : List ℕ). wants_of l (map (λ d. wants_or (proposal_in r.node.id (told_of region d))) (cs r i)) c)
-              (colours_are r i)
-              ∙ (wants_beside (λ d. wants_or (proposal_in r.node.id (told_of region d))) (cs r i) c j
-              ∙ (ap wants_or found.1 ∙ (sym told.1 ∙ its_wants))),
-          floor_is r.node.id (told_of region) r.node.floor (cs r i) (floors r i) c j found ∙ its_floor,
+          row_with region r,
+          slice_mapped (row_with region) rows n r at,
+          same_id_with region r ∙ of_id,
+          told.1,
+          told.0,
           k,
-          subst (λ (l : List ℕ). slice_get l k ≡ Some c) ((sym (fit r i).a_mark_each) ∙ sym (colours_are r i)) there,
+          subst (λ (l : List ℕ). slice_get l k ≡ Some c) (sym (beside r i).colours) there,
         )
-    its_event c less e among (Settle id outcome) is (n, r, at, of_id, last) =
-        (n, bare region r, slice_mapped (bare region) rows n r at, of_id, last)
-    its_event c less e among (Raise to) is f = tt
-    its_event c less e among (Give other from) is f = tt
-    its_event c less e among (Carry other start heads) is f = tt
-    its_event c less e among (Trim counts) is f = tt
+    its_event c e among (Settle id outcome) is (n, r, at, of_id, last) =
+        (n, row_with region r, slice_mapped (row_with region) rows n r at, same_id_with region r ∙ of_id, last)
+    its_event c e among (Raise to) is f = tt
+    its_event c e among (Give other from) is f = tt
+    its_event c e among (Carry other start heads) is f = tt
+    its_event c e among (Trim counts) is f = tt
 
-    its_lawful : AreLawfulRows region script.shape.colours (told_of region) (map (bare region) rows)
+    its_lawful : AreLawfulRows region script.shape.colours (told_of region) (map (row_with region) rows)
     its_lawful = record {
-      in_order = λ client. numbers client (filter_mapped (bare region) (is_of client) rows) (lawful.in_order client);
-      fit = of_rows (FitsRow region) (FitsRow region) (λ x i f. its_fit x i) lawful.fit;
-      ids_differ = pairs_mapped (bare region) (λ r s. r.node.id ≢ s.node.id) (λ r s. r.node.id ≢ s.node.id)
-          (λ x y ne. ne) rows lawful.ids_differ;
+      in_order = λ client. numbers client (filter_mapped (row_with region) (is_of client) rows) (lawful.in_order client);
+      fit = of_rows (FitsRow region) (FitsRow region) (λ x i f. (beside x i).fit) lawful.fit;
+      ids_differ = pairs_mapped (row_with region) (λ r s. r.node.id ≢ s.node.id) (λ r s. r.node.id ≢ s.node.id)
+          (λ x y ne e. ne (sym (same_id_with region x) ∙ (e ∙ same_id_with region y))) rows lawful.ids_differ;
       marks = of_rows (λ (r : BegunRow). All (λ (m : ColourMark). IsMarkOf (a.log.histories region m.colour) r.node m.mark) r.marks)
           (λ (r : BegunRow). All (λ (m : ColourMark). IsMarkOf (told_of region m.colour) r.node m.mark) r.marks)
           its_marks lawful.marks;
       outcomes = of_rows (λ (r : BegunRow). FitsMarks (map (λ (m : ColourMark). m.mark) r.marks) r.last)
           (λ (r : BegunRow). FitsMarks (map (λ (m : ColourMark). m.mark) r.marks) r.last) (λ x i f. f) lawful.outcomes;
-      events = λ c less. all_in (λ (e : Entry). FitsRows (map (bare region) rows) c e.event) (told_of region c) (λ e among.
-          its_event c less e among e.event refl
+      events = λ c less. all_in (λ (e : Entry). FitsRows (map (row_with region) rows) c e.event) (told_of region c) (λ e among.
+          its_event c e among e.event refl
           (All-contains (λ (d : Entry). FitsRows rows c d.event) (a.log.histories region c) e (lawful.events c less)
           (contains_in (a.log.histories region c) e (subst (In e) (sym (alike region c (lt, less))) among))));
     } where
-      numbers : (client : ℕ) → filter (is_of client) (map (bare region) rows) ≡ map (bare region) (filter (is_of client) rows)
+      numbers : (client : ℕ)
+          → filter (is_of client) (map (row_with region) rows) ≡ map (row_with region) (filter (is_of client) rows)
           → map (λ (r : BegunRow). r.row.number) (filter (is_of client) rows)
           ≡ range_with_len 0 (length (filter (is_of client) rows))
-          → map (λ (r : BegunRow). r.row.number) (filter (is_of client) (map (bare region) rows))
-          ≡ range_with_len 0 (length (filter (is_of client) (map (bare region) rows)))
+          → map (λ (r : BegunRow). r.row.number) (filter (is_of client) (map (row_with region) rows))
+          ≡ range_with_len 0 (length (filter (is_of client) (map (row_with region) rows)))
       numbers client e order =
           ap (map (λ (r : BegunRow). r.row.number)) e
-          ∙ (map_map (λ (r : BegunRow). r.row.number) (bare region) (filter (is_of client) rows)
+          ∙ (map_map (λ (r : BegunRow). r.row.number) (row_with region) (filter (is_of client) rows)
           ∙ (order
           ∙ ap (range_with_len 0)
-          (sym (length-map (filter (is_of client) rows) (bare region)) ∙ ap length (sym e))))
+          (sym (length-map (filter (is_of client) rows) (row_with region)) ∙ ap length (sym e))))
 
-  pub third : Rule3 script b
-  third = record {
+  -- so the third rule holds where each row is beside one
+  pub third_beside : ((region : ℕ) → region < script.shape.regions → (x : BegunRow) → In x (a.log.rows region)
+      → IsRowBeside region (told_of region) x (row_with region x)) → Rule3 script b
+  third_beside beside = record {
     of_clients = λ region lt. subst (All (λ (r : BegunRow). IsClientIn script region r.row.client)) (sym (rows_are region lt))
-        (of_rows region lt (λ (r : BegunRow). IsClientIn script region r.row.client)
+        (of_rows region lt (beside region lt) (λ (r : BegunRow). IsClientIn script region r.row.client)
         (λ (r : BegunRow). IsClientIn script region r.row.client) (λ x i f. f) (rule.of_clients region lt));
     lawful = λ region lt. subst (AreLawfulRows region script.shape.colours (told_of region)) (sym (rows_are region lt))
-        (its_lawful region lt);
+        (its_lawful region lt (beside region lt));
     marked = λ region lt. subst (All (λ (r : BegunRow). All (λ (m : ColourMark). m.colour < script.shape.colours) r.marks))
         (sym (rows_are region lt))
-        (of_rows region lt (λ (r : BegunRow). All (λ (m : ColourMark). m.colour < script.shape.colours) r.marks)
+        (of_rows region lt (beside region lt)
+        (λ (r : BegunRow). All (λ (m : ColourMark). m.colour < script.shape.colours) r.marks)
         (λ (r : BegunRow). All (λ (m : ColourMark). m.colour < script.shape.colours) r.marks) (λ x i f. f)
         (rule.marked region lt));
     copies = λ c less origin copier lo lc apart.
@@ -362,3 +325,90 @@ module _ (script : Script) (report : Report) (a : Account) (well : IsWellFormed 
         (subst (λ (h : List Entry). IsTrueCopy origin copier (dated origin h) (dated copier (a.log.histories copier c)))
         (alike origin c (lo, less)) (rule.copies c less origin copier lo lc apart));
   }
+
+-- BARE NODES
+
+module _ (script : Script) (report : Report) (a : Account) (well : IsWellFormed script report)
+    (ta : IsTold script report a) (first : Rule1 script report a) (rule : Rule3 script a) where
+  abbrev told : ℕ → ℕ → List Entry
+  told = told_of script report no_nodes a well ta first rule
+
+  abbrev bare : ℕ → BegunRow → BegunRow
+  bare = row_with script report no_nodes a well ta first rule
+
+  module _ (region : ℕ) (lt : region < script.shape.regions) (x : BegunRow) (i : In x (a.log.rows region)) where
+    abbrev cs : List ℕ
+    cs = marked_colours x.marks
+
+    fit : FitsRow region x
+    fit = All-contains (FitsRow region) (a.log.rows region) x (rule.lawful region lt).fit
+        (contains_in (a.log.rows region) x i)
+
+    below : (c : ℕ) → In c cs → c < script.shape.colours
+    below c j =
+        let m = in_map (λ (k : ColourMark). k.colour) x.marks c j in
+        let all = All-contains (λ (r : BegunRow). All (λ (k : ColourMark). k.colour < script.shape.colours) r.marks)
+        (a.log.rows region) x (rule.marked region lt) (contains_in (a.log.rows region) x i) in
+        subst (λ (k : ℕ). k < script.shape.colours) m.2
+        (All-contains (λ (k : ColourMark). k.colour < script.shape.colours) x.marks m.0 all (contains_in x.marks m.0 m.1))
+
+    colours_are : members (set_of cs) ≡ cs
+    colours_are = subst (λ (l : List ℕ). members (set_of l) ≡ l) (sym fit.a_mark_each) (members_again x.node.colours)
+
+    -- what a proposal of the row's id tells is its node's
+    tells : (c : ℕ) → c < script.shape.colours → (p : ℕ × Counts) → proposal_in x.node.id (told region c) ≡ Some p
+        → (x.node.floor ≡ p.0) × (node_wants x.node c ≡ p.1)
+    tells c less p e =
+        let f = proposal_from x.node.id (told region c) p e in
+        let among = subst (In f.0) (sym (alike script report no_nodes a well ta first rule region c (lt, less))) f.1 in
+        let fits = subst (FitsRows (a.log.rows region) c) f.2
+        (All-contains (λ (d : Entry). FitsRows (a.log.rows region) c d.event) (a.log.histories region c) f.0
+        ((rule.lawful region lt).events c less) (contains_in (a.log.histories region c) f.0 among)) in
+        let same : fits.1 ≡ x =
+        same_by (λ (r : BegunRow). r.node.id) (a.log.rows region) (rule.lawful region lt).ids_differ fits.1 x
+        (slice_in (a.log.rows region) fits.0 fits.1 fits.2) i fits.3 in (
+          ap (λ (r : BegunRow). r.node.floor) (sym same) ∙ fits.5,
+          ap (λ (r : BegunRow). node_wants r.node c) (sym same) ∙ fits.4,
+        )
+
+    floors : HaveFloor x.node.id (told region) x.node.floor cs
+    floors c p j e = sym (tells c (below c j) p e).0
+
+    bare_at_end : (h : List Entry) → IsAtEnd h x.node.floor → IsAtEnd h (bare region x).node.floor
+    bare_at_end h e = turn (floor_or_last x.node.id (told region) x.node.floor cs floors) where
+      turn : ((bare region x).node.floor ≡ x.node.floor) ⊎ ((bare region x).node.floor ≡ last_stamp)
+          → IsAtEnd h (bare region x).node.floor
+      turn (inl s) = subst (IsAtEnd h) (sym s) e
+      turn (inr s) = subst (IsAtEnd h) (sym s)
+          (let f : max (clock h) x.node.floor ≡ last_stamp = e in let g : max (clock h) last_stamp ≡ last_stamp = omega (arith, f) in g)
+
+    bare_proposed : (c : ℕ) (e : Entry) (floor : ℕ) (wants : Counts) → In c (members x.node.colours) → In e (told region c)
+        → e.event ≡ Propose x.node.id floor wants → x.node.floor ≡ floor → node_wants x.node c ≡ wants
+        → ((bare region x).node.floor ≡ floor) × (node_wants (bare region x).node c ≡ wants)
+    bare_proposed c e floor wants k among is its_floor its_wants =
+        let found = proposal_there x.node.id (told region c) e floor wants among is in
+        let j : In c cs = subst (In c) (sym fit.a_mark_each) k in
+        let p = tells c (below c j) found.0 found.1 in (
+          floor_is x.node.id (told region) x.node.floor cs floors c j found ∙ its_floor,
+          ap (λ (l : List ℕ). wants_of l (map (λ d. wants_or (proposal_in x.node.id (told region d))) cs) c) colours_are
+              ∙ (wants_beside (λ d. wants_or (proposal_in x.node.id (told region d))) cs c j
+              ∙ (ap wants_or found.1 ∙ (sym p.1 ∙ its_wants))),
+        )
+
+    bare_beside : IsRowBeside region (told region) x (bare region x)
+    bare_beside = record {
+      fit = record {
+        client = fit.client;
+        row = refl;
+        in_region = refl;
+        several = let n = fit.several in let l = ap length fit.a_mark_each in let m = ap length colours_are in
+            omega (arith, n, l, m);
+        a_mark_each = sym colours_are;
+      };
+      colours = colours_are ∙ fit.a_mark_each;
+      at_end = bare_at_end;
+      proposed = bare_proposed;
+    }
+
+  pub third : Rule3 script (account_of script report no_nodes)
+  third = third_beside script report no_nodes a well ta first rule bare_beside
