@@ -1,5 +1,7 @@
 mod AppendsAlike
 mod AppendsTold
+mod Computed
+mod ComputedSteps
 pub mod CallerLemmas
 mod Explaining
 mod Facts
@@ -9,6 +11,8 @@ mod Growing
 mod LawfulRules
 mod LeftOut
 mod Lists
+mod MarksWithin
+mod NamesAlike
 mod NodesAlike
 mod Numbers
 mod OneAccount
@@ -19,6 +23,7 @@ mod Reached
 mod ReadsTold
 mod ReportsTell
 mod Room
+mod RowsTold
 mod RulesAlike
 mod RulesLawful
 mod SameKept

@@ -66,11 +66,11 @@ read_ids log caller kept stamp raises syncs =
     (syncs_keep log caller (kept_after_raises caller kept raises) syncs).0 ∙ raises_ids caller kept raises
 
 -- no id is used, or the one of a node that the command appends over what is then kept
-abbrev MayUse : Log → Caller → Kept → Kept → What → Kept → Type 0
+abbrev pub MayUse : Log → Caller → Kept → Kept → What → Kept → Type 0
 MayUse log caller kept over what after =
     (after.ids ≡ kept.ids) ⊎ ((after.ids ≡ kept.ids + 1) × HasNode log caller over what)
 
-over_ids : (log : Log) (caller : Caller) (kept : Kept) (answer : Answer)
+pub over_ids : (log : Log) (caller : Caller) (kept : Kept) (answer : Answer)
     → (kept_appending log caller kept answer).ids ≡ kept.ids
 over_ids log caller kept (answers.Decided commits stamp sync read_stamp raises syncs ended) =
     read_ids log caller (kept_after_piece log caller kept sync) read_stamp raises syncs
@@ -159,10 +159,10 @@ abbrev pub Uses : Log → Caller → Step → Type 0
 Uses log caller step = UsesNode log caller (kept_at step) step.command.what step.reply.answer
 
 -- what the client keeps when the step's node is appended
-abbrev over : Log → Caller → Step → Kept
+abbrev pub over : Log → Caller → Step → Kept
 over log caller step = kept_appending log caller (kept_at step) step.reply.answer
 
-step_uses : (log : Log) (caller : Caller) (step : Step) → Uses log caller step
+pub step_uses : (log : Log) (caller : Caller) (step : Step) → Uses log caller step
     → MayUse log caller (kept_at step) (over log caller step) step.command.what (kept_past log caller step)
 step_uses log caller step n =
     let told = told_uses log step.untold caller (kept_at step) step.command.what step.reply.answer n in

@@ -1,4 +1,5 @@
 pub mod Told
+pub mod Printed
 pub mod Telling
 pub mod Naming
 pub mod Answering

@@ -1,5 +1,5 @@
 // Laws of the rules. Each function does nothing, and its contract is the law.
-ghost use Rattle.run_rules.specs.Laws.{BrokenIsUnlawful, LawfulRunsKeepRules, LeastIsOne, OneAccountDecides, ReportsTell, RulesMakeLawful, ToldAccountsAgree, ToldNodesAgree};
+ghost use Rattle.run_rules.specs.Laws.{BrokenIsUnlawful, ComputedAccountAgrees, ComputedAccountKeeps, LawfulRunsKeepRules, LeastIsOne, OneAccountDecides, ReportsTell, RulesMakeLawful, ToldAccountsAgree, ToldNodesAgree};
 
 /// A report that hides nothing keeps all rules where it is that of a lawful run.
 pub fn lawful_runs_keep_rules()
@@ -24,6 +24,16 @@ pub fn least_is_one()
 /// A report that is well formed tells an account.
 pub fn reports_tell()
     ensures { ReportsTell }
+{}
+
+/// The account that is computed of a report keeps the first four rules where some told account does.
+pub fn computed_account_keeps()
+    ensures { ComputedAccountKeeps }
+{}
+
+/// So does the one of whatever nodes make its rows lawful, and both agree.
+pub fn computed_account_agrees()
+    ensures { ComputedAccountAgrees }
 {}
 
 /// Two accounts of one report at which the first four rules hold agree.
