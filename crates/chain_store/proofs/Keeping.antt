@@ -37,9 +37,12 @@ pub moved_each : (xs : List Kept) (ms : List (List PlacedNode)) (m r s t : List 
     → k ≡ p → f.items ≡ drop k (get_or (set (set xs 0 b) 1 d) 2 e).items ++ s
     → l ≡ q → h.items ≡ drop l (get_or (set (set (set xs 0 b) 1 d) 2 f) 3 g).items ++ t
     → kept_items (set (set (set (set xs 0 b) 1 d) 2 f) 3 h)
-    ≡ (drop n (get_or (kept_items xs) 0 []) ++ get_or ms 0 []) ∷ (drop o (get_or (kept_items xs) 1 []) ++ get_or ms 1 [])
-    ∷ (drop p (get_or (kept_items xs) 2 []) ++ get_or ms 2 []) ∷ (drop q (get_or (kept_items xs) 3 []) ++ get_or ms 3 []) ∷ []
-moved_each (w ∷ x ∷ y ∷ z ∷ []) ms m r s t a b c d e f g h i j k l n o p q four is i_is b_is j_is d_is k_is f_is l_is h_is =
+    ≡ (drop n (get_or (kept_items xs) 0 []) ++ get_or ms 0 [])
+    ∷ (drop o (get_or (kept_items xs) 1 []) ++ get_or ms 1 [])
+    ∷ (drop p (get_or (kept_items xs) 2 []) ++ get_or ms 2 [])
+    ∷ (drop q (get_or (kept_items xs) 3 []) ++ get_or ms 3 []) ∷ []
+moved_each (w ∷ x ∷ y ∷ z ∷ []) ms m r s t a b c d e f g h i j k l n o p q
+    four is i_is b_is j_is d_is k_is f_is l_is h_is =
     subst (λ (ns : List (List PlacedNode)). b.items ∷ d.items ∷ f.items ∷ h.items ∷ []
     ≡ (drop n w.items ++ get_or ns 0 []) ∷ (drop o x.items ++ get_or ns 1 [])
     ∷ (drop p y.items ++ get_or ns 2 []) ∷ (drop q z.items ++ get_or ns 3 []) ∷ []) (sym is)
@@ -48,13 +51,5 @@ moved_each (w ∷ x ∷ y ∷ z ∷ []) ms m r s t a b c d e f g h i j k l n o p
     let f_of : f.items ≡ drop p y.items ++ s = f_is ∙ ap (λ (u : ℕ). drop u y.items ++ s) k_is in
     let h_of : h.items ≡ drop q z.items ++ t = h_is ∙ ap (λ (u : ℕ). drop u z.items ++ t) l_is in
     cc)
-moved_each [] ms m r s t a b c d e f g h i j k l n o p q four is i_is b_is j_is d_is k_is f_is l_is h_is =
-    absurd (let none : ⊥ = omega (arith, four) in none)
-moved_each (w ∷ []) ms m r s t a b c d e f g h i j k l n o p q four is i_is b_is j_is d_is k_is f_is l_is h_is =
-    absurd (let none : ⊥ = omega (arith, four) in none)
-moved_each (w ∷ x ∷ []) ms m r s t a b c d e f g h i j k l n o p q four is i_is b_is j_is d_is k_is f_is l_is h_is =
-    absurd (let none : ⊥ = omega (arith, four) in none)
-moved_each (w ∷ x ∷ y ∷ []) ms m r s t a b c d e f g h i j k l n o p q four is i_is b_is j_is d_is k_is f_is l_is h_is =
-    absurd (let none : ⊥ = omega (arith, four) in none)
-moved_each (w ∷ x ∷ y ∷ z ∷ v ∷ us) ms m r s t a b c d e f g h i j k l n o p q four is i_is b_is j_is d_is k_is f_is l_is h_is =
+moved_each _ ms m r s t a b c d e f g h i j k l n o p q four is i_is b_is j_is d_is k_is f_is l_is h_is =
     absurd (let none : ⊥ = omega (arith, four) in none)

@@ -158,7 +158,8 @@ base_longer own regions region before (d ∷ ds) more =
     let h = base_longer own regions region (before ++ d ∷ []) ds more in omega (arith, h)
 
 -- what a column has of a history, and of one that begins with it
-module _ (t : Tag) (old log : List Told) (p : IsPrefix (dated_in t old) (dated_in t log)) (lawful : IsLawfulTold t log) where
+module _ (t : Tag) (old log : List Told) (p : IsPrefix (dated_in t old) (dated_in t log))
+    (lawful : IsLawfulTold t log) where
   whole : IsColumnHistory t.region t.regions (dated_in t old ++ p.0)
   whole = subst (IsColumnHistory t.region t.regions) (sym p.1) lawful
 

@@ -1,5 +1,5 @@
 // The calls of a region on one column, each under one turn of it.
-ghost use Rattle.std.specs.Prelude.{◌≡◌, ◌≢◌, ◌<◌, ◌≤◌, ◌+◌, ℕ, true, None, length, IfErr, IfOk, IfSome, OnOk, OnErr};
+ghost use Rattle.std.specs.Prelude.{◌≡◌, ◌≢◌, ◌<◌, ◌≤◌, ◌+◌, ℕ, true, None, Some, length, slice_get, IfErr, IfOk, IfSome, OnOk, OnErr};
 ghost use Rattle.std.specs.List.{position, filter, find};
 ghost use Rattle.std.specs.Option.{option_map};
 ghost use Rattle.log_node.specs.declared.marks.Mark.TheVariants.{Number, Fenced};
@@ -23,19 +23,22 @@ ghost use Rattle.chain_store.specs.Rows.{IsBegunRow, place_after};
 ghost use Rattle.chain_store.specs.Proposals.{HasProposal, IsMarkedOpen};
 ghost use Rattle.chain_store.specs.Steps.{HasSingleCause, MatchAt};
 ghost use Rattle.chain_store.specs.Looking.{ShowsOn};
-ghost use Rattle.chain_store.specs.Passes.{ShowsHistory, dated_in};
+ghost use Rattle.chain_store.specs.Passes.{ColumnCell, ShowsHistory, dated_in};
 ghost use Rattle.chain_store.specs.Regions.{tag_at, IsColumnAt};
 ghost use Rattle.chain_store.specs.Holds.{IsHold, KnowsAppend, SameBut, seen_in, entries_seen, view_of};
 ghost use Rattle.chain_store.specs.Holds.{SeesMoreIn, MakesOneIn, LooksIn, RaisesIn, GivesIn, CarriesIn, TrimsIn};
 ghost use Rattle.chain_store.specs.Givens.{OfTheirHeads};
+ghost use Rattle.chain_store.specs.Desks.{HasDesks, IsShareOf};
 
 use crate::calls::{Single, single_in};
 use crate::changes::{carry_in, give_in, raise_in, trim_in};
 use crate::hold::Hold;
-use crate::looks::{Looked, clock_in, held_in, look_in, look_on_in, place_in};
+use crate::looks::{Looked, clock_in, held_in, place_in};
+use crate::read_view::desk::{Desk, Share};
 use crate::region::Region;
 use crate::rows::{Proposed, Settled, below_in, propose_in, settle_in};
 use crate::seated::Seated;
+use crate::sharing::{look_on_shared, look_shared};
 use col_core::View;
 use column::{Below, ColumnFault, Given};
 use log_node::{At, Begun, Counts, Key, MAX_STAMP, Mark, Node, Outcome};
@@ -50,6 +53,33 @@ impl Region {
         ensures { IsColumnAt self.now colour result.now }
     {
         &self.columns[colour as usize]
+    }
+
+    // Its published copies.
+    fn share(&self, colour: u8) -> &Share
+        requires { colour < self.now.board.size.colours }
+        ensures there { slice_get self.now.shares.items colour ≡ Some result.now }
+        ensures of { (c : ColumnCell) → IsColumnAt self.now colour c → IsShareOf c result.now }
+    {
+        &self.shares[colour as usize]
+    }
+
+    // What there is to publish behind a turn of the colour's column, which added an event or not.
+    pub(crate) fn behind<R: Wait>(
+        &self,
+        rt: &R,
+        desks: &mut Vec<Desk>,
+        colour: u8,
+        by: u8,
+        event: bool,
+    )
+        requires desks { HasDesks self.now.shares.items desks.old.items }
+        requires colour { colour < self.now.board.size.colours }
+        ensures { HasDesks self.now.shares.items desks.new.items }
+    {
+        let desk = &mut desks[colour as usize];
+        self.share(colour)
+            .behind(rt, self.column(colour), desk, by, event);
     }
 
     /// The node enters the colour's column as final under the next stamp. Answers its position in the line too, which is
@@ -79,7 +109,9 @@ impl Region {
     {
         let by = hold.passes.number;
         let pass = &mut hold.passes.items[colour as usize];
-        match single_in(rt, self.column(colour), pass, by, node) {
+        let entered = single_in(rt, self.column(colour), pass, by, node);
+        self.behind(rt, &mut hold.desks, colour, by, entered.is_ok());
+        match entered {
             Ok(answer) => {
                 hold.next = node.id.count + 1;
                 Ok(answer)
@@ -108,7 +140,17 @@ impl Region {
     {
         let by = hold.passes.number;
         let pass = &mut hold.passes.items[colour as usize];
-        look_in(rt, alloc, self.column(colour), pass, by, from)
+        let desk = &mut hold.desks[colour as usize];
+        look_shared(
+            rt,
+            alloc,
+            self.column(colour),
+            self.share(colour),
+            pass,
+            desk,
+            by,
+            from,
+        )
     }
 
     /// What a reader sees of the colour's column who goes on from these counts; behind the column's base that is the base
@@ -131,7 +173,17 @@ impl Region {
     {
         let by = hold.passes.number;
         let pass = &mut hold.passes.items[colour as usize];
-        look_on_in(rt, alloc, self.column(colour), pass, by, from)
+        let desk = &mut hold.desks[colour as usize];
+        look_on_shared(
+            rt,
+            alloc,
+            self.column(colour),
+            self.share(colour),
+            pass,
+            desk,
+            by,
+            from,
+        )
     }
 
     /// The position of a key in the line of the colour's column, counted from 0; `None` exactly where it is not in the
@@ -199,7 +251,10 @@ impl Region {
     {
         let by = hold.passes.number;
         let pass = &mut hold.passes.items[colour as usize];
-        raise_in(rt, self.column(colour), pass, by, to)
+        let raised = raise_in(rt, self.column(colour), pass, by, to);
+        let event = matches!(raised, Ok(At::Event(_)));
+        self.behind(rt, &mut hold.desks, colour, by, event);
+        raised
     }
 
     /// Gives another region the own nodes of the colour from a number on.
@@ -223,7 +278,9 @@ impl Region {
     {
         let by = hold.passes.number;
         let pass = &mut hold.passes.items[colour as usize];
-        give_in(rt, alloc, self.column(colour), pass, by, region, from)
+        let given = give_in(rt, alloc, self.column(colour), pass, by, region, from);
+        self.behind(rt, &mut hold.desks, colour, by, given.is_ok());
+        given
     }
 
     /// Takes over what is new of a part of another region's line of the colour, and answers how many nodes that is.
@@ -249,7 +306,10 @@ impl Region {
     {
         let by = hold.passes.number;
         let pass = &mut hold.passes.items[colour as usize];
-        carry_in(rt, alloc, self.column(colour), pass, by, region, given)
+        let carried = carry_in(rt, alloc, self.column(colour), pass, by, region, given);
+        let event = matches!(carried, Ok((At::Event(_), _)));
+        self.behind(rt, &mut hold.desks, colour, by, event);
+        carried
     }
 
     /// Drops nodes of the colour below these counts that every other region has asked past, and answers the base.
@@ -270,7 +330,9 @@ impl Region {
     {
         let by = hold.passes.number;
         let pass = &mut hold.passes.items[colour as usize];
-        trim_in(rt, self.column(colour), pass, by, counts)
+        let trimmed = trim_in(rt, self.column(colour), pass, by, counts);
+        self.behind(rt, &mut hold.desks, colour, by, trimmed.is_ok());
+        trimmed
     }
 
     /// Proposes a begun append in the colour's column: where its row has no mark there, its node enters as open and the
@@ -299,7 +361,7 @@ impl Region {
     {
         let by = hold.passes.number;
         let pass = &mut hold.passes.items[colour as usize];
-        propose_in(
+        let proposed = propose_in(
             rt,
             &self.board,
             self.column(colour),
@@ -307,7 +369,10 @@ impl Region {
             &mut hold.seat,
             by,
             begun,
-        )
+        );
+        let event = matches!(proposed.at, At::Event(_));
+        self.behind(rt, &mut hold.desks, colour, by, event);
+        proposed
     }
 
     /// Settles a begun append in the colour's column with the outcome of its row: where its id is open, it becomes
@@ -338,7 +403,7 @@ impl Region {
     {
         let by = hold.passes.number;
         let pass = &mut hold.passes.items[colour as usize];
-        settle_in(
+        let settled = settle_in(
             rt,
             &self.board,
             self.column(colour),
@@ -347,7 +412,10 @@ impl Region {
             by,
             begun,
             outcome,
-        )
+        );
+        let event = matches!(settled.at, At::Event(_));
+        self.behind(rt, &mut hold.desks, colour, by, event);
+        settled
     }
 
     /// How many open entries the colour's column has with a key below, and the append of the least of them, of which the
