@@ -32,4 +32,7 @@ mod ObjectAnswers
 mod PartAnswers
 mod TreeAsks
 mod Places
+mod ScriptForms
+mod LineKeys
+mod PlayedStamps
 pub mod CallerLemmas

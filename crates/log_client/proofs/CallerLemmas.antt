@@ -9,7 +9,7 @@ pub use Rattle.log_client.proofs.Read.ItemsRead.{items_show, items_are_objects, 
 pub use Rattle.log_client.proofs.Read.ReadCalls.{line_is_own, line_rises}
 pub use Rattle.log_client.proofs.Read.ReadLater.{behind_all, read_above}
 pub use Rattle.log_client.proofs.Going.Explaining.{rests_same, rests_then}
-pub use Rattle.log_client.proofs.Sync.PlayedStamps.{stamps_played}
+pub use Rattle.lawful_run.proofs.CallerLemmas.{stamps_played}
 pub use Rattle.log_client.proofs.Object.ObjectNodes.{line_counted, line_first, first_are_own, snapshot_is_own}
 pub use Rattle.log_client.proofs.Object.ObjectFolds.{folds_none, folds_on, follows_later}
 pub use Rattle.log_client.proofs.Object.ObjectCalls.{explained_less, explained_then, first_position, one_known, one_started, tracks_long}

@@ -2,7 +2,6 @@
 pub mod Greatest
 pub mod PlayedOrders
 pub mod PlayedPlaces
-pub mod PlayedStamps
 pub mod Playing
 pub mod Plays
 pub mod Shown

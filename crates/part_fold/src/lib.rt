@@ -14,6 +14,7 @@ pub use laws::{
     decisions_are_plain, decisions_differ, decisions_fit, parts_agree, parts_are_shards,
     reads_decisions, verdicts_stay,
 };
+pub use part::place_of;
 pub use part_fold::PartFold;
 pub use ruled_fold::RuledFold;
 pub use transaction::Transaction;

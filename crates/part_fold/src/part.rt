@@ -1,6 +1,6 @@
-// The shard that a part has.
-ghost use Rattle.std.specs.Prelude.{◌≡◌, ◌<◌, ◌%◌, sum};
-ghost use Rattle.part_fold.specs.Parts.{is_in_shard};
+// The places of shards, and the shard that a part has.
+ghost use Rattle.std.specs.Prelude.{◌≡◌, ◌<◌, ◌^◌};
+ghost use Rattle.part_fold.specs.Parts.{is_in_shard, place_of};
 
 use std::marker::Model;
 
@@ -22,17 +22,17 @@ impl Model for Part {
     ghost invariant = { λ a. a.place < a.colours };
 }
 
-// The sum of the bytes, modulo a number.
-fn sum_modulo(bytes: &[u8], count: u64) -> u64
-    requires some { 0 < count }
-    requires few { count < 256 }
-    ensures { result ≡ sum bytes.now % count }
+/// The place of a key's shard among so many colours: the sum of its bytes modulo their number.
+pub fn place_of(key: &[u8], colours: usize) -> usize
+    requires some { 0 < colours }
+    requires few { colours < 2 ^ 63 }
+    ensures { result ≡ place_of colours key.now }
 {
-    let mut rest = 0;
-    for b in bytes {
-        rest = (rest + u64::from(*b) % count) % count;
+    let mut place = 0;
+    for byte in key {
+        place = (place + usize::from(*byte) % colours) % colours;
     }
-    rest
+    place
 }
 
 impl Part {
@@ -48,6 +48,6 @@ impl Part {
     pub fn has(&self, key: &[u8]) -> bool
         ensures { result ≡ is_in_shard self.now key.now }
     {
-        sum_modulo(key, u64::from(self.colours)) == u64::from(self.place)
+        place_of(key, usize::from(self.colours)) == usize::from(self.place)
     }
 }

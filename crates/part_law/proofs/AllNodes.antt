@@ -43,9 +43,10 @@ use Rattle.lawful_run.specs.Explains.{Explains}
 use Rattle.lawful_run.specs.Lawful.{LawfulRun}
 use Rattle.lawful_run.specs.ObjectReadings.{IsClosing, IsNodeOf}
 use Rattle.part_law.specs.Premises.{AreApart, AreTextsFree}
+use Rattle.lawful_run.proofs.CallerLemmas.{zip_of, zip_to}
 use Rattle.part_law.proofs.Colours.{set_has, shards_touch}
 use Rattle.part_law.proofs.Deciding.{SaysDecided, decided}
-use Rattle.part_law.proofs.Lists.{in_first, pairs_take, zip_images, zip_map, zip_of, zip_to}
+use Rattle.part_law.proofs.Lists.{in_first, pairs_take, zip_images, zip_map}
 use Rattle.part_law.proofs.Reading.{AreLogged, IsLogged, Reading, Reason, all_logged}
 use Rattle.part_law.proofs.Rising.{Rises, rises_filter, rises_from, rises_to, same_lists, same_verdict, stands_among}
 use Rattle.part_law.proofs.Texts.{is_said, no_decision, no_transaction, same_decisions, same_transactions}

@@ -22,7 +22,8 @@ use Rattle.lawful_run.specs.ObjectReadings.{AreNodesOf, IsClosing, IsNodeOf}
 use Rattle.lawful_run.specs.Parts.{Decides, IsRuledAs}
 use Rattle.lawful_run.specs.Reads.{kept_after_piece}
 use Rattle.part_law.specs.Laws.{DecisionsAreTrue}
-use Rattle.part_law.proofs.Lists.{zip_made, zip_map, zip_of, zip_to}
+use Rattle.lawful_run.proofs.CallerLemmas.{zip_of, zip_to}
+use Rattle.part_law.proofs.Lists.{zip_made, zip_map}
 use Rattle.part_law.proofs.LogReading.{log_reading}
 use Rattle.part_law.proofs.Reading.{AreLogged, IsLogged, Reading, Reason, all_logged}
 use Rattle.part_law.proofs.Rising.{Rises, rises_from, same_verdict, stands_among}

@@ -3,7 +3,6 @@ mod Rising
 mod Texts
 mod Asking
 mod Reading
-mod Words
 mod Lists
 mod Colours
 mod Deciding

@@ -11,21 +11,6 @@ use Rattle.col_core.proofs.CallerLemmas.{all_in, contains_in, In, in_take}
 
 -- BESIDE ONE ANOTHER
 
-pub zip_to : {A B : Type 0} (R : A → B → Type 0) (xs : List A) (ys : List B) → AllZip R xs ys → (x : A) → In x xs
-    → (y : B) × In y ys × R x y
-zip_to R [] ys a x i = absurd i
-zip_to R (z ∷ xs) [] a x i = absurd a
-zip_to {A} {B} R (z ∷ xs) (w ∷ ys) a x (inl e) = (w, inl refl, subst (λ (v : A). R v w) e a.0)
-zip_to R (z ∷ xs) (w ∷ ys) a x (inr i) = let r = zip_to R xs ys a.1 x i in (r.0, inr r.1, r.2)
-
-pub zip_of : {A B : Type 0} (R : A → B → Type 0) (xs : List A) (ys : List B) → AllZip R xs ys → (y : B) → In y ys
-    → (x : A) × In x xs × R x y
-zip_of R [] [] a y i = absurd i
-zip_of R [] (w ∷ ys) a y i = absurd a
-zip_of R (z ∷ xs) [] a y i = absurd i
-zip_of {A} {B} R (z ∷ xs) (w ∷ ys) a y (inl e) = (z, inl refl, subst (λ (v : B). R z v) e a.0)
-zip_of R (z ∷ xs) (w ∷ ys) a y (inr i) = let r = zip_of R xs ys a.1 y i in (r.0, inr r.1, r.2)
-
 -- the first items are those that the second ones tell
 pub zip_map : {A B : Type 0} (R : A → B → Type 0) (f : B → A) → ((x : A) (y : B) → R x y → f y ≡ x) → (xs : List A)
     (ys : List B) → AllZip R xs ys → map f ys ≡ xs

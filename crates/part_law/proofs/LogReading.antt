@@ -1,31 +1,24 @@
 -- What is told of a lawful run's log.
-use Rattle.std.proofs.Common.{◌≡◌, inl, inr, ℕ, ◌+◌, ◌-◌, ◌^◌, ◌<◌, ◌≤◌, true, false, List, [], ◌∷◌, ◌++◌, length, map, get_or, Option, Some, None, refl, ap, sym, subst, ◌∙◌, arith, reverse}
-use Rattle.std.specs.Prelude.{◌==◌, ◌&&◌, nat_le, take}
-use Rattle.std.specs.List.{All, filter}
+use Rattle.std.proofs.Common.{◌≡◌, inl, inr, ℕ, ◌+◌, ◌-◌, ◌<◌, true, List, [], ◌∷◌, ◌++◌, length, map, Option, Some, None, refl, ap, sym, subst, ◌∙◌, arith, reverse}
+use Rattle.std.specs.Prelude.{◌==◌, take}
+use Rattle.std.specs.List.{All}
 use Rattle.std.specs.Option.{option_map}
-use Rattle.std.proofs.lemmas.Bool.{and_from, le-leb, leb-true}
 use Rattle.std.proofs.lemmas.List.{length-map}
-use Rattle.std.proofs.lemmas.List.Elements.{All-contains, Contains-get_or}
+use Rattle.std.proofs.lemmas.List.Sums.{count_by-le-length, length-filter}
+use Rattle.std.proofs.lemmas.List.Elements.{All-contains}
 use Rattle.std.proofs.lemmas.Option.{slice_get_within}
-use Rattle.log_node.specs.declared.ids.Id.{Id}
 use Rattle.log_node.specs.declared.ids.Key.{Key}
 use Rattle.log_node.specs.declared.forms.Version.{Version}
-use Rattle.log_node.specs.declared.marks.Outcome.TheVariants.{Open, Gone, Final}
-use Rattle.log_node.specs.Order.{same_id}
 use Rattle.log_node.specs.Seen.{PlacedNode}
-use Rattle.log_node.specs.Standings.{Standing}
 use Rattle.object_form.specs.Forms.{AreVersions, is_writer}
 use Rattle.object_fold.specs.Nodes.{ObjectNode}
-use Rattle.object_fold.specs.Transactions.{CanRead, versions_after}
-use Rattle.object_fold.proofs.CallerLemmas.{versions_fit}
-use Rattle.col_core.specs.declared.Event.{Event}
+use Rattle.object_fold.specs.Transactions.{versions_after}
 use Rattle.col_core.specs.declared.Event.TheVariants as events
 use Rattle.col_core.specs.declared.Entry.{Entry}
-use Rattle.col_core.specs.History.{entry_key, line}
-use Rattle.col_core.specs.History as history
+use Rattle.col_core.specs.History.{line}
 use Rattle.col_core.specs.Computed.{dated}
 use Rattle.col_core.specs.Keeping.{Kept, with_read}
-use Rattle.col_core.proofs.CallerLemmas.{Alone, In, IsLawfulNext, IsLawfulPast, Settled, Status, Waits, after_event, both, choice, contains_in, dated-is_dated, entries-of, entry_within, in_contains, in_filter, in_left, in_line, in_map, in_map-back, in_right, lawful_past, past_clock_within, shown, slice_in, standing_of, status}
+use Rattle.col_core.proofs.CallerLemmas.{In, IsLawfulPast, choice, contains_in, dated-is_dated, in_contains, in_filter, in_left, in_map, in_map-back, in_right, lawful_past, shown, slice_in}
 use Rattle.script_text.specs.declared.commands.What.{What}
 use Rattle.script_text.specs.declared.commands.What.TheVariants as whats
 use Rattle.script_text.specs.declared.script.Command.{Command}
@@ -35,7 +28,6 @@ use Rattle.script_text.specs.Apart.{colours_of}
 use Rattle.script_text.specs.declared.script.Object.{Object}
 use Rattle.script_text.specs.declared.script.Script.{Script}
 use Rattle.script_text.specs.Fitting.{IsFitting, IsKindWithin, UsesObject}
-use Rattle.script_text.specs.Grammar.{are_keys}
 use Rattle.script_text.proofs.CallerLemmas.{clients_few}
 use Rattle.report_text.specs.declared.report.Answer.{Answer}
 use Rattle.report_text.specs.declared.report.Answer.TheVariants as answers
@@ -53,73 +45,9 @@ use Rattle.lawful_run.specs.ObjectReadings.{IsClosing}
 use Rattle.lawful_run.specs.Readings.{HasReply, kept_at, kept_of}
 use Rattle.lawful_run.specs.Reads.{AreKeysRead, lines_read}
 use Rattle.lawful_run.specs.Refusals.{kept_before}
-use Rattle.lawful_run.proofs.CallerLemmas.{append_of, at_updated, before_is, behind_is, closing_line, explained_ids, explained_keeps, legal_at, line_prefix, node_there, played_first, read_order, read_quiet, reads_keep, reason, shown_there, stands_in}
+use Rattle.lawful_run.proofs.CallerLemmas.{append_of, at_updated, before_is, behind_is, closing_line, explained_ids, explained_keeps, legal_at, line_prefix, node_there, played_first, read_order, read_quiet, reads_keep, read_versions_fit, reason, shown_there, stands_in, writer_fits, zip_of}
 use Rattle.part_law.proofs.Colours.{in_rising}
-use Rattle.part_law.proofs.Lists.{zip_of}
 use Rattle.part_law.proofs.Reading.{LineNode, Reading}
-use Rattle.part_law.proofs.Words.{keys_are_words, keys_distinct}
-
--- STAMPS
-
--- the stamps of entries are above zero
-above_next : (past : List Entry) (ev : Event) (stamp : ℕ) → IsLawfulNext past ev stamp
-    → ((id : Id) (e : Standing) → standing_of id (status id past) ≡ Some e → 1 ≤ e.key.stamp) → (id : Id) (e : Standing)
-    → standing_of id (after_event id ev stamp (status id past)) ≡ Some e → 1 ≤ e.key.stamp
-above_next past (events.Single other floor wants) stamp l old id e =
-    choice (λ (s : Status). standing_of id s ≡ Some e → 1 ≤ e.key.stamp) (same_id id other) (Alone stamp)
-    (status id past)
-    (λ t h. let x : record { key = entry_key stamp id; settled = true } ≡ e = cc in
-    let y : stamp ≡ e.key.stamp = ap (λ (f : Standing). f.key.stamp) x in let n = l.stamped in omega (arith, y, n))
-    (λ f h. old id e h)
-above_next past (events.Propose other floor wants) stamp l old id e =
-    choice (λ (s : Status). standing_of id s ≡ Some e → 1 ≤ e.key.stamp) (same_id id other) (Waits stamp)
-    (status id past)
-    (λ t h. let x : record { key = entry_key stamp id; settled = false } ≡ e = cc in
-    let y : stamp ≡ e.key.stamp = ap (λ (f : Standing). f.key.stamp) x in let n = l.stamped in omega (arith, y, n))
-    (λ f h. old id e h)
-above_next past (events.Settle other Open) stamp l old id e =
-    choice (λ (s : Status). standing_of id s ≡ Some e → 1 ≤ e.key.stamp) (same_id id other) (Settled Open)
-    (status id past) (λ t h. absurd (let x : ⊥ = cc in x)) (λ f h. old id e h)
-above_next past (events.Settle other (Gone why)) stamp l old id e =
-    choice (λ (s : Status). standing_of id s ≡ Some e → 1 ≤ e.key.stamp) (same_id id other) (Settled (Gone why))
-    (status id past) (λ t h. absurd (let x : ⊥ = cc in x)) (λ f h. old id e h)
-above_next past (events.Settle other (Final n)) stamp l old id e =
-    choice (λ (s : Status). standing_of id s ≡ Some e → 1 ≤ e.key.stamp) (same_id id other) (Settled (Final n))
-    (status id past)
-    (λ t h. let x : record { key = entry_key n id; settled = true } ≡ e = cc in
-    let y : n ≡ e.key.stamp = ap (λ (f : Standing). f.key.stamp) x in
-    let waited = old other (record { key = entry_key l.stamp other; settled = false }) (ap (standing_of other) l.waits) in
-    let more = l.settling.0 in omega (arith, y, waited, more))
-    (λ f h. old id e h)
-above_next past (events.Raise to) stamp l old id e = old id e
-above_next past (events.Give _ _) stamp l old id e = old id e
-above_next past (events.Carry _ _ _) stamp l old id e = old id e
-above_next past (events.Trim _) stamp l old id e = old id e
-
-above_none : (past : List Entry) → IsLawfulPast past → (id : Id) (e : Standing)
-    → standing_of id (status id past) ≡ Some e → 1 ≤ e.key.stamp
-above_none [] l id e h = absurd (let x : ⊥ = cc in x)
-above_none (d ∷ past) l id e h = above_next past d.event d.stamp l.0 (above_none past l.1) id e h
-
--- READS
-
--- the keys of a script's read are such as a transaction can name
-can_read : (keys : List (List ℕ)) → are_keys 2 keys ≡ true → CanRead keys
-can_read keys e =
-    let a = both _ _ e in
-    let n = both _ _ a.0 in record {
-      some = leb-true _ _ n.0;
-      few = leb-true _ _ n.1;
-      words = keys_are_words keys a.1;
-      distinct = keys_distinct keys a.1;
-    }
-
-read_versions_fit : (nodes : List ObjectNode) → ((node : ObjectNode) → In node nodes → is_writer (Some node.key) ≡ true)
-    → (keys : List (List ℕ)) → are_keys 2 keys ≡ true → AreVersions (versions_after nodes keys)
-read_versions_fit nodes good keys e =
-    versions_fit nodes
-    (λ k d lt. good (get_or nodes k d) (in_contains nodes (get_or nodes k d) (Contains-get_or nodes k d lt))) keys
-    (can_read keys e)
 
 -- what is kept of reads is such as a transaction's text may name
 abbrev FitsReads : Kept → Type 0
@@ -150,12 +78,6 @@ module _ (script : Script) (report : Report) (fits : IsFitting script) (run : La
       let lawful : IsLawfulPast (reverse h) =
       subst (λ (es : List Entry). IsLawfulPast (reverse es)) (dated-is_dated region h).same
       (lawful_past region script.shape.regions (dated region h) (legal_at script report fits run region colour lr lc)) in
-      let s = in_line (history.entries h) key i in
-      let there = subst (λ (es : List Standing). In s.0 es) (entries-of h) s.1 in
-      let least = above_none (reverse h) lawful s.0.key.id s.0 (shown (reverse h) lawful s.0 there) in
-      let high = entry_within (reverse h) lawful s.0 there in
-      let most = past_clock_within (reverse h) lawful in
-      let same : s.0.key.stamp ≡ key.stamp = ap (λ (k : Key). k.stamp) s.2 in
       let stands = stands_in script report fits run region colour lr lc key i in
       let client = key.id.client in
       let node = node_there script report fits run region colour key stands in
@@ -163,27 +85,16 @@ module _ (script : Script) (report : Report) (fits : IsFitting script) (run : La
       let of = run.clients client stands.client.shown stands.client.of_client in
       let listed = of.nodes in
       let ids = explained_ids of.explained in
-      let all = asked_few client script.commands in
+      let kept = length-filter (λ (c : Command). c.client == client) script.commands in
+      let all = count_by-le-length (λ (c : Command). c.client == client) script.commands in
       let short = fits.few in
       let named = slice_get_within report.clients client stands.client.shown stands.client.of_client in
       let names : length report.clients ≡ length script.clients =
       sym (length-map report.clients (λ (c : ClientReport). c.name)) ∙ ap length run.names in
       let homes = fits.clients in
       let few = clients_few script.version script.shape fits.shape in
-      let from : (nat_le 1 key.stamp && nat_le key.stamp (2 ^ 62 - 1)) ≡ true =
-      and_from (nat_le 1 key.stamp) _ (le-leb _ _ (omega (arith, least, same)))
-      (le-leb _ _ (omega (arith, high, most, same))) in
-      and_from (nat_le 1 key.stamp && nat_le key.stamp (2 ^ 62 - 1) && nat_le client 255) _
-      (and_from (nat_le 1 key.stamp && nat_le key.stamp (2 ^ 62 - 1)) _ from
-      (le-leb _ _ (omega (arith, named, names, homes, few))))
-      (le-leb key.id.count (2 ^ 63 - 1) (omega (arith, count, listed, ids, all, short))) where
-        asked_few : (n : ℕ) (cs : List Command) → length (filter (λ (c : Command). c.client == n) cs) ≤ length cs
-        asked_few n [] = omega arith
-        asked_few n (c ∷ cs) =
-            let rest = asked_few n cs in
-            choice (λ (l : List Command). length l ≤ length (c ∷ cs)) (c.client == n)
-            (c ∷ filter (λ (d : Command). d.client == n) cs) (filter (λ (d : Command). d.client == n) cs)
-            (λ _. omega (arith, rest)) (λ _. omega (arith, rest))
+      writer_fits h lawful key i (omega (arith, named, names, homes, few))
+      (omega (arith, count, listed, ids, kept, all, short))
 
   -- KEPT READS
 

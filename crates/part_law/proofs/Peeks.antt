@@ -33,8 +33,9 @@ use Rattle.lawful_run.specs.Objects.{AreObjectNodes}
 use Rattle.lawful_run.specs.ObjectReadings.{IsNodeOf}
 use Rattle.lawful_run.specs.Parts.{AnswersGet, HasPartValue, HasValue, OfPart}
 use Rattle.part_law.specs.Laws.{PeeksAgree}
+use Rattle.lawful_run.proofs.CallerLemmas.{zip_of}
 use Rattle.part_law.proofs.Colours.{object_of, shard_is}
-use Rattle.part_law.proofs.Lists.{zip_made, zip_map, zip_of}
+use Rattle.part_law.proofs.Lists.{zip_made, zip_map}
 use Rattle.part_law.proofs.Reading.{AreLogged, IsLogged, Reading, Reason, all_logged}
 use Rattle.part_law.proofs.AllNodes.{agreeing}
 use Rattle.part_law.proofs.Standing.{Cited, in_lines, same_node}

@@ -42,12 +42,11 @@ use Rattle.lawful_run.specs.Lawful.{LawfulRun}
 use Rattle.lawful_run.specs.ObjectReadings.{IsClosing, IsNodeOf}
 use Rattle.lawful_run.specs.Readings.{ClosingLinesRise, IsAppend, NodeTold, Nowhere, OneKey, Perhaps, ReturnedAppendsStand, StandsAs, StandsAtEnd, StandsAtPoints, StoodAt, Under, UnderAt, kept_of, told}
 use Rattle.part_law.specs.Premises.{AreApart, AreTextsFree, IsFree}
+use Rattle.lawful_run.proofs.CallerLemmas.{pairs_are, zip_of, zip_to}
 use Rattle.part_law.proofs.Asking.{Commits, DecidesBy, IsOne, same_colours, which}
 use Rattle.part_law.proofs.Colours.{has_in, in_rising, in_set, kind_some, rising_in, same_object, shards_in}
 use Rattle.part_law.proofs.Deciding.{no_stop}
-use Rattle.part_law.proofs.Lists.{zip_of, zip_to}
 use Rattle.part_law.proofs.Reading.{IsLogged, LineNode, Reading, Reason}
-use Rattle.part_law.proofs.Words.{pairs_are}
 
 -- laws of lower crates
 pub record Cited : Type 0 where

@@ -43,7 +43,7 @@ use Rattle.run_rules.specs.Keeping.{hides, is_sync}
 use Rattle.run_rules.proofs.Deciding.{decide_own}
 use Rattle.run_rules.proofs.Facts.{Facts, asked_colours}
 use Rattle.run_rules.proofs.Room.{appends_with, stops_with, no_stamp_with}
-use Rattle.run_rules.proofs.PlayedStamps.{stamps_played}
+use Rattle.lawful_run.proofs.CallerLemmas.{stamps_played}
 
 -- a word of a sync is that of one
 pub sync_manner : (what : What) → is_sync (word_of what) ≡ true → manner_of what ≡ Syncing

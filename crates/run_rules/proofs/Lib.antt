@@ -18,7 +18,6 @@ mod Numbers
 mod OneAccount
 mod OpenAlike
 mod Places
-mod PlayedStamps
 mod Reached
 mod ReadsTold
 mod ReportsTell

@@ -50,12 +50,11 @@ use Rattle.run_rules.specs.Answering.{AsksKeys, CanEnd, CanGet}
 use Rattle.run_rules.specs.Rules.{with_room, StopsAsTold}
 use Rattle.run_rules.specs.Shown.{OfMap, OfNodesRead, OfParts, own_key}
 use Rattle.run_rules.specs.Keeping.{hides, is_sync}
-use Rattle.lawful_run.proofs.CallerLemmas.{asked_kind, decide_kind}
+use Rattle.lawful_run.proofs.CallerLemmas.{asked_kind, decide_kind, stamps_played}
 use Rattle.run_rules.proofs.Deciding.{decide_asked, decide_own}
 use Rattle.run_rules.proofs.EndsTold.{end_told}
 use Rattle.run_rules.proofs.Facts.{Facts, asked_colours}
 use Rattle.run_rules.proofs.Room.{stops_with, no_stamp_with}
-use Rattle.run_rules.proofs.PlayedStamps.{stamps_played}
 use Rattle.run_rules.proofs.Explaining.{shown_sync}
 use Rattle.run_rules.proofs.ReadsTold.{told_read, names_read, names_sync}
 use Rattle.run_rules.proofs.AppendsTold.{with_places, AppendTold, append_told, append_as_told, steps_named}

@@ -79,11 +79,14 @@ module _ (w v : World) (reached : IsReached w) (to : RunsTo w v) where
   }
 
   parts_stay : (kind : Kind) (parts : List (KeptLine PartFold)) → AreItsParts w kind parts → AreItsParts v kind parts
-  parts_stay (kinds.Parts home colours) parts f = λ place kept there.
-      let right = f place kept there in record {
-        part_is = right.part_is;
-        folded = line_stays IsPart home (slice_index colours place) kept right.folded;
-      }
+  parts_stay (kinds.Parts home colours) parts f = record {
+    all = f.all;
+    each = λ place kept there.
+        let right = f.each place kept there in record {
+          part_is = right.part_is;
+          folded = line_stays IsPart home (slice_index colours place) kept right.folded;
+        };
+  }
   parts_stay _ parts f = tt
 
   pub tx_stays : (kind : Kind) (fold : TxFolds) → AreTxFolds w kind fold → AreTxFolds v kind fold
@@ -371,17 +374,25 @@ no_parts w _ parts none = tt
 pub parts_with : (w : World) (home : ℕ) (colours : List ℕ) (parts : List (KeptLine PartFold)) (n : ℕ)
     (kept : KeptLine PartFold) → ArePartFolds w home colours parts → IsPartFold w home colours n kept
     → ArePartFolds w home colours (set parts n kept)
-parts_with w home colours parts n kept f right = λ m other there. turn m other (set_cases parts n m kept other there) where
+parts_with w home colours parts n kept f right = record {
+  all = length-set parts n kept ∙ f.all;
+  each = λ m other there. turn m other (set_cases parts n m kept other there);
+} where
   turn : (m : ℕ) (other : KeptLine PartFold) → ((m ≡ n) × (kept ≡ other)) ⊎ ((m ≢ n) × (slice_get parts m ≡ Some other))
       → IsPartFold w home colours m other
   turn m other (inl p) =
       subst (λ (k : ℕ). IsPartFold w home colours k other) (sym p.0) (subst (IsPartFold w home colours n) p.1 right)
-  turn m other (inr p) = f m other p.1
+  turn m other (inr p) = f.each m other p.1
+
+-- those of the first places, of which there may be fewer than colours
+abbrev pub AreFirstParts : World → ℕ → List ℕ → List (KeptLine PartFold) → Type 0
+AreFirstParts w home colours parts =
+    (place : ℕ) (kept : KeptLine PartFold) → slice_get parts place ≡ Some kept → IsPartFold w home colours place kept
 
 -- one part more, of which no node is folded
 pub parts_more : (w : World) (home : ℕ) (colours : List ℕ) (parts : List (KeptLine PartFold)) (kept : KeptLine PartFold)
-    → ArePartFolds w home colours parts → kept.state.part ≡ part_at colours (length parts) → kept.count ≡ 0
-    → IsPart kept.state [] → ArePartFolds w home colours (parts ++ kept ∷ [])
+    → AreFirstParts w home colours parts → kept.state.part ≡ part_at colours (length parts) → kept.count ≡ 0
+    → IsPart kept.state [] → AreFirstParts w home colours (parts ++ kept ∷ [])
 parts_more w home colours parts kept f is none empty = λ m other there. turn m other (push_cases parts m kept other there)
   where
     turn : (m : ℕ) (other : KeptLine PartFold)

@@ -35,3 +35,4 @@ mod TxVerdicts
 mod GuardSteps
 mod TreeSteps
 mod PartSteps
+mod PartsHere

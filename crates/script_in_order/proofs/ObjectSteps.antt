@@ -28,7 +28,8 @@ use Rattle.script_meaning.specs.States.{kind_in}
 use Rattle.script_meaning.specs.Appends.{appended}
 use Rattle.script_meaning.specs.Objects.{shard_set}
 use Rattle.script_meaning.specs.Transactions.{version_keys}
-use Rattle.script_meaning.proofs.CallerLemmas.{at_or, keys_set, key_is_word, object_has, queue_one, set_has, shard_members, shards_below, shards_has}
+use Rattle.lawful_run.proofs.CallerLemmas.{key_is_word}
+use Rattle.script_meaning.proofs.CallerLemmas.{at_or, keys_set, object_has, queue_one, set_has, shard_members, shards_below, shards_has}
 use Rattle.script_in_order.specs.Doing.{DoneBy}
 
 -- the object that stands at a place is the one that a command uses

@@ -1,6 +1,6 @@
 -- Peeks and decides, by what their calls did.
-use Rattle.std.proofs.Common.{◌≡◌, ◌≢◌, inl, inr, ℕ, ◌<◌, ◌≤◌, zero, suc, Bool, true, false, cond, List, [], ◌∷◌, length, map, set, get_or, Option, Some, None, refl, ap, sym, subst, ◌∙◌, arith}
-use Rattle.std.specs.Prelude.{IsTrue, slice_get, slice_index, if◌then◌else◌}
+use Rattle.std.proofs.Common.{◌≡◌, ◌≢◌, inl, inr, ℕ, ◌<◌, ◌≤◌, zero, suc, Bool, true, false, cond, List, [], ◌∷◌, length, sum, map, set, get_or, Option, Some, None, refl, ap, sym, subst, ◌∙◌, arith, mod-lt}
+use Rattle.std.specs.Prelude.{IsTrue, slice_index, if◌then◌else◌}
 use Rattle.std.specs.List.{AllPairs}
 use Rattle.std.specs.Option.{option_map}
 use Rattle.std.specs.Vec.{with_item}
@@ -53,7 +53,7 @@ use Rattle.script_in_order.specs.declared.folds.Fold.TheVariants as folds
 use Rattle.script_in_order.specs.Folds.{IsKeptLine, IsPartFold, AreFolded, AreTxFolds, nodes_at}
 use Rattle.script_in_order.specs.Stamped.{ReadsStamped}
 use Rattle.script_in_order.proofs.DequeueSteps.{Entered, entered, ended, entered_of, first_point, stood_so, unanswered}
-use Rattle.script_in_order.proofs.FoldsKept.{none_else, parts_with, tx_of, tx_put}
+use Rattle.script_in_order.proofs.FoldsKept.{none_else, parts_with, there_at, tx_of, tx_put}
 use Rattle.script_in_order.proofs.GetSteps.{played_nodes}
 use Rattle.script_in_order.proofs.HelpsAndClears.{found_with, finds_all}
 use Rattle.script_in_order.proofs.ObjectSteps.{has_kind}
@@ -191,15 +191,24 @@ part_opened colours place at count kept state is part same many =
     ∙ (ap (λ (n : ℕ). let p : Part = record { place = n; colours = count } in p) same
     ∙ ap (λ (n : ℕ). let p : Part = record { place = at; colours = n } in p) many))
 
+-- a key's place is one of the places of a map's colours
+pub place_within : (count : ℕ) (colours key : List ℕ) (parts : List (KeptLine PartFold)) (place : ℕ)
+    → AreObjectColours count colours → length parts ≡ length colours → place ≡ place_of (length colours) key
+    → place < length parts
+place_within count colours key parts place own all is =
+    let low = mod-lt (sum key) own.some in omega (arith, low, all, is)
+
 -- as it stands at the key's place
-module _ (w : World) (client : ℕ) (colours key : List ℕ) (fold : TxFolds)
+module _ (w : World) (client count : ℕ) (colours key : List ℕ) (own : AreObjectColours count colours) (fold : TxFolds)
     (f : AreTxFolds w (kinds.Parts (home_of w client) colours) fold) (place colour : ℕ) (kept : KeptLine PartFold)
     (place_is : place ≡ place_of (length colours) key) (colour_is : colour ≡ shard_of colours key)
-    (there : slice_get fold.parts.items place ≡ Some kept) where
+    (value : kept ≡ get_or fold.parts.items place kept) where
   right : IsPartFold w (home_of w client) colours place kept
-  right = f.parts place kept there
+  right =
+      f.parts.each place kept (there_at fold.parts.items place kept
+      (place_within count colours key fold.parts.items place own f.parts.all place_is) value)
 
-  pub kept_part : kept.state.part ≡ part_of colours key
+  kept_part : kept.state.part ≡ part_of colours key
   kept_part = right.part_is ∙ ap (part_at colours) place_is
 
   its_colour : slice_index colours place ≡ colour
@@ -207,6 +216,10 @@ module _ (w : World) (client : ℕ) (colours key : List ℕ) (fold : TxFolds)
 
   pub kept_line : IsKeptLine IsPart w (home_of w client) colour kept
   kept_line = subst (λ (c : ℕ). IsKeptLine IsPart w (home_of w client) c kept) its_colour right.folded
+
+  -- what is told by its part and its colour is told by those of the key
+  pub told_by : (P : Part → ℕ → Type 0) → P kept.state.part colour → P (part_of colours key) (shard_of colours key)
+  told_by P told = subst (P (part_of colours key)) colour_is (subst (λ (part : Part). P part colour) kept_part told)
 
   -- folded on, it is right still
   pub kept_on : (new : KeptLine PartFold) → new.state.part ≡ kept.state.part

@@ -12,8 +12,8 @@ use Rattle.script_text.specs.Fitting.{AreBelow, HasColours, AreObjectColours, Is
 use Rattle.script_text.specs.Grammar.{are_pairs}
 use Rattle.lawful_run.specs.Asks.{object_colours, keys_of_pairs}
 use Rattle.lawful_run.specs.Refusals.{before_by, behind_by}
-use Rattle.lawful_run.proofs.CallerLemmas.{get_within}
-use Rattle.script_meaning.proofs.CallerLemmas.{object_has, key_some, some_of, rising_below, rising_some}
+use Rattle.lawful_run.proofs.CallerLemmas.{get_within, key_some}
+use Rattle.script_meaning.proofs.CallerLemmas.{object_has, some_of, rising_below, rising_some}
 use Rattle.log_node.specs.declared.ids.Key.{Key}
 use Rattle.log_node.specs.declared.forms.Pair.{Pair}
 use Rattle.log_node.specs.declared.forms.Version.{Version}

@@ -85,10 +85,13 @@ pub record IsPartFold (w : World) (home : ℕ) (colours : List ℕ) (place : ℕ
   pub part_is : kept.state.part ≡ part_at colours place
   pub folded : IsKeptLine IsPart w home (slice_index colours place) kept
 
--- there may be one for each place of a colour
-abbrev pub ArePartFolds : World → ℕ → List ℕ → List (KeptLine PartFold) → Type 0
-ArePartFolds w home colours parts =
-    (place : ℕ) (kept : KeptLine PartFold) → slice_get parts place ≡ Some kept → IsPartFold w home colours place kept
+-- a map that is played by its parts has a fold of each
+pub record ArePartFolds (w : World) (home : ℕ) (colours : List ℕ) (parts : List (KeptLine PartFold)) : Type 0 where
+  -- as many as it has colours
+  pub all : length parts ≡ length colours
+  -- each of the part at its place
+  pub each : (place : ℕ) (kept : KeptLine PartFold) → slice_get parts place ≡ Some kept
+      → IsPartFold w home colours place kept
 
 -- the parts of an object of this kind, if it is a map that is played by them
 abbrev pub AreItsParts : World → Kind → List (KeptLine PartFold) → Type 0

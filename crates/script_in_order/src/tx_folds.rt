@@ -1,9 +1,11 @@
 // Transactional maps: what of one is folded, and what the parts of one tell that is played by them.
-ghost use Rattle.std.specs.Prelude.{◌≡◌, ◌<◌, ◌^◌, ℕ, List, IfOk, length};
+ghost use Rattle.std.specs.Prelude.{◌≡◌, ◌≤◌, ◌<◌, ℕ, List, IfOk, length};
+ghost use Rattle.log_node.specs.declared.limits.TheConstants.{MAX_COLOURS};
 ghost use Rattle.object_fold.specs.Nodes.{ObjectNode, shard_of};
-ghost use Rattle.part_fold.specs.Parts.{place_of, part_value, undecided_after};
+ghost use Rattle.part_fold.specs.Parts.{part_value, undecided_after};
 ghost use Rattle.part_fold.specs.PartStates.{IsPart};
 ghost use Rattle.world_laws.specs.Worlds.{World as Meant, home_of};
+ghost use Rattle.script_text.specs.Apart.{colours_of};
 ghost use Rattle.script_text.specs.Fitting.{AreObjectColours};
 ghost use Rattle.world_code.specs.WorldView.{world_of};
 ghost use Rattle.script_meaning.specs.Dequeues.{sync_now};
@@ -14,9 +16,9 @@ use crate::clears::home;
 use crate::folds::{FirstNodes, fold_to};
 use crate::lines_fold::LinesFold;
 use crate::queues::sync_now;
-use log_node::{ColourList, Key, MAX_COLOURS, Text};
+use log_node::{ColourList, Key, Text};
 use object_fold::{KeptLine, TxState, shard_of};
-use part_fold::{PartFold, RuledFold};
+use part_fold::{PartFold, RuledFold, place_of};
 use report_text::{Answer, SyncPiece};
 use script_text::Kind;
 use std::alloc::{AllocError, Global};
@@ -32,32 +34,17 @@ pub struct TxFolds {
     pub ruled: LinesFold<RuledFold>,
 }
 
-// For each colour of a map the fold of no node of its line. There are never more colours than these.
+// For each colour of a map the fold of no node of its line.
 fn open_parts(alloc: Global, colours: &ColourList) -> Result<Vec<KeptLine<PartFold>>, AllocError>
+    requires { length colours.now ≤ MAX_COLOURS }
     ensures { (w : Meant) (home : ℕ) → IfOk result (λ parts. ArePartFolds w home colours.now parts.items) }
 {
-    if colours.len() > MAX_COLOURS as usize {
-        return Err(AllocError);
-    }
     let count = colours.len() as u8;
     let mut parts = Vec::new(alloc);
     for place in 0..count {
         parts.push(KeptLine::new(PartFold::open(alloc, place, count)))?;
     }
     Ok(parts)
-}
-
-// The place of a key's shard among so many colours: the sum of its bytes modulo their number.
-fn place_of(key: &[u8], colours: usize) -> usize
-    requires some { 0 < colours }
-    requires few { colours < 2 ^ 63 }
-    ensures { result ≡ place_of colours key.now }
-{
-    let mut place = 0;
-    for byte in key {
-        place = (place + usize::from(*byte) % colours) % colours;
-    }
-    place
 }
 
 // Folds the part of a colour on to the nodes of its line that a client plays now, and gives the client's sync of it.
@@ -160,6 +147,7 @@ fn part_waits(
 impl TxFolds {
     /// The fold of no node of a transactional map of this kind.
     pub fn open(alloc: Global, kind: &Kind) -> Result<TxFolds, AllocError>
+        requires { length (colours_of kind.now) ≤ MAX_COLOURS }
         ensures { (w : Meant) → IfOk result (AreTxFolds w kind.now) }
     {
         let parts = match kind {
@@ -198,9 +186,6 @@ impl TxFolds {
             AreTxFolds w (Kind.Parts (home_of w client) colours.now) self.new }
     {
         let place = place_of(key, colours.len());
-        if place >= self.parts.len() {
-            return Err(AllocError);
-        }
         let colour = shard_of(colours, key);
         peek_part(alloc, world, client, colour, key, &mut self.parts[place])
     }
@@ -227,9 +212,6 @@ impl TxFolds {
             AreTxFolds w (Kind.Parts (home_of w client) colours.now) self.new }
     {
         let place = place_of(key, colours.len());
-        if place >= self.parts.len() {
-            return Err(AllocError);
-        }
         let colour = shard_of(colours, key);
         part_waits(alloc, world, client, colour, &mut self.parts[place])
     }

@@ -33,12 +33,10 @@ pub use Rattle.script_meaning.proofs.Read.StampedEnds.{rising_line, keys_ordered
 pub use Rattle.script_meaning.proofs.Read.StampedReads.{stamp_low}
 pub use Rattle.script_meaning.proofs.Object.ShardSets.{keys_set, shard_members, set_has, shard_below, shards_below, shards_has, key_in, rising_some, rising_below, own_below}
 pub use Rattle.script_meaning.proofs.Run.GrantedSteps.{RunsTo, stays_there}
-pub use Rattle.script_meaning.proofs.Transaction.VersionsFit.{can_read}
 pub use Rattle.script_meaning.proofs.Run.GrantedReads.{read_runs}
 pub use Rattle.script_meaning.proofs.Object.LaterNodes.{line_longer, nodes_stay, new_behind, whole_stamp, read_behind}
 pub use Rattle.script_meaning.proofs.Object.ObjectKinds.{kind_colours, object_has, parts_of, queue_colour, queue_one, some_of}
 pub use Rattle.script_meaning.proofs.World.Playing.{at_or}
-pub use Rattle.script_meaning.proofs.Object.ObjectForms.{key_is_word, key_some, pairs_are}
 
 pub lead_shape : (script : Script) {commands : List Command} {state : State} → LeadTo script commands state
     → state.world.shape ≡ script.shape

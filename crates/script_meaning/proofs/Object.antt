@@ -8,6 +8,5 @@ pub mod GetRuns
 pub mod Getting
 pub mod LaterNodes
 pub mod ObjectAppends
-pub mod ObjectForms
 pub mod ObjectKinds
 pub mod ShardSets

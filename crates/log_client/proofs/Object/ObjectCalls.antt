@@ -23,7 +23,7 @@ use Rattle.append_core.specs.declared.stood.Point.{Point}
 use Rattle.lawful_run.specs.Callers.{Caller, node_of}
 use Rattle.lawful_run.specs.Appends.{Appends, AppendsOne, AppendsUnshown, one_unshown}
 use Rattle.lawful_run.specs.Reads.{Syncs, ShowsPlayed, HidesSyncs, HidesSync, played, greatest_played, greatest_stamp, IsTrimmed}
-use Rattle.lawful_run.proofs.CallerLemmas.{append_later, hides_none, hides_syncs_later, kept_after_hidden, unshown_later}
+use Rattle.lawful_run.proofs.CallerLemmas.{append_later, hides_none, hides_syncs_later, kept_after_hidden, unshown_later, stamps_played}
 use Rattle.client_law.specs.Knowing.{Rest, log_seen}
 use Rattle.client_law.specs.Kept.{IsKeptBy}
 use Rattle.client_law.proofs.CallerLemmas.{at_new_at}
@@ -44,7 +44,6 @@ use Rattle.log_client.proofs.Going.Explaining.{log_then}
 use Rattle.log_client.proofs.Known.Fitting.{fits_less}
 use Rattle.log_client.proofs.Going.GoingOn.{same_caller}
 use Rattle.log_client.proofs.Object.ObjectNodes.{counted_within}
-use Rattle.log_client.proofs.Sync.PlayedStamps.{stamps_played}
 
 -- WHAT EXPLAINS THEM
 

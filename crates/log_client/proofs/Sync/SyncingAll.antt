@@ -19,7 +19,7 @@ use Rattle.col_core.specs.RegionOrder.{IsClearUpTo}
 use Rattle.col_core.proofs.CallerLemmas.{In, contains_in, in_append, in_filter-back, in_right, in_slice}
 use Rattle.lawful_run.specs.Callers.{Caller}
 use Rattle.lawful_run.specs.Reads.{Syncs, ShowsPlayed, greatest_stamp, greatest_played, IsTrimmed}
-use Rattle.lawful_run.proofs.CallerLemmas.{prefix_get, prefix_length, prefix_take}
+use Rattle.lawful_run.proofs.CallerLemmas.{prefix_get, prefix_length, prefix_take, stamps_played}
 use Rattle.log_client.specs.declared.store.Store.{Store}
 use Rattle.log_client.specs.declared.client.Client.{Client}
 use Rattle.log_client.specs.declared.track.Track.{Track}
@@ -33,7 +33,6 @@ use Rattle.log_client.specs.Reading.{RestsOn, KeepsWith, IsCleared, key_above, h
 use Rattle.log_client.proofs.Going.Explaining.{rests_then, keeps_less, keeps_then}
 use Rattle.log_client.proofs.Read.HiddenReads.{all_from, are_syncs_later, synced_more, syncs_more}
 use Rattle.log_client.proofs.Read.ClearedHolds.{cleared_longer}
-use Rattle.log_client.proofs.Sync.PlayedStamps.{stamps_played}
 use Rattle.log_client.proofs.Read.ReadStamps.{home_more, home_lawful}
 use Rattle.log_client.proofs.Append.Several.{member_once}
 

@@ -3,11 +3,11 @@ use Rattle.std.proofs.Common.{◌≡◌, ◌≢◌, inl, ℕ, zero, suc, ◌<◌
 use Rattle.std.specs.Prelude.{◌==◌, slice_get}
 use Rattle.std.specs.List.{All}
 use Rattle.std.specs.Option.{option_map}
-use Rattle.std.proofs.lemmas.Bool.{eqb-true}
+use Rattle.std.proofs.lemmas.Bool.{eqb-true, leb-true}
 use Rattle.log_node.specs.Sets.{members, set_of}
 use Rattle.log_node.specs.declared.limits.TheConstants.{MAX_COLOURS}
 use Rattle.log_node.proofs.CallerLemmas.{members-one}
-use Rattle.col_core.proofs.CallerLemmas.{by_test, if_true, if_false, In}
+use Rattle.col_core.proofs.CallerLemmas.{both, by_test, if_true, if_false, In}
 use Rattle.world_laws.specs.Worlds.{World, home_of}
 use Rattle.script_text.specs.declared.script.Kind.{Kind}
 use Rattle.script_text.specs.declared.script.Kind.TheVariants as kinds
@@ -15,6 +15,7 @@ use Rattle.script_text.specs.declared.script.Object.{Object}
 use Rattle.script_text.specs.declared.commands.What.{What}
 use Rattle.script_text.specs.Apart.{is_parts}
 use Rattle.script_text.specs.Fitting.{AreObjectColours, IsKindWithin, is_tx, is_queue, is_any_map, HasObject}
+use Rattle.script_text.specs.Grammar.{are_keys}
 use Rattle.report_text.specs.declared.report.Answer.TheVariants as answers
 use Rattle.lawful_run.specs.Callers.{Caller}
 use Rattle.lawful_run.specs.Asks.{object_colours, object_home, home_asked}
@@ -28,6 +29,10 @@ use Rattle.script_meaning.proofs.Client.Refusing.{same_world}
 pub some_of : {A : Type 0} (xs : List A) → 1 ≤ length xs → (x : A) × In x xs
 some_of [] lt = absurd (let f : ⊥ = omega (arith, lt) in f)
 some_of (x ∷ xs) lt = (x, inl refl)
+
+-- keys that a command names are one at least
+pub a_key : (most : ℕ) (keys : List (List ℕ)) → are_keys most keys ≡ true → (key : List ℕ) × In key keys
+a_key most keys e = some_of keys (leb-true _ _ (both _ _ (both _ _ e).0).0)
 
 -- Colours
 

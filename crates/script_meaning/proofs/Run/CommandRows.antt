@@ -29,7 +29,7 @@ use Rattle.script_meaning.proofs.Move.AfterMoves as moving
 use Rattle.script_meaning.proofs.Object.DequeueRuns as dequeuing
 use Rattle.script_meaning.proofs.Object.GetRuns as getting
 use Rattle.script_meaning.proofs.Object.CausalRuns.{runs_get}
-use Rattle.script_meaning.proofs.Object.ObjectForms.{a_key}
+use Rattle.script_meaning.proofs.Object.ObjectKinds.{a_key}
 use Rattle.script_meaning.proofs.Object.ShardSets.{shard_members}
 use Rattle.script_meaning.proofs.Part.DecideRuns.{runs_decide}
 use Rattle.script_meaning.proofs.Read.AfterScan as scanning

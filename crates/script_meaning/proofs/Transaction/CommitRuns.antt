@@ -29,7 +29,7 @@ use Rattle.lawful_run.specs.Callers.{Caller, caller_of}
 use Rattle.lawful_run.specs.Explains.{Explains}
 use Rattle.lawful_run.specs.Objects.{shown_verdict}
 use Rattle.lawful_run.specs.Refusals.{IsAway}
-use Rattle.lawful_run.proofs.CallerLemmas.{commit_asks, explains_no_read}
+use Rattle.lawful_run.proofs.CallerLemmas.{commit_asks, explains_no_read, key_some, pairs_are}
 use Rattle.script_meaning.specs.Dequeues.{object_node_at}
 use Rattle.script_meaning.specs.States.{State, Grants, answered}
 use Rattle.script_meaning.specs.Objects.{caller_in, shard_set}
@@ -40,7 +40,6 @@ use Rattle.script_meaning.proofs.Transaction.TellingRuns.{answered_runs, runs_to
 use Rattle.script_meaning.proofs.Transaction.TransactionVerdicts.{own_verdict}
 use Rattle.script_meaning.proofs.Run.Invariant.{Runs, IsFit, caller_is}
 use Rattle.script_meaning.proofs.Client.Kept.{MadeBy}
-use Rattle.script_meaning.proofs.Object.ObjectForms.{pairs_are, key_some}
 use Rattle.script_meaning.proofs.Object.ObjectKinds.{object_has, some_of, tx_home}
 use Rattle.script_meaning.proofs.Object.ShardSets.{shard_members}
 

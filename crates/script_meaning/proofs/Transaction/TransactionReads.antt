@@ -28,7 +28,7 @@ use Rattle.lawful_run.specs.Deeds.{colours_synced, manner_of}
 use Rattle.lawful_run.specs.Callers.{Caller}
 use Rattle.lawful_run.specs.Explains.{Explains}
 use Rattle.lawful_run.specs.Refusals.{kept_before, kept_behind}
-use Rattle.lawful_run.proofs.CallerLemmas.{explains_read, reads_keep}
+use Rattle.lawful_run.proofs.CallerLemmas.{explains_read, read_versions_fit, reads_keep}
 use Rattle.script_meaning.specs.States.{State, Grants, LastReads}
 use Rattle.script_meaning.specs.Stamped.{read_stamp, stamped_read}
 use Rattle.script_meaning.specs.Dequeues.{object_node_at}
@@ -49,7 +49,7 @@ use Rattle.script_meaning.proofs.Object.ShardSets.{rising_below, rising_some}
 use Rattle.script_meaning.proofs.Read.StampedEnds.{ReadTo, KeepsRead}
 use Rattle.script_meaning.proofs.Read.StampedPlays.{MayLook}
 use Rattle.script_meaning.proofs.Read.StampedRaises.{AreDistinct}
-use Rattle.script_meaning.proofs.Transaction.VersionsFit.{key_fits, read_versions_fit}
+use Rattle.script_meaning.proofs.Transaction.VersionsFit.{key_fits}
 
 module _ (script : Script) (commands : List Command) (state : State) (command : Command) (grants : Grants)
     (runs : Runs script commands state) (fit : IsFitWhere script commands command ⊥ (Unit {0})) (object : ℕ)

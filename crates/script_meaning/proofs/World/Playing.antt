@@ -1,7 +1,7 @@
 -- The nodes of a play order: each stands in its chain, and their greatest stamp is that of the nodes between.
-use Rattle.std.proofs.Common.{◌≡◌, ℕ, zero, suc, ◌+◌, ◌<◌, ◌≤◌, List, [], ◌∷◌, map, take, drop, Some, Bool, true, cond, refl, subst, ap, sym, ◌∙◌, inl, inr, arith}
+use Rattle.std.proofs.Common.{◌≡◌, ℕ, zero, suc, ◌<◌, ◌≤◌, List, [], ◌∷◌, map, Some, Bool, true, cond, refl, subst, ap, sym, ◌∙◌, inl, inr, arith}
 use Rattle.std.specs.Prelude.{nat_lt, nat_le, slice_get, slice_index_or}
-use Rattle.std.specs.List.{AllZip, count_by, flat_map}
+use Rattle.std.specs.List.{AllZip, flat_map}
 use Rattle.std.proofs.lemmas.Bool.{ltb-true, leb-true, lt-ltb, le-leb, and_from}
 use Rattle.std.proofs.lemmas.Simd.{map-map}
 use Rattle.log_node.specs.declared.ids.Counts.{Counts}
@@ -11,62 +11,21 @@ use Rattle.log_node.specs.Vectors.{at, all_regions}
 use Rattle.log_node.specs.Outcomes.{greatest}
 use Rattle.log_node.specs.Reach.{Chains, Reachable}
 use Rattle.col_core.specs.PlayOrder.{Place, same_place, is_between, Stands, IsPlayOrder, nodes_between, greatest_between}
-use Rattle.col_core.proofs.CallerLemmas.{by_test, both, reached_within, In, same_place-is, same_place-itself}
+use Rattle.col_core.proofs.CallerLemmas.{both, reached_within, In, same_place-is, same_place-itself}
 use Rattle.world_laws.proofs.CallerLemmas.{in_flat_map}
 use Rattle.lawful_run.specs.Reads.{greatest_stamp}
+use Rattle.lawful_run.proofs.CallerLemmas.{counted_in, greatest_bounded, in_counted, in_regions, in_stretch, regions_in, stretch_in}
 use Rattle.script_meaning.proofs.Lists.{in_map_back}
 use Rattle.log_node.proofs.CallerLemmas.{one_if}
-use Rattle.log_node.proofs.CallerLemmas.{count_by-cons as counted}
 pub use Rattle.log_node.proofs.CallerLemmas.{get_within as got_at}
 pub use Rattle.col_core.proofs.CallerLemmas.{in_flat_map-back}
 
 -- Lists
 
--- what passes the test is counted
-in_counted : {A : Type 0} (test : A → Bool) (xs : List A) (x : A) → In x xs → test x ≡ true → 0 < count_by test xs
-in_counted test [] x i t = absurd i
-in_counted test (y ∷ ys) x (inl e) t =
-    let c = counted test y ys ∙ ap (λ (b : Bool). cond b 1 0 + count_by test ys) (ap test e ∙ t) in omega (arith, c)
-in_counted test (y ∷ ys) x (inr i) t =
-    let c = counted test y ys in let r = in_counted test ys x i t in omega (arith, c, r)
-
-counted_in : {A : Type 0} (test : A → Bool) (xs : List A) → 0 < count_by test xs → (x : A) × In x xs × (test x ≡ true)
-counted_in test [] h = absurd (let f : ⊥ = omega (arith, h) in f)
-counted_in test (y ∷ ys) h =
-    by_test _ (test y) (λ t. (y, inl refl, t))
-    (λ f. let c = counted test y ys ∙ ap (λ (b : Bool). cond b 1 0 + count_by test ys) f in
-    let r = counted_in test ys (omega (arith, c, h)) in (r.0, inr r.1, r.2))
-
 pub at_or : {A : Type 0} (xs : List A) (i : ℕ) (x d : A) → slice_get xs i ≡ Some x → slice_index_or xs i d ≡ x
 at_or [] i x d e = absurd (let f : ⊥ = cc in f)
 at_or (y ∷ xs) zero x d e = cc
 at_or (y ∷ xs) (suc i) x d e = at_or xs i x d e
-
--- what stands among the first items past some
-in_stretch : {A : Type 0} (k m : ℕ) (xs : List A) (i : ℕ) (x : A) → slice_get xs i ≡ Some x → k ≤ i → i < m
-    → In x (drop k (take m xs))
-in_stretch k zero xs i x e le lt = absurd (let f : ⊥ = omega (arith, lt) in f)
-in_stretch k (suc m) [] i x e le lt = absurd (let f : ⊥ = cc in f)
-in_stretch zero (suc m) (y ∷ xs) zero x e le lt = inl (let f : y ≡ x = cc in f)
-in_stretch zero (suc m) (y ∷ xs) (suc i) x e le lt = inr (in_stretch zero m xs i x e (omega arith) (omega (arith, lt)))
-in_stretch (suc k) (suc m) (y ∷ xs) zero x e le lt = absurd (let f : ⊥ = omega (arith, le) in f)
-in_stretch (suc k) (suc m) (y ∷ xs) (suc i) x e le lt =
-    in_stretch k m xs i x e (omega (arith, le)) (omega (arith, lt))
-
-stretch_in : {A : Type 0} (k m : ℕ) (xs : List A) (x : A) → In x (drop k (take m xs))
-    → (i : ℕ) × (slice_get xs i ≡ Some x) × (k ≤ i) × (i < m)
-stretch_in zero zero xs x j = absurd j
-stretch_in (suc k) zero xs x j = absurd j
-stretch_in zero (suc m) [] x j = absurd j
-stretch_in (suc k) (suc m) [] x j = absurd j
-stretch_in {A} zero (suc m) (y ∷ xs) x (inl e) = (0, ap (λ (z : A). Some z) e, omega arith, omega arith)
-stretch_in zero (suc m) (y ∷ xs) x (inr j) =
-    let r = stretch_in zero m xs x j in let lt = r.3 in (suc r.0, r.1, omega arith, omega (arith, lt))
-stretch_in (suc k) (suc m) (y ∷ xs) x j =
-    let r = stretch_in k m xs x j in
-    let le = r.2 in
-    let lt = r.3 in
-    (suc r.0, r.1, omega (arith, le), omega (arith, lt))
 
 -- a list beside what a function makes of it
 pub beside : {A B : Type 0} (R : A → B → Type 0) (f : A → B) (xs : List A) → ((x : A) → In x xs → R x (f x))
@@ -74,32 +33,12 @@ pub beside : {A B : Type 0} (R : A → B → Type 0) (f : A → B) (xs : List A)
 beside R f [] all = tt
 beside R f (x ∷ xs) all = (all x (inl refl), beside R f xs (λ y i. all y (inr i)))
 
-pub in_regions : (r : ℕ) → r < 4 → In r all_regions
-in_regions zero lt = inl refl
-in_regions (suc zero) lt = inr (inl refl)
-in_regions (suc (suc zero)) lt = inr (inr (inl refl))
-in_regions (suc (suc (suc zero))) lt = inr (inr (inr (inl refl)))
-in_regions (suc (suc (suc (suc r)))) lt = absurd (let f : ⊥ = omega (arith, lt) in f)
-
-regions_in : (r : ℕ) → In r all_regions → r < 4
-regions_in r (inl e) = omega (arith, e)
-regions_in r (inr (inl e)) = omega (arith, e)
-regions_in r (inr (inr (inl e))) = omega (arith, e)
-regions_in r (inr (inr (inr (inl e)))) = omega (arith, e)
-regions_in r (inr (inr (inr (inr none)))) = absurd none
-
 -- Greatest numbers
 
 greatest_bounds : (xs : List ℕ) (x : ℕ) → In x xs → x ≤ greatest xs
 greatest_bounds [] x i = absurd i
 greatest_bounds (y ∷ ys) x (inl e) = omega (arith, e)
 greatest_bounds (y ∷ ys) x (inr i) = let r = greatest_bounds ys x i in omega (arith, r)
-
-greatest_bounded : {A : Type 0} (f : A → ℕ) (xs : List A) (bound : ℕ) → ((x : A) → In x xs → f x ≤ bound)
-    → greatest (map f xs) ≤ bound
-greatest_bounded f [] bound h = omega arith
-greatest_bounded f (y ∷ ys) bound h =
-    let a = h y (inl refl) in let b = greatest_bounded f ys bound (λ x i. h x (inr i)) in omega (arith, a, b)
 
 -- A play order
 

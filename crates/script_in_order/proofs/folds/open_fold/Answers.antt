@@ -3,6 +3,7 @@ use Rattle.log_node.specs.declared.node.Shape.{Shape}
 use Rattle.script_text.specs.declared.script.Kind.{Kind}
 use Rattle.script_text.specs.declared.script.Kind.TheVariants as kinds
 use Rattle.script_text.specs.Fitting.{IsKindWithin, is_tx}
+use Rattle.script_meaning.proofs.CallerLemmas.{kind_colours}
 use Rattle.script_in_order.proofs.folds.open_fold.Goals as goal
 
 pub returns-in_ok-open_shards-in-Map : goal.returns-in_ok-open_shards-in-Map
@@ -36,3 +37,7 @@ returns-in_ok-open-in-Tx c = λ w same. (is_one c.args.kind.now c.in-Tx.is, c.in
 
 pub returns-in-Tree : goal.returns-in-Tree
 returns-in-Tree c = λ w same. (c.in-Tree._home, c.in-Tree._colours, c.in-Tree.is, c.open.ensures.folded w)
+
+pub open-requires-in-Tx : goal.open-requires-in-Tx
+open-requires-in-Tx c =
+    (kind_colours c.args.shape.now.regions c.args.shape.now.colours c.args.kind.now c.requires.within).few

@@ -7,7 +7,7 @@ use Rattle.object_form.specs.Forms.{IsForm}
 use Rattle.log_node.specs.declared.forms.Form.TheVariants as forms
 use Rattle.world_code.specs.WorldView.{world_of}
 use Rattle.script_meaning.specs.States.{kind_in}
-use Rattle.script_meaning.proofs.CallerLemmas.{key_is_word}
+use Rattle.lawful_run.proofs.CallerLemmas.{key_is_word}
 use Rattle.script_in_order.proofs.ObjectSteps.{kind_is, has_kind, small, queue_some, queue_low, form_done}
 use Rattle.script_in_order.proofs.CommandKinds.{all_do}
 use Rattle.script_in_order.proofs.object_appends.enqueue.Goals as goal

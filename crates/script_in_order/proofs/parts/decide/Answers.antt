@@ -1,40 +1,23 @@
-use Rattle.std.proofs.Common.{◌≡◌, ◌∙◌, ℕ, List, [], Option, None, Some, get_or, set, ap, sym, subst}
-use Rattle.world_laws.specs.Worlds.{home_of}
+use Rattle.std.proofs.Common.{◌∙◌, [], Option, ap}
 use Rattle.script_text.specs.declared.script.Kind.{Kind}
-use Rattle.script_text.specs.declared.script.Kind.TheVariants as kinds
-use Rattle.script_text.specs.declared.commands.What.{What}
-use Rattle.lawful_run.proofs.CallerLemmas.{get_within}
-use Rattle.script_meaning.specs.Objects.{caller_in, refusing_home}
-use Rattle.script_meaning.specs.States.{kind_in}
-use Rattle.world_code.specs.WorldView.{world_of}
-use Rattle.script_in_order.specs.declared.folds.Fold.{Fold}
-use Rattle.script_in_order.specs.declared.folds.Fold.TheVariants as folds
-use Rattle.script_in_order.specs.Folds.{AreFolded}
-use Rattle.script_in_order.proofs.CausalKept.{kind_at}
-use Rattle.script_in_order.proofs.CommandKinds.{all_do}
-use Rattle.script_in_order.proofs.GetSteps.{folded_on}
-use Rattle.script_in_order.proofs.ObjectHomes.{parts_home}
-use Rattle.script_in_order.proofs.PartSteps.{no_other, parts_at, parts_put}
-use Rattle.script_in_order.proofs.TransactionSteps.{whole_members, whole_low, whole_some}
+use Rattle.script_text.specs.declared.commands.What.TheVariants as whats
 use Rattle.lawful_run.specs.Asks.{object_colours, rising}
+use Rattle.world_code.specs.WorldView.{world_of}
+use Rattle.script_in_order.proofs.CommandKinds.{all_do}
+use Rattle.script_in_order.proofs.PartSteps.{no_other}
+use Rattle.script_in_order.proofs.PartsHere.{fold_now, its_kind, its_fold, its_put}
+use Rattle.script_in_order.proofs.TransactionSteps.{whole_members, whole_low, whole_some}
 use Rattle.script_in_order.proofs.parts.decide.Goals as goal
 
 pub decide_in-requires-clause-all : goal.decide_in-requires-clause-all
 decide_in-requires-clause-all c =
-    let w = world_of c.args.world.now in
-    let command = c.args.command.now in
-    let objects = c.args.objects.now in
-    let object = c.args.object in
-    let has = c.requires.uses.0 in
-    let own : ℕ = home_of w command.client in
-    let slice = c.as_slice.result.now in
-    let is : kind_in objects object ≡ Some (kinds.Parts own slice) =
-    parts_home own objects object c.requires.near c.in-Parts._home c.in-Parts.colours
-    (kind_at objects object c.index-objects-object.result _ (get_within objects object has.found has.there) c.in-Parts.is)
-    ∙ ap (λ (l : List ℕ). Some (kinds.Parts own l)) (sym c.as_slice.ensures) in
-    whole_members c.args.world.now.shape.regions c.args.world.now.shape.colours c.is_whole.ensures.few_colours objects
-    c.requires.kinds object has c.index-objects-object.result c.all_colours-all.result c.all_colours-all.ensures
-    ∙ ap (λ (k : Option Kind). rising (object_colours k)) is
+    whole_members c.args.world.now.shape.regions c.args.world.now.shape.colours c.is_whole.ensures.few_colours
+    c.args.objects.now c.requires.kinds c.args.object c.requires.uses.0 c.index-objects-object.result c.all_colours-all.result
+    c.all_colours-all.ensures
+    ∙ ap (λ (k : Option Kind). rising (object_colours k))
+    (its_kind (world_of c.args.world.now) c.args.objects.now c.args.command.now c.args.object c.requires.uses.0
+    c.requires.near c.index-objects-object.result c.in-Parts._home c.in-Parts.colours c.as_slice.result.now c.in-Parts.is
+    c.as_slice.ensures)
 
 pub decide_in-requires-clause-within : goal.decide_in-requires-clause-within
 decide_in-requires-clause-within c =
@@ -50,64 +33,35 @@ decide_in-requires-clause-some c =
 
 pub decide_in-requires-clause-folded : goal.decide_in-requires-clause-folded
 decide_in-requires-clause-folded c =
-    let w = world_of c.args.world.now in
-    let command = c.args.command.now in
-    let objects = c.args.objects.now in
-    let object = c.args.object in
-    let has = c.requires.uses.0 in
-    let own : ℕ = home_of w command.client in
-    let slice = c.as_slice.result.now in
-    let is : kind_in objects object ≡ Some (kinds.Parts own slice) =
-    parts_home own objects object c.requires.near c.in-Parts._home c.in-Parts.colours
-    (kind_at objects object c.index-objects-object.result _ (get_within objects object has.found has.there) c.in-Parts.is)
-    ∙ ap (λ (l : List ℕ). Some (kinds.Parts own l)) (sym c.as_slice.ensures) in
-    let there = subst (λ (l : List Fold). c.index_mut.result.now ≡ get_or l object c.index_mut.result.now)
-    c.folds.view_is c.index_mut.ensures.value in
-    parts_at w objects c.args.folds.now object c.requires.folded has own slice is c.index_mut.result.now c.in-Tx.fold there
-    c.in-Tx.is
+    its_fold (world_of c.args.world.now) c.args.objects.now c.args.command.now c.args.object c.requires.uses.0
+    c.requires.near c.index-objects-object.result c.in-Parts._home c.in-Parts.colours c.as_slice.result.now c.in-Parts.is
+    c.as_slice.ensures _ c.args.folds.now c.folds.view_is c.requires.folded c.index_mut.result.now c.in-Tx.fold
+    c.index_mut.ensures.value c.in-Tx.is
 
 pub unreachable-requires-in_default-index_mut : goal.unreachable-requires-in_default-index_mut
 unreachable-requires-in_default-index_mut c =
-    let object = c.args.object in
-    let there = subst (λ (l : List Fold). c.index_mut.result.now ≡ get_or l object c.index_mut.result.now)
-    c.folds.view_is c.index_mut.ensures.value in
-    no_other (world_of c.args.world.now) c.args.objects.now c.args.folds.now object c.requires.folded c.requires.uses.0
-    c.index_mut.result.now there c.in_default-index_mut.not-Tx
+    no_other (world_of c.args.world.now) c.args.objects.now c.args.folds.now c.args.object c.requires.folded
+    c.requires.uses.0 c.index_mut.result.now
+    (fold_now _ c.args.folds.now c.args.object c.index_mut.result.now c.folds.view_is c.index_mut.ensures.value)
+    c.in_default-index_mut.not-Tx
 
-pub returns-clause-ok : goal.returns-clause-ok
-returns-clause-ok c =
+pub returns : goal.returns
+returns c =
     let w = world_of c.args.world.now in
+    let v = world_of c.decide_in.new.world in
     let command = c.args.command.now in
     let objects = c.args.objects.now in
     let object = c.args.object in
     let has = c.requires.uses.0 in
-    let own : ℕ = home_of w command.client in
     let slice = c.as_slice.result.now in
-    let is : kind_in objects object ≡ Some (kinds.Parts own slice) =
-    parts_home own objects object c.requires.near c.in-Parts._home c.in-Parts.colours
-    (kind_at objects object c.index-objects-object.result _ (get_within objects object has.found has.there) c.in-Parts.is)
-    ∙ ap (λ (l : List ℕ). Some (kinds.Parts own l)) (sym c.as_slice.ensures) in
-    let v = world_of c.decide_in.new.world in
-    all_do objects command c.requires.asks c.decide_in.result w v []
-    (c.decide_in.ensures.ok objects object (ap object_colours is))
-
-pub returns-clause-folded : goal.returns-clause-folded
-returns-clause-folded c =
-    let w = world_of c.args.world.now in
-    let command = c.args.command.now in
-    let objects = c.args.objects.now in
-    let object = c.args.object in
-    let has = c.requires.uses.0 in
-    let own : ℕ = home_of w command.client in
-    let slice = c.as_slice.result.now in
-    let is : kind_in objects object ≡ Some (kinds.Parts own slice) =
-    parts_home own objects object c.requires.near c.in-Parts._home c.in-Parts.colours
-    (kind_at objects object c.index-objects-object.result _ (get_within objects object has.found has.there) c.in-Parts.is)
-    ∙ ap (λ (l : List ℕ). Some (kinds.Parts own l)) (sym c.as_slice.ensures) in
-    let v = world_of c.decide_in.new.world in
-    let near = subst (λ (what : What). refusing_home (caller_in w objects command.client) what ≡ None) (sym c.requires.asks)
-    c.requires.near in
-    let all = folded_on objects command w v [] c.decide_in.result c.is_whole.ensures.reached near (returns-clause-ok c)
-    c.decide_in.ensures.err c.args.folds.now c.requires.folded in
-    subst (λ (l : List Fold). AreFolded v objects (set l object (folds.Tx c.decide_in.new.fold))) (sym c.folds.view_is)
-    (parts_put v objects c.args.folds.now object all has own slice is c.decide_in.new.fold c.decide_in.ensures.folded)
+    let done = all_do objects command c.requires.asks c.decide_in.result w v []
+    (c.decide_in.ensures.ok objects object (ap object_colours (its_kind w objects command object has c.requires.near
+    c.index-objects-object.result c.in-Parts._home c.in-Parts.colours slice c.in-Parts.is c.as_slice.ensures))) in
+    record {
+      ok = done;
+      err = c.decide_in.ensures.err;
+      folded = its_put w objects command object has c.requires.near c.index-objects-object.result c.in-Parts._home
+          c.in-Parts.colours slice c.in-Parts.is c.as_slice.ensures _ c.args.folds.now c.folds.view_is c.requires.folded v
+          (whats.Decide object c.args.key.now) c.decide_in.result c.decide_in.new.fold c.is_whole.ensures.reached
+          c.requires.asks c.requires.near done c.decide_in.ensures.err c.decide_in.ensures.folded;
+    }

@@ -4,7 +4,7 @@ use Rattle.object_form.specs.Forms.{IsForm, form_text}
 use Rattle.script_text.specs.Fitting.{is_tx}
 use Rattle.world_code.specs.WorldView.{world_of}
 use Rattle.script_meaning.specs.Transactions.{verdict_tells}
-use Rattle.script_meaning.proofs.CallerLemmas.{pairs_are}
+use Rattle.lawful_run.proofs.CallerLemmas.{pairs_are}
 use Rattle.script_in_order.specs.declared.folds.Fold.{Fold}
 use Rattle.script_in_order.specs.declared.folds.Fold.TheVariants as folds
 use Rattle.script_in_order.specs.Folds.{AreFolded}

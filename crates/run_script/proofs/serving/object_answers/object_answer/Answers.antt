@@ -1,6 +1,5 @@
 use Rattle.std.proofs.Common.{subst}
-use Rattle.lawful_run.proofs.CallerLemmas.{list_said}
-use Rattle.script_meaning.proofs.CallerLemmas.{pairs_are}
+use Rattle.lawful_run.proofs.CallerLemmas.{list_said, pairs_are}
 use Rattle.run_script.specs.Opened.{HasCommand, kind_opened}
 use Rattle.run_script.proofs.GivingTrees.{asks_make, asks_move, asks_remove}
 use Rattle.run_script.proofs.serving.object_answers.object_answer.Goals as goal

@@ -15,7 +15,7 @@ use Rattle.run_script.specs.Serving.{GivesTo}
 use Rattle.run_script.proofs.FewShown.{shows_few_found, versions_found}
 use Rattle.run_script.proofs.GivingReads.{gives_read, gives_unread}
 use Rattle.run_script.proofs.PartsKept.{tx_players_later}
-use Rattle.script_meaning.proofs.CallerLemmas.{can_read}
+use Rattle.lawful_run.proofs.CallerLemmas.{can_read}
 use Rattle.run_script.proofs.serving.reads.read.Goals as goal
 
 pub returns-in_default-with_capacity-clause-gives : goal.returns-in_default-with_capacity-clause-gives

@@ -1,6 +1,8 @@
-use Rattle.std.proofs.Common.{Vec, Global, sym, subst}
+use Rattle.std.proofs.Common.{◌≤◌, Vec, Global, length, sym, subst}
+use Rattle.log_node.specs.declared.limits.TheConstants.{MAX_COLOURS}
 use Rattle.object_fold.specs.declared.kept_line.KeptLine.{KeptLine}
 use Rattle.part_fold.specs.declared.part_fold.PartFold.{PartFold}
+use Rattle.script_text.specs.Apart.{colours_of}
 use Rattle.script_text.specs.declared.script.Kind.{Kind}
 use Rattle.script_in_order.specs.Folds.{AreItsParts}
 use Rattle.script_in_order.proofs.FoldsKept.{no_parts}
@@ -19,3 +21,6 @@ returns c = λ w. record {
   ];
   ruled = c.open-2.ensures.folded w;
 }
+
+pub open_parts-requires : goal.open_parts-requires
+open_parts-requires c = subst (λ (k : Kind). length (colours_of k) ≤ MAX_COLOURS) c.in-Parts.is c.requires

@@ -1,5 +1,5 @@
 use Rattle.std.proofs.Common.{◌≡◌, ◌%◌, sum, take}
-use Rattle.script_in_order.proofs.tx_folds.place_of.Given as goal
+use Rattle.part_fold.proofs.part.place_of.Given as goal
 
 -- the sum of the bytes so far
 abbrev pub invariant-loop-byte : goal.invariant-loop-byte

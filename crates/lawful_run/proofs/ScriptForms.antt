@@ -1,17 +1,20 @@
--- The keys, values and pairs of a script are those of the texts of forms.
-use Rattle.std.proofs.Common.{◌≡◌, ℕ, ◌≤◌, Bool, true, false, List, [], ◌∷◌, ◌++◌, length, map, refl, ap, sym, subst}
+-- What a script names is such as the texts of forms may: its keys, values and pairs, and the versions of what a read finds.
+use Rattle.std.proofs.Common.{◌≡◌, ℕ, ◌≤◌, Bool, true, false, List, [], ◌∷◌, ◌++◌, length, map, get_or, Some, refl, ap, sym, subst}
 use Rattle.std.specs.Prelude.{◌||◌, not}
 use Rattle.std.specs.List.{list_any, list_all}
 use Rattle.std.specs.Str.{bytes_eq}
 use Rattle.std.proofs.lemmas.Bool.{and_from, leb-true}
 use Rattle.std.proofs.lemmas.Slice.Eq.{bytes_eq-Decides}
 use Rattle.std.proofs.lemmas.List.{length-map}
+use Rattle.std.proofs.lemmas.List.Elements.{Contains-get_or}
 use Rattle.log_node.specs.declared.forms.Pair.{Pair}
-use Rattle.object_form.specs.Forms.{is_word, are_distinct, ArePairs}
-use Rattle.col_core.proofs.CallerLemmas.{both, by_test, not_true, apart, In}
+use Rattle.object_form.specs.Forms.{is_word, is_writer, are_distinct, ArePairs, AreVersions}
+use Rattle.object_fold.specs.Nodes.{ObjectNode}
+use Rattle.object_fold.specs.Transactions.{CanRead, versions_after}
+use Rattle.object_fold.proofs.CallerLemmas.{versions_fit}
+use Rattle.col_core.proofs.CallerLemmas.{both, by_test, not_true, apart, In, in_contains}
 use Rattle.script_text.specs.Pieces.{is_key, is_among}
 use Rattle.script_text.specs.Grammar.{are_new_keys, are_keys, are_pairs}
-use Rattle.script_meaning.proofs.Object.ObjectKinds.{some_of}
 
 -- a key of a script is a word
 pub key_is_word : (key : List ℕ) → is_key key ≡ true → is_word key ≡ true
@@ -109,6 +112,23 @@ pub key_some : (most : ℕ) (pairs : List Pair) → are_pairs most pairs ≡ tru
     → 1 ≤ length (map (λ (p : Pair). p.key) pairs)
 key_some most pairs e = leb-true _ _ (both _ _ (both _ _ (both _ _ e).0).0).0
 
--- keys that a command names are one at least
-pub a_key : (most : ℕ) (keys : List (List ℕ)) → are_keys most keys ≡ true → (key : List ℕ) × In key keys
-a_key most keys e = some_of keys (leb-true _ _ (both _ _ (both _ _ e).0).0)
+-- READS
+
+-- the keys of a script's read are such as a transaction can name
+pub can_read : (keys : List (List ℕ)) → are_keys 2 keys ≡ true → CanRead keys
+can_read keys e =
+    let a = both _ _ e in
+    let n = both _ _ a.0 in record {
+      some = leb-true _ _ n.0;
+      few = leb-true _ _ n.1;
+      words = keys_are_words keys a.1;
+      distinct = keys_distinct keys a.1;
+    }
+
+-- and their versions are those of a text
+pub read_versions_fit : (nodes : List ObjectNode) → ((node : ObjectNode) → In node nodes → is_writer (Some node.key) ≡ true)
+    → (keys : List (List ℕ)) → are_keys 2 keys ≡ true → AreVersions (versions_after nodes keys)
+read_versions_fit nodes good keys e =
+    versions_fit nodes
+    (λ k d lt. good (get_or nodes k d) (in_contains nodes (get_or nodes k d) (Contains-get_or nodes k d lt))) keys
+    (can_read keys e)

@@ -1,7 +1,7 @@
 use Rattle.std.proofs.Common.{◌%◌, ℕ, take, get_or, sum, sym, ap, ◌∙◌}
 use Rattle.std.proofs.Math.Nat.{add-mod}
 use Rattle.std.proofs.lemmas.List.Sums.{sum_by_more}
-use Rattle.script_in_order.proofs.tx_folds.place_of.Goals as goal
+use Rattle.part_fold.proofs.part.place_of.Goals as goal
 
 pub loop-byte-preserved : goal.loop-byte-preserved
 loop-byte-preserved c =
