@@ -105,12 +105,7 @@ fn append<R: Wait>(
 }
 
 // The client raises the clock above all that was done before, of which there is so much.
-fn raise<R: Wait>(
-    rt: &R,
-    region: &Region,
-    hold: &mut Hold,
-    count: u64,
-) -> Result<(), AllocError>
+fn raise<R: Wait>(rt: &R, region: &Region, hold: &mut Hold, count: u64) -> Result<(), AllocError>
     requires region { IsFirst region.now }
     requires hold { IsHold region.now hold.old }
     requires few { count < 100 }
