@@ -1,5 +1,5 @@
 // The calls of a region on one column, each under one turn of it.
-ghost use Rattle.std.specs.Prelude.{◌≡◌, ◌≢◌, ◌<◌, ◌≤◌, ◌+◌, ℕ, true, None, Some, length, slice_get, IfErr, IfOk, IfSome, OnOk, OnErr};
+ghost use Rattle.std.specs.Prelude.{◌≡◌, ◌≢◌, ◌<◌, ◌≤◌, ◌+◌, ℕ, true, None, length, IfErr, IfOk, IfSome, OnOk, OnErr};
 ghost use Rattle.std.specs.List.{position, filter, find};
 ghost use Rattle.std.specs.Option.{option_map};
 ghost use Rattle.log_node.specs.declared.marks.Mark.TheVariants.{Number, Fenced};
@@ -22,66 +22,24 @@ ghost use Rattle.chain_store.specs.Marks.{stamps_of, numbers};
 ghost use Rattle.chain_store.specs.Rows.{IsBegunRow, place_after};
 ghost use Rattle.chain_store.specs.Proposals.{HasProposal, IsMarkedOpen};
 ghost use Rattle.chain_store.specs.Steps.{HasSingleCause, MatchAt};
-ghost use Rattle.chain_store.specs.Looking.{ShowsOn};
-ghost use Rattle.chain_store.specs.Passes.{ColumnCell, ShowsHistory, dated_in};
-ghost use Rattle.chain_store.specs.Regions.{tag_at, IsColumnAt};
+ghost use Rattle.chain_store.specs.Passes.{dated_in};
+ghost use Rattle.chain_store.specs.Regions.{tag_at};
 ghost use Rattle.chain_store.specs.Holds.{IsHold, KnowsAppend, SameBut, seen_in, entries_seen, view_of};
 ghost use Rattle.chain_store.specs.Holds.{SeesMoreIn, MakesOneIn, LooksIn, RaisesIn, GivesIn, CarriesIn, TrimsIn};
 ghost use Rattle.chain_store.specs.Givens.{OfTheirHeads};
-ghost use Rattle.chain_store.specs.Desks.{HasDesks, IsShareOf};
 
 use crate::calls::{Single, single_in};
 use crate::changes::{carry_in, give_in, raise_in, trim_in};
 use crate::hold::Hold;
-use crate::looks::{Looked, clock_in, held_in, place_in};
-use crate::read_view::desk::{Desk, Share};
+use crate::looks::{clock_in, held_in, place_in};
 use crate::region::Region;
 use crate::rows::{Proposed, Settled, below_in, propose_in, settle_in};
-use crate::seated::Seated;
-use crate::sharing::{look_on_shared, look_shared};
-use col_core::View;
 use column::{Below, ColumnFault, Given};
 use log_node::{At, Begun, Counts, Key, MAX_STAMP, Mark, Node, Outcome};
 use std::alloc::{AllocError, Global};
 use std::sync::{Arc, Wait};
-use turn_cell::Cell;
 
 impl Region {
-    /// The colour's column, under its turns.
-    pub fn column(&self, colour: u8) -> &Cell<Seated>
-        requires { colour < self.now.board.size.colours }
-        ensures { IsColumnAt self.now colour result.now }
-    {
-        &self.columns[colour as usize]
-    }
-
-    // Its published copies.
-    fn share(&self, colour: u8) -> &Share
-        requires { colour < self.now.board.size.colours }
-        ensures there { slice_get self.now.shares.items colour ≡ Some result.now }
-        ensures of { (c : ColumnCell) → IsColumnAt self.now colour c → IsShareOf c result.now }
-    {
-        &self.shares[colour as usize]
-    }
-
-    // What there is to publish behind a turn of the colour's column, which added an event or not.
-    pub(crate) fn behind<R: Wait>(
-        &self,
-        rt: &R,
-        desks: &mut Vec<Desk>,
-        colour: u8,
-        by: u8,
-        event: bool,
-    )
-        requires desks { HasDesks self.now.shares.items desks.old.items }
-        requires colour { colour < self.now.board.size.colours }
-        ensures { HasDesks self.now.shares.items desks.new.items }
-    {
-        let desk = &mut desks[colour as usize];
-        self.share(colour)
-            .behind(rt, self.column(colour), desk, by, event);
-    }
-
     /// The node enters the colour's column as final under the next stamp. Answers its position in the line too, which is
     /// `None` where an open entry stands before it.
     pub fn single<R: Wait>(
@@ -118,72 +76,6 @@ impl Region {
             }
             Err(fault) => Err(fault),
         }
-    }
-
-    /// What a reader with these counts sees of the colour's column.
-    pub fn look<R: Wait>(
-        &self,
-        rt: &R,
-        alloc: Global,
-        hold: &mut Hold,
-        colour: u8,
-        from: Counts,
-    ) -> Result<View, AllocError>
-        requires hold { IsHold self.now hold.old }
-        requires colour { colour < self.now.board.size.colours }
-        ensures hold { IsHold self.now hold.new }
-        ensures others { SameBut colour hold.old hold.new }
-        ensures same { (hold.new.seat ≡ hold.old.seat) × (hold.new.next ≡ hold.old.next) }
-        ensures sees { SeesMoreIn colour hold.old hold.new }
-        ensures view { IfOk result (λ view.
-            ShowsHistory (tag_at self.now colour) (seen_in hold.new colour) from view) }
-    {
-        let by = hold.passes.number;
-        let pass = &mut hold.passes.items[colour as usize];
-        let desk = &mut hold.desks[colour as usize];
-        look_shared(
-            rt,
-            alloc,
-            self.column(colour),
-            self.share(colour),
-            pass,
-            desk,
-            by,
-            from,
-        )
-    }
-
-    /// What a reader sees of the colour's column who goes on from these counts; behind the column's base that is the base
-    /// alone, at no cost for what the column has above it.
-    pub fn look_on<R: Wait>(
-        &self,
-        rt: &R,
-        alloc: Global,
-        hold: &mut Hold,
-        colour: u8,
-        from: Counts,
-    ) -> Result<Looked, AllocError>
-        requires hold { IsHold self.now hold.old }
-        requires colour { colour < self.now.board.size.colours }
-        ensures hold { IsHold self.now hold.new }
-        ensures others { SameBut colour hold.old hold.new }
-        ensures same { (hold.new.seat ≡ hold.old.seat) × (hold.new.next ≡ hold.old.next) }
-        ensures sees { SeesMoreIn colour hold.old hold.new }
-        ensures looked { IfOk result (ShowsOn (tag_at self.now colour) (seen_in hold.new colour) from) }
-    {
-        let by = hold.passes.number;
-        let pass = &mut hold.passes.items[colour as usize];
-        let desk = &mut hold.desks[colour as usize];
-        look_on_shared(
-            rt,
-            alloc,
-            self.column(colour),
-            self.share(colour),
-            pass,
-            desk,
-            by,
-            from,
-        )
     }
 
     /// The position of a key in the line of the colour's column, counted from 0; `None` exactly where it is not in the
