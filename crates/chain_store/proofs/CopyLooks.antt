@@ -20,6 +20,7 @@ use Rattle.chain_store.specs.Passes.{ColumnCell, ColumnPass, IsHolder, HasTurnOf
 use Rattle.chain_store.specs.Shown.{shown_view, part, IsPart}
 use Rattle.chain_store.specs.Copies.{column_in, column_of, column_of_rest, shape_of, IsAside, IsGood}
 use Rattle.chain_store.specs.Telling.{IsTold}
+use Rattle.chain_store.proofs.Going.{prefix_then}
 use Rattle.chain_store.proofs.Turning.{begun, sees}
 use Rattle.chain_store.proofs.Shows.{part_shows, part_shows_on}
 
@@ -49,6 +50,10 @@ module _ {A : Type 0} where
       let short : length (ys ++ l.1.0) ≤ length ys = subst (λ (z : List A). length z ≤ length ys) (sym (e ∙ same)) le in
       sym e ∙ nothing_behind ys l.1.0 short)
       (λ (same : es ≡ ys). same) l.2
+
+-- one look and another
+pub sees_then : (n : ℕ) (xs ys zs : List Told) → SeesMore n xs ys → SeesMore n ys zs → SeesMore n xs zs
+sees_then n xs ys zs a b = record { more = prefix_then xs ys zs a.more b.more; none = b.none ∙ a.none }
 
 module _ (cell : ColumnCell) (copy : Copied) (good : IsGood (shape_of copy))
     (of : column_of_rest copy.rest ≡ column_in cell) where

@@ -7,7 +7,7 @@ use Rattle.chain_store.proofs.read_view.beside.meets.Goals as goal
 pub pass_of-requires : goal.pass_of-requires
 pass_of-requires c =
     let of = c.requires.copy.1 in
-    (ap (λ (n : ColumnName). n.table) of, c.args.copy.now.rests, ap (λ (n : ColumnName). n.tag) of)
+    (ap (λ (n : ColumnName). n.table) of, (c.args.copy.now.rests, ap (λ (n : ColumnName). n.tag) of))
 
 pub returns-in-Some-clause-pass : goal.returns-in-Some-clause-pass
 returns-in-Some-clause-pass c =
