@@ -13,7 +13,6 @@ use Rattle.log_node.specs.Seen.{PlacedNode}
 use Rattle.object_form.specs.Forms.{AreVersions, is_writer}
 use Rattle.object_fold.specs.Nodes.{ObjectNode}
 use Rattle.object_fold.specs.Transactions.{versions_after}
-use Rattle.col_core.specs.declared.Event.TheVariants as events
 use Rattle.col_core.specs.declared.Entry.{Entry}
 use Rattle.col_core.specs.History.{line}
 use Rattle.col_core.specs.Computed.{dated}
