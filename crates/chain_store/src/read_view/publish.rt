@@ -94,7 +94,12 @@ fn log_news(writer: &mut ViewWriter, pass: &Pass<Seated>, cut: Counts, news: New
 }
 
 // Publishes what waits, or leaves it for the next time where there is no memory. Waits for readers of the other copy.
-fn publish_logged<R: Wait>(rt: &R, writer: ViewWriter, pass: &Pass<Seated>, cut: Counts) -> ViewWriter
+fn publish_logged<R: Wait>(
+    rt: &R,
+    writer: ViewWriter,
+    pass: &Pass<Seated>,
+    cut: Counts,
+) -> ViewWriter
     requires kept { IsKept writer.desk.shown.value (drop writer.behind writer.log.items) pass.now cut }
     requires knows { view writer.desk.place ≡ Some (column_of pass.now) }
     ensures kept { IsKept result.desk.shown.value (drop result.behind result.log.items) pass.now cut }
