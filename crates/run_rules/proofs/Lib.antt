@@ -1,6 +1,7 @@
 mod AppendsAlike
 mod AppendsTold
 mod Computed
+mod ComputedNodes
 mod ComputedSteps
 pub mod CallerLemmas
 mod Explaining

@@ -78,6 +78,15 @@ there_at [] i lt = absurd (let f : ⊥ = omega (arith, lt) in f)
 there_at (x ∷ xs) zero lt = (x, refl)
 there_at (x ∷ xs) (suc i) lt = there_at xs i (omega (arith, lt))
 
+-- each client of the shape is shown
+pub shown_client : (script : Script) (report : Report) → IsFitting script
+    → map (λ (c : ClientReport). c.name) report.clients ≡ script.clients → (n : ℕ) → n < length script.shape.homes
+    → (c : ClientReport) × (slice_get report.clients n ≡ Some c)
+shown_client script report fits names n lt =
+    let long = sym (length-map report.clients (λ (x : ClientReport). x.name)) ∙ ap length names in
+    let all = fits.clients in
+    there_at report.clients n (omega (arith, lt, long, all))
+
 module _ (script : Script) (report : Report) (a : Account) (fits : IsFitting script) (told : IsTold script report a)
     (first : Rule1 script report a) (fourth : Rule4 script report a) (fifth : Rule5 script report a)
     (of_clients : (region : ℕ) → region < script.shape.regions
@@ -85,13 +94,6 @@ module _ (script : Script) (report : Report) (a : Account) (fits : IsFitting scr
     (fit : (region : ℕ) → region < script.shape.regions → All (FitsRow region) (a.log.rows region)) where
   abbrev MarkWithin : ColourMark → Type 0
   MarkWithin m = m.colour < script.shape.colours
-
-  -- each client of the shape is shown
-  shown_client : (n : ℕ) → n < length script.shape.homes → (c : ClientReport) × (slice_get report.clients n ≡ Some c)
-  shown_client n lt =
-      let long = sym (length-map report.clients (λ (x : ClientReport). x.name)) ∙ ap length first.names in
-      let all = fits.clients in
-      there_at report.clients n (omega (arith, lt, long, all))
 
   row_within : (region : ℕ) → region < script.shape.regions → (r : BegunRow) → In r (a.log.rows region)
       → All MarkWithin r.marks
@@ -107,7 +109,7 @@ module _ (script : Script) (report : Report) (a : Account) (fits : IsFitting scr
         below : Below script.shape.colours (members r.node.colours)
         below =
             let n = r.row.client in
-            let c = shown_client n client.0 in
+            let c = shown_client script report fits first.names n client.0 in
             let own : In r (a.log.rows (caller_of script n).own) = subst (λ (k : ℕ). In r (a.log.rows k)) (sym client.1) i in
             let node = (fifth.own n c.0 c.1).row_nodes r (contains_in (a.log.rows (caller_of script n).own) r own) refl in
             let long = get_within (a.log.nodes n) r.node.id.count r.node node in

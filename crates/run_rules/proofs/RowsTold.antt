@@ -60,7 +60,7 @@ slice_mapped f [] n x e = absurd (let h : ⊥ = cc (e) in h)
 slice_mapped {A} {B} f (y ∷ ys) zero x e = let h : y ≡ x = cc (e) in ap (λ (z : A). Some (f z)) h
 slice_mapped f (y ∷ ys) (suc n) x e = slice_mapped f ys n x e
 
-filter_mapped : {A B : Type 0} (f : A → B) (test : B → Bool) (xs : List A)
+pub filter_mapped : {A B : Type 0} (f : A → B) (test : B → Bool) (xs : List A)
     → filter test (map f xs) ≡ map f (filter (λ (x : A). test (f x)) xs)
 filter_mapped f test [] = refl
 filter_mapped {A} {B} f test (x ∷ xs) = step (test (f x)) (filter_mapped f test xs) where
@@ -189,10 +189,10 @@ mark_of h x y e f (marks.Fenced StampEnd) m = (subst (λ (i : Id). (stamp : ℕ)
 -- A row beside one of the same report: it fits, has the same colours, its floor leaves no stamp where the other's does not, and
 -- proposals tell its floor and wants where they tell the other's.
 pub record IsRowBeside (region : ℕ) (histories : ℕ → List Entry) (x y : BegunRow) : Type 0 where
-  fit : FitsRow region y
-  colours : members y.node.colours ≡ members x.node.colours
-  at_end : (h : List Entry) → IsAtEnd h x.node.floor → IsAtEnd h y.node.floor
-  proposed : (c : ℕ) (e : Entry) (floor : ℕ) (wants : Counts) → In c (members x.node.colours) → In e (histories c)
+  pub fit : FitsRow region y
+  pub colours : members y.node.colours ≡ members x.node.colours
+  pub at_end : (h : List Entry) → IsAtEnd h x.node.floor → IsAtEnd h y.node.floor
+  pub proposed : (c : ℕ) (e : Entry) (floor : ℕ) (wants : Counts) → In c (members x.node.colours) → In e (histories c)
       → e.event ≡ Propose x.node.id floor wants → x.node.floor ≡ floor → node_wants x.node c ≡ wants
       → (y.node.floor ≡ floor) × (node_wants y.node c ≡ wants)
 

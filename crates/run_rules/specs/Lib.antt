@@ -4,6 +4,7 @@ pub mod Telling
 pub mod Naming
 pub mod Answering
 pub mod Rules
+pub mod Nodes
 pub mod Shown
 pub mod Keeping
 pub mod Agreeing

@@ -1,5 +1,5 @@
 // Laws of the rules. Each function does nothing, and its contract is the law.
-ghost use Rattle.run_rules.specs.Laws.{BrokenIsUnlawful, ComputedAccountAgrees, ComputedAccountKeeps, LawfulRunsKeepRules, LeastIsOne, OneAccountDecides, ReportsTell, RulesMakeLawful, ToldAccountsAgree, ToldNodesAgree};
+ghost use Rattle.run_rules.specs.Laws.{BrokenIsUnlawful, ComputedAccountAgrees, ComputedAccountDecides, ComputedAccountKeeps, LawfulRunsKeepRules, LeastIsOne, OneAccountDecides, ReportsTell, RulesMakeLawful, ToldAccountsAgree, ToldNodesAgree};
 
 /// A report that hides nothing keeps all rules where it is that of a lawful run.
 pub fn lawful_runs_keep_rules()
@@ -34,6 +34,11 @@ pub fn computed_account_keeps()
 /// So does the one of whatever nodes make its rows lawful, and both agree.
 pub fn computed_account_agrees()
     ensures { ComputedAccountAgrees }
+{}
+
+/// With the nodes of its commands it decides the rules from the fifth to the eighth.
+pub fn computed_account_decides()
+    ensures { ComputedAccountDecides }
 {}
 
 /// Two accounts of one report at which the first four rules hold agree.
