@@ -1,7 +1,7 @@
 -- The account that is computed with the nodes of its commands keeps the fifth rule where some told account does.
-use Rattle.std.proofs.Common.{◌≡◌, ◌∙◌, refl, ap, sym, subst, ℕ, zero, suc, ◌<◌, ◌≤◌, List, [], ◌∷◌, length, map, Option, Some, None, inl, inr, arith}
+use Rattle.std.proofs.Common.{◌≡◌, ◌∙◌, refl, ap, sym, subst, ℕ, zero, suc, ◌<◌, List, [], ◌∷◌, length, map, Option, Some, None, inl, arith}
 use Rattle.std.specs.Prelude.{slice_get}
-use Rattle.std.specs.List.{All, AllZip, Contains, filter}
+use Rattle.std.specs.List.{AllZip, filter}
 use Rattle.std.proofs.lemmas.List.{length-map}
 use Rattle.std.proofs.lemmas.List.Elements.{All-contains}
 use Rattle.log_node.specs.declared.ids.Id.{Id}
@@ -30,12 +30,12 @@ use Rattle.report_text.specs.declared.report.Report.{Report}
 use Rattle.lawful_run.specs.Callers.{Caller, caller_of}
 use Rattle.lawful_run.specs.Columns.{IsClientIn, row_report}
 use Rattle.lawful_run.specs.Reads.{events_until}
-use Rattle.run_rules.specs.Told.{Step, Account, IsTold, OfEachStep, colours_asked, kept_at, kept_deciding}
+use Rattle.run_rules.specs.Told.{Step, Account, IsTold, OfEachStep, colours_asked, kept_at}
 use Rattle.run_rules.specs.Telling.{IsWellFormed, account_of, node_or}
 use Rattle.run_rules.specs.Answering.{HasPoints, CanHave, CanEnd}
 use Rattle.run_rules.specs.Rules.{EntersAsNode, HasOwnNodes, Rule1, Rule3, Rule4, Rule5, UsesEnd, UsesNode}
 use Rattle.run_rules.specs.Nodes.{HasItsNode, HasItsNodes, HasNodeAtEnd}
-use Rattle.run_rules.specs.Keeping.{Keeps, RulesTo, five}
+use Rattle.run_rules.specs.Keeping.{RulesTo, five}
 use Rattle.run_rules.specs.Agreeing.{HasColumn, KeepSame, AreStepsAlike, AreNodesAlike, Agree}
 use Rattle.run_rules.specs.Laws.{ComputedAccountDecides}
 use Rattle.run_rules.proofs.Lists.{zip_onto}
@@ -47,7 +47,7 @@ use Rattle.run_rules.proofs.ToldAlike.{deciding_same, points_below}
 use Rattle.run_rules.proofs.OneAccount.{obeys, step_with}
 use Rattle.run_rules.proofs.NodesAlike.{Uses, nodes_agree}
 use Rattle.run_rules.proofs.MarksWithin.{shown_client}
-use Rattle.run_rules.proofs.RowsTold.{IsRowBeside, filter_mapped, row_with, rows_are, same_id_with, third_beside, told_of}
+use Rattle.run_rules.proofs.RowsTold.{IsRowBeside, filter_mapped, row_with, rows_are, third_beside, told_of}
 use Rattle.run_rules.proofs.ReportsTell.{reports_tell}
 use Rattle.run_rules.proofs.RulesAlike.{one_account_decides}
 use Rattle.run_rules.proofs.Computed.{computed_account_agrees}

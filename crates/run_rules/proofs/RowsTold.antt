@@ -1,7 +1,7 @@
 -- The rows that a report tells, with nodes by their proposals, are lawful where they are so with some nodes.
 use Rattle.std.proofs.Common.{◌≡◌, ◌∙◌, refl, ap, sym, subst, Bool, true, false, cond, ℕ, zero, suc, ◌<◌, List, [], ◌∷◌, length, map, Option, Some, None, ◌⊎◌, inl, inr, arith}
 use Rattle.std.specs.Prelude.{◌≢◌, ◌==◌, max, slice_get}
-use Rattle.std.specs.List.{All, AllPairs, Contains, filter, list_any, range_with_len}
+use Rattle.std.specs.List.{All, AllPairs, filter, range_with_len}
 use Rattle.std.proofs.lemmas.Bool.{eqb-true, eq-eqb, false_from_ne_true}
 use Rattle.std.proofs.lemmas.List.{length-map}
 use Rattle.std.proofs.lemmas.List.Elements.{All-contains}
@@ -23,16 +23,14 @@ use Rattle.col_core.specs.declared.Event.TheVariants.{Single, Propose, Settle, R
 use Rattle.col_core.specs.declared.Entry.{Entry}
 use Rattle.col_core.specs.Computed.{dated}
 use Rattle.col_core.specs.Copies.{IsTrueCopy}
-use Rattle.col_core.specs.Cuts.{Dated}
 use Rattle.col_core.specs.History.{clock, last_stamp, IsAtEnd}
 use Rattle.col_core.specs.Rows.{Proposes, BegunRow, AreLawfulRows, FitsRow, FitsMarks, FitsRows, IsMarkOf, is_of, node_wants, wants_of}
-use Rattle.col_core.proofs.CallerLemmas.{In, all_in, any_in, by_test, contains_in, if_true, if_false, in_contains, in_filter, in_filter-back, in_map, in_map-back, same_id-refl, same_id-true, slice_in}
+use Rattle.col_core.proofs.CallerLemmas.{In, all_in, any_in, by_test, contains_in, if_true, if_false, in_filter, in_filter-back, in_map, same_id-refl, same_id-true, slice_in}
 use Rattle.script_text.specs.declared.script.Script.{Script}
-use Rattle.report_text.specs.declared.report.RowReport.{RowReport}
 use Rattle.report_text.specs.declared.report.Report.{Report}
 use Rattle.lawful_run.specs.Columns.{IsClientIn, row_report}
 use Rattle.run_rules.specs.Told.{Account, IsTold}
-use Rattle.run_rules.specs.Telling.{IsWellFormed, account_of, bare_node, floor_or, floor_told, is_among, is_in, journal_among, marked_colours, no_nodes, proposal_in, proposal_or, row_of, wants_or}
+use Rattle.run_rules.specs.Telling.{IsWellFormed, account_of, floor_or, floor_told, is_among, journal_among, marked_colours, no_nodes, proposal_in, proposal_or, row_of, wants_or}
 use Rattle.run_rules.specs.Rules.{Rule1, Rule3}
 use Rattle.run_rules.specs.Agreeing.{HasColumn}
 use Rattle.run_rules.proofs.Lists.{map_map, same_by}
