@@ -30,3 +30,4 @@ mod RulesLawful
 mod SameKept
 mod StepsTold
 mod ToldAlike
+mod WellFormed
