@@ -29,3 +29,4 @@ mod RulesLawful
 mod SameKept
 mod StepsTold
 mod ToldAlike
+mod WellFormed

@@ -56,12 +56,12 @@ filter_joined {A} test (x ∷ xs) ys = step (test x) (filter_joined test xs ys) 
   step true more = ap (λ (l : List A). x ∷ l) more
   step false more = more
 
-filter_none : {A : Type 0} (test : A → Bool) (xs : List A) → ((x : A) → In x xs → test x ≡ false) → filter test xs ≡ []
+pub filter_none : {A : Type 0} (test : A → Bool) (xs : List A) → ((x : A) → In x xs → test x ≡ false) → filter test xs ≡ []
 filter_none test [] f = refl
 filter_none test (x ∷ xs) f =
     if_false (test x) (x ∷ filter test xs) (filter test xs) (f x (inl refl)) ∙ filter_none test xs (λ y i. f y (inr i))
 
-filter_all : {A : Type 0} (test : A → Bool) (xs : List A) → ((x : A) → In x xs → test x ≡ true) → filter test xs ≡ xs
+pub filter_all : {A : Type 0} (test : A → Bool) (xs : List A) → ((x : A) → In x xs → test x ≡ true) → filter test xs ≡ xs
 filter_all test [] f = refl
 filter_all {A} test (x ∷ xs) f =
     if_true (test x) (x ∷ filter test xs) (filter test xs) (f x (inl refl))

@@ -76,7 +76,7 @@ one_by_one f g of_f of_g from (suc k) e x le lt =
           let s : from ≡ x = omega (arith, le, l) in subst (λ (n : ℕ). f n ≡ g n) s first
 
 -- a row of a region shows it
-shows_region : (rows : ℕ → List BegunRow) (x : ℕ) (p : RowReport) → In p (map (row_report x) (rows x)) → p.region ≡ x
+pub shows_region : (rows : ℕ → List BegunRow) (x : ℕ) (p : RowReport) → In p (map (row_report x) (rows x)) → p.region ≡ x
 shows_region rows x p i =
     let r = in_map (row_report x) (rows x) p i in ap (λ (q : RowReport). q.region) (sym r.2)
 

@@ -37,6 +37,11 @@ abbrev pub ReportsTell : Type 0
 ReportsTell = (script : Script) (report : Report) (nodes : ℕ → List Node) → IsWellFormed script report
     → IsTold script report (account_of script report nodes)
 
+-- A report of which a told account keeps rule 1 is well formed.
+abbrev pub RuleOneForms : Type 0
+RuleOneForms = (script : Script) (report : Report) (account : Account) → IsTold script report account
+    → RulesTo script report account 1 → IsWellFormed script report
+
 -- Where a told account of a report keeps rules 1 to 4, so does the account that is computed.
 abbrev pub ComputedAccountKeeps : Type 0
 ComputedAccountKeeps = (script : Script) (report : Report) (account : Account) → IsFitting script
