@@ -112,23 +112,31 @@ module _ (r : Region) (h g : Hold) (k : ℕ) (c : ColumnCell) (p q : ColumnPass)
       hold_made r h g k c p q is col.there (reached r h k p is lt e) number changed good later le desks m.0 m.1 m.3 m.2
       m.4
 
+-- a turn of the pass p of the colour's cell, which is q behind it
+pub record TurnOf (r : Region) (h : Hold) (k : ℕ) (c : ColumnCell) (p q : ColumnPass) : Type 0 where
+  pub hold : IsHold r h
+  pub inside : k < r.board.size.colours
+  pub column : IsColumnAt r k c
+  pub pass : p ≡ get_or (passes_of h) k p
+
 -- the same, where nothing of the hold but the pass and the desks is changed
-module _ (r : Region) (h : Hold) (k : ℕ) (c : ColumnCell) (p q : ColumnPass) (ds : Vec Desk Global) (is : IsHold r h)
-    (lt : k < r.board.size.colours) (col : IsColumnAt r k c) (e : p ≡ get_or (passes_of h) k p) where
+module _ {r : Region} {h : Hold} {k : ℕ} {c : ColumnCell} {p q : ColumnPass} (t : TurnOf r h k c p q)
+    (ds : Vec Desk Global) where
   pub turned_but : SameBut k h (turned h k q h.next ds)
-  turned_but = but_there r h (turned h k q h.next ds) k c p q is lt col e refl refl
+  turned_but = but_there r h (turned h k q h.next ds) k c p q t.hold t.inside t.column t.pass refl refl
 
   pub of_turned : (P : Tag → List Told → List Told → Type 0) → P (tag_in c) (seen p) (seen q)
       → P (tag_at r k) (seen_in h k) (seen_in (turned h k q h.next ds) k)
-  of_turned P x = of_turn r h (turned h k q h.next ds) k c p q is lt col e refl refl P x
+  of_turned P x = of_turn r h (turned h k q h.next ds) k c p q t.hold t.inside t.column t.pass refl refl P x
 
   pub turned_hold : IsHolder c h.passes.number q → HasDesks r.shares.items ds.items
       → Moves h.passes.number (seen p) (seen q) → IsHold r (turned h k q h.next ds)
   turned_hold good desks m =
-      hold_moved r h (turned h k q h.next ds) k c p q is lt col e refl refl good (same_seat h.seat) (omega arith) desks
+      hold_moved r h (turned h k q h.next ds) k c p q t.hold t.inside t.column t.pass refl refl good
+      (same_seat h.seat) (omega arith) desks
       (elim m [
         | inl s ↦ inl s
-        | inr x ↦ inr (x.0, x.1, x.2, x.3, x.4 h.seat.used h.next is.owns.nodes)
+        | inr x ↦ inr (x.0, x.1, x.2, x.3, x.4 h.seat.used h.next t.hold.owns.nodes)
       ])
 
 -- the client is one of those that a column's tag counts
@@ -192,20 +200,20 @@ pub look_answers : (n : ℕ) (old new : List Told) (P : ℕ → Type 0) (at : At
 look_answers n old new P (Event place) m = m
 look_answers n old new P (Look events) s = (s.0, ap Look s.1)
 
-module _ (r : Region) (h : Hold) (k : ℕ) (c : ColumnCell) (p q : ColumnPass) (s : Seat) (ds : Vec Desk Global)
-    (is : IsHold r h) (lt : k < r.board.size.colours) (col : IsColumnAt r k c) (e : p ≡ get_or (passes_of h) k p) where
+module _ {r : Region} {h : Hold} {k : ℕ} {c : ColumnCell} {p q : ColumnPass} (t : TurnOf r h k c p q) (s : Seat)
+    (ds : Vec Desk Global) where
   pub told_but : SameBut k h (turned_told h k q s ds)
-  told_but = but_there r h (turned_told h k q s ds) k c p q is lt col e refl refl
+  told_but = but_there r h (turned_told h k q s ds) k c p q t.hold t.inside t.column t.pass refl refl
 
   pub of_told : (P : Tag → List Told → List Told → Type 0) → P (tag_in c) (seen p) (seen q)
       → P (tag_at r k) (seen_in h k) (seen_in (turned_told h k q s ds) k)
-  of_told P x = of_turn r h (turned_told h k q s ds) k c p q is lt col e refl refl P x
+  of_told P x = of_turn r h (turned_told h k q s ds) k c p q t.hold t.inside t.column t.pass refl refl P x
 
   pub told_hold : IsHolder c h.passes.number q → IsLater h.seat s → HasDesks r.shares.items ds.items
-      → MovesBy (IsAccountedFor h.passes.number h.seat.used h.next is.owns.nodes) h.passes.number (seen p) (seen q)
+      → MovesBy (IsAccountedFor h.passes.number h.seat.used h.next t.hold.owns.nodes) h.passes.number (seen p) (seen q)
       → IsHold r (turned_told h k q s ds)
   told_hold good later desks m =
-      hold_moved r h (turned_told h k q s ds) k c p q is lt col e refl refl good later (omega arith) desks m
+      hold_moved r h (turned_told h k q s ds) k c p q t.hold t.inside t.column t.pass refl refl good later (omega arith) desks m
 
 -- a colour's column is beside the region's board
 pub beside : (r : Region) (k : ℕ) (c : ColumnCell) → IsColumnAt r k c → IsBeside r.board c

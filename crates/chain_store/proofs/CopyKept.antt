@@ -1,6 +1,7 @@
 -- What the writer of a column's copies keeps as it takes in news and publishes them.
-use Rattle.std.specs.Prelude.{MatchResult}
-use Rattle.std.proofs.Common.{Result, Ok, Err, Option, Some, ◌≡◌, List, [], ◌∷◌, ◌++◌, fold, refl, ap, sym, subst, ◌∙◌, append-nil}
+use Rattle.std.specs.Prelude.{MatchResult, IfOk, IfSome}
+use Rattle.core.specs.Result.{is_err, result_ok}
+use Rattle.std.proofs.Common.{Result, Ok, Err, Option, Some, None, true, false, ◌≡◌, List, [], ◌∷◌, ◌++◌, fold, refl, ap, sym, subst, ◌∙◌, append-nil}
 use mathlib.Core.List.{IsPrefix}
 use Rattle.log_node.specs.declared.ids.Counts.{Counts}
 use Rattle.log_node.specs.Vectors.{zeros}
@@ -117,3 +118,34 @@ module _ {U E : Type 0} where
   knows_after (Ok u) shown y pending rest p cut v w kept knows values rule =
       rule.2 ∙ ap (λ (c : ColumnName). Some c) (ap (λ (z : Shape). z.column) values.0 ∙ kept.same)
   knows_after (Err e) shown y pending rest p cut v w kept knows values rule = rule ∙ knows
+
+-- news were taken in, or let go
+pub logged : {U : Type 0} (r : Result U News) (shown y : Copied) (pending rest : List News) (p : ColumnPass) (cut : Counts)
+    (n : News) → IsKept shown pending p cut → IsNews n p cut → y ≡ shown
+    → MatchResult r (λ _. rest ≡ pending ++ n ∷ []) (λ x. (x ≡ n) × (rest ≡ pending))
+    → MatchResult r (λ _. IsKept y rest p n.view.cut) (λ _. IsKept y rest p cut)
+logged (Ok u) shown y pending rest p cut n kept news same v =
+    subst (λ (z : Copied). IsKept z rest p n.view.cut) (sym same)
+    (subst (λ (z : List News). IsKept shown z p n.view.cut) (sym v) (takes_in shown pending p cut n kept news))
+logged (Err e) shown y pending rest p cut n kept news same v =
+    subst (λ (z : Copied). IsKept z rest p cut) (sym same)
+    (subst (λ (z : List News). IsKept shown z p cut) (sym v.1) kept)
+
+module _ {A E : Type 0} where
+  -- what holds of an answer, by the test whether it is an error
+  pub at_err : (r : Result A E) (P Q : Type 0) → is_err r ≡ true → MatchResult r (λ _. P) (λ _. Q) → Q
+  at_err (Ok a) P Q e h = absurd (let f : ⊥ = cc (e) in f)
+  at_err (Err x) P Q e h = h
+
+  pub at_ok : (r : Result A E) (P Q : Type 0) → is_err r ≡ false → MatchResult r (λ _. P) (λ _. Q) → P
+  at_ok (Ok a) P Q e h = h
+  at_ok (Err x) P Q e h = absurd (let f : ⊥ = cc (e) in f)
+
+  -- and of the answer without its error
+  pub ok_some : (r : Result A E) (P Q : A → Type 0) → ((a : A) → P a → Q a) → IfOk r P → IfSome (result_ok r) Q
+  ok_some (Ok a) P Q f h = f a h
+  ok_some (Err x) P Q f h = tt
+
+  pub some_ok : (r : Result A E) (a : A) (P : A → Type 0) → Some a ≡ result_ok r → IfOk r P → P a
+  some_ok (Ok x) a P e h = subst P (let f : x ≡ a = cc (e) in f) h
+  some_ok (Err x) a P e h = absurd (let f : ⊥ = cc (e) in f)

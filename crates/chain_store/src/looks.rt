@@ -1,5 +1,5 @@
 // Calls on one column that change nothing, each under one turn.
-ghost use Rattle.std.specs.Prelude.{◌≡◌, IfOk};
+ghost use Rattle.std.specs.Prelude.{◌≡◌, IfOk, IfSome};
 ghost use Rattle.std.specs.List.{position};
 ghost use Rattle.log_node.specs.Order.{same_key};
 ghost use Rattle.col_core.specs.History.{clock, line};
@@ -12,7 +12,7 @@ ghost use Rattle.chain_store.specs.Columns.{Stands, tag_of};
 ghost use Rattle.chain_store.specs.Passes.{HasTurnOf, IsHolder, SeesMore, ShowsHistory, dated_in, tag_in};
 
 use crate::seated::Seated;
-use crate::turns::{begin, end};
+use crate::turns::{begin, begin_now, end};
 use col_core::View;
 use column::Column;
 use log_node::{At, Counts, Key};
@@ -21,7 +21,7 @@ use std::sync::Wait;
 use turn_cell::{Cell, Pass, Turn};
 
 // What a reader with these counts sees, at a turn that then ends.
-pub(crate) fn view_at(
+fn view_at(
     alloc: Global,
     turn: Turn<Seated>,
     pass: &mut Pass<Seated>,
@@ -57,6 +57,24 @@ pub fn look_in<R: Wait>(
     view_at(alloc, turn, pass, by, from)
 }
 
+/// The same, if the turn is free just now; does not wait.
+pub(crate) fn look_now(
+    alloc: Global,
+    cell: &Cell<Seated>,
+    pass: &mut Pass<Seated>,
+    by: u8,
+    from: Counts,
+) -> Option<Result<View, AllocError>>
+    requires pass { IsHolder cell.now by pass.old }
+    ensures pass { IsHolder cell.now by pass.new × SeesMore by (seen pass.old) (seen pass.new) }
+    ensures view { IfSome result (λ r. IfOk r (λ view. ShowsHistory (tag_in cell.now) (seen pass.new) from view)) }
+{
+    match begin_now(cell, pass, by) {
+        Some(turn) => Some(view_at(alloc, turn, pass, by, from)),
+        None => None,
+    }
+}
+
 /// What a look shows that goes on from counts.
 #[derive(Drop)]
 pub enum Looked {
@@ -78,7 +96,7 @@ fn looked_on(column: &Column, alloc: Global, from: Counts) -> Result<Looked, All
 }
 
 // What a reader sees who goes on from these counts, at a turn that then ends.
-pub(crate) fn looked_at(
+fn looked_at(
     alloc: Global,
     turn: Turn<Seated>,
     pass: &mut Pass<Seated>,
@@ -113,6 +131,24 @@ pub fn look_on_in<R: Wait>(
 {
     let turn = begin(rt, cell, pass, by);
     looked_at(alloc, turn, pass, by, from)
+}
+
+/// The same, if the turn is free just now; does not wait.
+pub(crate) fn look_on_now(
+    alloc: Global,
+    cell: &Cell<Seated>,
+    pass: &mut Pass<Seated>,
+    by: u8,
+    from: Counts,
+) -> Option<Result<Looked, AllocError>>
+    requires pass { IsHolder cell.now by pass.old }
+    ensures pass { IsHolder cell.now by pass.new × SeesMore by (seen pass.old) (seen pass.new) }
+    ensures looked { IfSome result (λ r. IfOk r (ShowsOn (tag_in cell.now) (seen pass.new) from)) }
+{
+    match begin_now(cell, pass, by) {
+        Some(turn) => Some(looked_at(alloc, turn, pass, by, from)),
+        None => None,
+    }
 }
 
 /// The position of a key in the line, counted from 0; `None` exactly where it is not in the line. Waits for the turn.

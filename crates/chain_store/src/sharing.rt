@@ -5,13 +5,12 @@ ghost use Rattle.chain_store.specs.Looking.{ShowsOn};
 ghost use Rattle.chain_store.specs.Passes.{IsHolder, SeesMore, ShowsHistory, tag_in};
 ghost use Rattle.chain_store.specs.Desks.{IsDesk, IsShareOf, column_copied};
 
-use crate::looks::{Looked, look_in, look_on_in, looked_at, view_at};
+use crate::looks::{Looked, look_in, look_now, look_on_in, look_on_now};
 use crate::read_view::beside::{look_beside, look_on_beside};
 use crate::read_view::copies::Copies;
 use crate::read_view::desk::{Desk, Share};
 use crate::read_view::publish::publish;
 use crate::seated::Seated;
-use crate::turns::begin_now;
 use col_core::View;
 use log_node::Counts;
 use std::alloc::{AllocError, Global};
@@ -219,6 +218,7 @@ fn looked_beside(
 
 /// What a reader with these counts sees: under the turn, if that is free, and else by the published copy, where that shows no less than the
 /// client has seen; waits for the turn only where it does not.
+#[tactic(auto, using(crate::proofs::CopyLooks::sees_then))]
 pub(crate) fn look_shared<R: Wait>(
     rt: &R,
     alloc: Global,
@@ -236,18 +236,20 @@ pub(crate) fn look_shared<R: Wait>(
     ensures view { IfOk result (λ view. ShowsHistory (tag_in cell.now) (seen pass.new) from view) }
     ensures desk { IsDesk share.now desk.new }
 {
-    let view = if let Some(turn) = begin_now(cell, pass, by) {
-        view_at(alloc, turn, pass, by, from)
-    } else if let Some(view) = view_beside(cell, share, alloc, pass, desk, by, from) {
+    if let Some(view) = look_now(alloc, cell, pass, by, from) {
+        share.behind(rt, cell, desk, by, false);
+        return view;
+    }
+    if let Some(view) = view_beside(cell, share, alloc, pass, desk, by, from) {
         return Ok(view);
-    } else {
-        look_in(rt, alloc, cell, pass, by, from)
-    };
+    }
+    let view = look_in(rt, alloc, cell, pass, by, from);
     share.behind(rt, cell, desk, by, false);
     view
 }
 
 /// What a reader sees who goes on from these counts, by the turn or the published copy as above; behind the base that is the base alone.
+#[tactic(auto, using(crate::proofs::CopyLooks::sees_then))]
 pub(crate) fn look_on_shared<R: Wait>(
     rt: &R,
     alloc: Global,
@@ -265,13 +267,14 @@ pub(crate) fn look_on_shared<R: Wait>(
     ensures looked { IfOk result (ShowsOn (tag_in cell.now) (seen pass.new) from) }
     ensures desk { IsDesk share.now desk.new }
 {
-    let looked = if let Some(turn) = begin_now(cell, pass, by) {
-        looked_at(alloc, turn, pass, by, from)
-    } else if let Some(looked) = looked_beside(cell, share, alloc, pass, desk, by, from) {
+    if let Some(looked) = look_on_now(alloc, cell, pass, by, from) {
+        share.behind(rt, cell, desk, by, false);
+        return looked;
+    }
+    if let Some(looked) = looked_beside(cell, share, alloc, pass, desk, by, from) {
         return Ok(looked);
-    } else {
-        look_on_in(rt, alloc, cell, pass, by, from)
-    };
+    }
+    let looked = look_on_in(rt, alloc, cell, pass, by, from);
     share.behind(rt, cell, desk, by, false);
     looked
 }

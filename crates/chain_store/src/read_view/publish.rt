@@ -87,14 +87,19 @@ fn log_news(writer: &mut ViewWriter, pass: &Pass<Seated>, cut: Counts, news: New
 {
     let _ = pass;
     let next = news.view.cut;
-    match writer.append(news) {
-        Ok(()) => next,
-        Err(_) => cut,
+    if writer.append(news).is_err() {
+        return cut;
     }
+    next
 }
 
 // Publishes what waits, or leaves it for the next time where there is no memory. Waits for readers of the other copy.
-fn publish_logged<R: Wait>(rt: &R, writer: ViewWriter, pass: &Pass<Seated>, cut: Counts) -> ViewWriter
+fn publish_logged<R: Wait>(
+    rt: &R,
+    writer: ViewWriter,
+    pass: &Pass<Seated>,
+    cut: Counts,
+) -> ViewWriter
     requires kept { IsKept writer.desk.shown.value (drop writer.behind writer.log.items) pass.now cut }
     requires knows { view writer.desk.place ≡ Some (column_of pass.now) }
     ensures kept { IsKept result.desk.shown.value (drop result.behind result.log.items) pass.now cut }
@@ -106,13 +111,41 @@ fn publish_logged<R: Wait>(rt: &R, writer: ViewWriter, pass: &Pass<Seated>, cut:
     writer
 }
 
+// Publishes what a pass has seen from the cut on, where there was memory to look at it. The answer has the cut of the copy with
+// all that waits.
+fn shows_more<R: Wait>(
+    rt: &R,
+    cell: &Cell<Seated>,
+    pass: &mut Pass<Seated>,
+    mut writer: ViewWriter,
+    cut: Counts,
+    found: Option<View>,
+) -> (ViewWriter, Counts)
+    requires ready { IsReady tag_of cell.now pass.old }
+    requires lawful { IsLawfulTold (tag_in cell.now) (seen pass.old) }
+    requires ids { HasIds (seen pass.old) }
+    requires found { IfSome found (λ v. ShowsHistory (tag_in cell.now) (seen pass.old) cut v) }
+    requires kept { IsKept writer.desk.shown.value (drop writer.behind writer.log.items) pass.old cut }
+    requires knows { view writer.desk.place ≡ Some (column_in cell.now) }
+    ensures ready { IsReady tag_of cell.now pass.new }
+    ensures kept { IsKept result.0.desk.shown.value (drop result.0.behind result.0.log.items) pass.new result.1 }
+    ensures knows { view result.0.desk.place ≡ Some (column_in cell.now) }
+{
+    let Some(view) = found else {
+        return (writer, cut);
+    };
+    let news = news_of(cell, pass, cut, view);
+    let cut = log_news(&mut writer, pass, cut, news);
+    (publish_logged(rt, writer, pass, cut), cut)
+}
+
 // Publishes what the copies lack.
 fn go_on<R: Wait>(
     rt: &R,
     alloc: Global,
     cell: &Cell<Seated>,
     copies: &mut Copies,
-    mut writer: ViewWriter,
+    writer: ViewWriter,
 )
     requires of { column_copied copies.old ≡ column_in cell.now }
     requires kept { IsKept writer.desk.shown.value (drop writer.behind writer.log.items) copies.old.pass copies.old.cut }
@@ -120,11 +153,9 @@ fn go_on<R: Wait>(
     ensures column { column_copied copies.new ≡ column_copied copies.old }
     ensures kept { AreKept copies.new }
 {
-    if let Some(view) = seen_from(rt, alloc, cell, &mut copies.pass, copies.cut) {
-        let news = news_of(cell, &mut copies.pass, copies.cut, view);
-        copies.cut = log_news(&mut writer, &copies.pass, copies.cut, news);
-        writer = publish_logged(rt, writer, &copies.pass, copies.cut);
-    }
+    let view = seen_from(rt, alloc, cell, &mut copies.pass, copies.cut);
+    let (writer, cut) = shows_more(rt, cell, &mut copies.pass, writer, copies.cut, view);
+    copies.cut = cut;
     copies.shelf = Some(Shelf::of(writer));
 }
 

@@ -8,8 +8,9 @@ use Rattle.chain_store.specs.Passes.{SeesMore, tag_in}
 use Rattle.chain_store.specs.Moves.{GivesAt}
 use Rattle.chain_store.proofs.Holding.{holder}
 use Rattle.chain_store.proofs.Passing.{ok_as}
-use Rattle.chain_store.proofs.ByColour.{gave, or_looked, turned_but, of_turned, turned_hold, client_tagged}
+use Rattle.chain_store.proofs.ByColour.{TurnOf, gave, or_looked, turned_but, of_turned, turned_hold, client_tagged}
 use Rattle.std.specs.Prelude.{OnErr}
+use Rattle.chain_store.proofs.region.Region.give.Given.{Over}
 use Rattle.chain_store.proofs.region.Region.give.Goals as goal
 
 pub give_in-given-requires-clause-pass : goal.give_in-given-requires-clause-pass
@@ -29,36 +30,42 @@ pub give_in-given-requires-clause-region : goal.give_in-given-requires-clause-re
 give_in-given-requires-clause-region g c =
     subst (λ (t : Tag). c.args.region < t.regions) (sym c.column.ensures.tagged) c.requires.other.1
 
+turn : (g : Over) (c : goal.After-behind g) → TurnOf c.args.self.now c.args.hold.now c.args.colour c.column.result.now
+    c.index_mut-pass.result.now c.give_in-given.new.pass
+turn g c = record {
+  hold = c.requires.hold;
+  inside = c.requires.colour;
+  column = c.column.ensures;
+  pass = c.index_mut-pass.ensures.value;
+}
+
 pub returns-clause-hold : goal.returns-clause-hold
 returns-clause-hold g c =
-    turned_hold c.args.self.now c.args.hold.now c.args.colour c.column.result.now c.index_mut-pass.result.now
-    c.give_in-given.new.pass c.behind.new.desks c.requires.hold c.requires.colour c.column.ensures c.index_mut-pass.ensures.value
-    c.give_in-given.ensures.pass c.behind.ensures (or_looked c.args.hold.now.passes.number (seen c.index_mut-pass.result.now) (seen
+    turned_hold (turn g c) c.behind.new.desks
+    c.give_in-given.ensures.pass c.behind.ensures (or_looked c.args.hold.now.passes.number (seen
+    c.index_mut-pass.result.now) (seen
     c.give_in-given.new.pass)
     (λ (x : At × Given). GivesAt (tag_in c.column.result.now) c.args.hold.now.passes.number c.args.region c.args.from
     (seen c.index_mut-pass.result.now) (seen c.give_in-given.new.pass) x.0 x.1)
-    c.give_in-given.result (λ (x : At × Given). gave c.args.hold.now.passes.number (seen c.index_mut-pass.result.now) (seen
+    c.give_in-given.result (λ (x : At × Given). gave c.args.hold.now.passes.number (seen c.index_mut-pass.result.now)
+    (seen
     c.give_in-given.new.pass) (tag_in c.column.result.now) c.args.region c.args.from x.0 x.1)
     c.give_in-given.ensures.ok c.give_in-given.ensures.err)
 
 pub returns-clause-others : goal.returns-clause-others
 returns-clause-others g c =
-    turned_but c.args.self.now c.args.hold.now c.args.colour c.column.result.now c.index_mut-pass.result.now
-    c.give_in-given.new.pass c.behind.new.desks c.requires.hold c.requires.colour c.column.ensures c.index_mut-pass.ensures.value
+    turned_but (turn g c) c.behind.new.desks
 
 pub returns-clause-ok : goal.returns-clause-ok
 returns-clause-ok g c =
     ok_as c.give_in-given.result _ _
-    (λ (x : At × Given) y. of_turned c.args.self.now c.args.hold.now c.args.colour c.column.result.now
-    c.index_mut-pass.result.now
-    c.give_in-given.new.pass c.behind.new.desks c.requires.hold c.requires.colour c.column.ensures c.index_mut-pass.ensures.value
+    (λ (x : At × Given) y. of_turned (turn g c) c.behind.new.desks
     (λ (t : Tag) (old new : List Told). GivesAt t c.args.hold.now.passes.number c.args.region c.args.from old new x.0
     x.1)
     y) c.give_in-given.ensures.ok
 
 pub returns-clause-err : goal.returns-clause-err
 returns-clause-err g c =
-    of_turned c.args.self.now c.args.hold.now c.args.colour c.column.result.now c.index_mut-pass.result.now
-    c.give_in-given.new.pass c.behind.new.desks c.requires.hold c.requires.colour c.column.ensures c.index_mut-pass.ensures.value
+    of_turned (turn g c) c.behind.new.desks
     (λ (t : Tag) (old new : List Told). OnErr c.give_in-given.result (SeesMore c.args.hold.now.passes.number old new))
     c.give_in-given.ensures.err

@@ -11,7 +11,8 @@ returns-clause-hold c =
     let g : Hold = record { passes = c.meet_all.new.passes; seat = c.hear.new.seat; next = h.next; desks = h.desks } in
     let o = c.meet_all.ensures in
     hold_stays c.args.self.now h g c.requires.hold o.number
-    (subst (λ (cells : List ColumnCell). HasPasses cells h.passes.number g.passes.items.items) c.deref.ensures.value o.passes)
+    (subst (λ (cells : List ColumnCell). HasPasses cells h.passes.number g.passes.items.items) c.deref.ensures.value
+    o.passes)
     (made_heard h g c.args.note.passes.items o.number o.heard) refl refl c.hear.ensures.seat
 
 pub returns-clause-hears : goal.returns-clause-hears

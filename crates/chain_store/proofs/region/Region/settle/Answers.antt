@@ -8,7 +8,7 @@ use Rattle.chain_store.specs.Histories.{entries_in}
 use Rattle.chain_store.specs.Passes.{MakesOne}
 use Rattle.chain_store.specs.Moves.{LooksAt}
 use Rattle.chain_store.proofs.Holding.{holder, client_few}
-use Rattle.chain_store.proofs.ByColour.{own_row, settled, look_answers, told_but, of_told, told_hold, beside}
+use Rattle.chain_store.proofs.ByColour.{TurnOf, own_row, settled, look_answers, told_but, of_told, told_hold, beside}
 use Rattle.chain_store.specs.Steps.{MatchAt}
 use Rattle.chain_store.specs.Columns.{told_settle}
 use Rattle.chain_store.specs.Rows.{KnowsRow, place_after}
@@ -16,6 +16,7 @@ use Rattle.log_node.specs.declared.marks.Outcome.TheVariants.{Final}
 use Rattle.col_core.specs.Ids.{IsFinal}
 use Rattle.log_node.specs.Sets.{has}
 use Rattle.log_node.specs.Standings.{open_entry}
+use Rattle.chain_store.proofs.region.Region.settle.Given.{Over}
 use Rattle.chain_store.proofs.region.Region.settle.Goals as goal
 
 pub settle_in-settled-requires-clause-cell : goal.settle_in-settled-requires-clause-cell
@@ -48,11 +49,19 @@ pub settle_in-settled-requires-clause-outcome : goal.settle_in-settled-requires-
 settle_in-settled-requires-clause-outcome g c =
     c.requires.outcome
 
+abbrev turn : (g : Over) (c : goal.After-behind g) → TurnOf c.args.self.now c.args.hold.now c.args.colour
+    c.column.result.now
+    c.index_mut-pass.result.now c.settle_in-settled.new.pass
+turn g c = record {
+  hold = c.requires.hold;
+  inside = c.requires.colour;
+  column = c.column.ensures;
+  pass = c.index_mut-pass.ensures.value;
+}
+
 pub returns-clause-hold : goal.returns-clause-hold
 returns-clause-hold g c =
-    told_hold c.args.self.now c.args.hold.now c.args.colour c.column.result.now c.index_mut-pass.result.now
-    c.settle_in-settled.new.pass c.settle_in-settled.new.seat c.behind.new.desks c.requires.hold c.requires.colour c.column.ensures
-    c.index_mut-pass.ensures.value
+    told_hold (turn g c) c.settle_in-settled.new.seat c.behind.new.desks
     c.settle_in-settled.ensures.pass c.settle_in-settled.ensures.seat c.behind.ensures
     (settled c.args.hold.now.passes.number c.args.hold.now.seat.used c.args.hold.now.next c.requires.hold.owns.nodes
     c.args.begun.now (seen c.index_mut-pass.result.now) (seen c.settle_in-settled.new.pass)
@@ -62,15 +71,11 @@ returns-clause-hold g c =
 
 pub returns-clause-others : goal.returns-clause-others
 returns-clause-others g c =
-    told_but c.args.self.now c.args.hold.now c.args.colour c.column.result.now c.index_mut-pass.result.now
-    c.settle_in-settled.new.pass c.settle_in-settled.new.seat c.behind.new.desks c.requires.hold c.requires.colour c.column.ensures
-    c.index_mut-pass.ensures.value
+    told_but (turn g c) c.settle_in-settled.new.seat c.behind.new.desks
 
 pub returns-clause-at : goal.returns-clause-at
 returns-clause-at g c =
-    of_told c.args.self.now c.args.hold.now c.args.colour c.column.result.now c.index_mut-pass.result.now
-    c.settle_in-settled.new.pass c.settle_in-settled.new.seat c.behind.new.desks c.requires.hold c.requires.colour c.column.ensures
-    c.index_mut-pass.ensures.value
+    of_told (turn g c) c.settle_in-settled.new.seat c.behind.new.desks
     (λ (t : Tag) (old new : List Told). MatchAt c.settle_in-settled.result.at
     (λ place. MakesOne c.args.hold.now.passes.number (told_settle c.args.hold.now.passes.number c.args.begun.now.id
     c.args.outcome) old new c.settle_in-settled.result.at)
@@ -80,26 +85,20 @@ returns-clause-at g c =
 
 pub returns-clause-closed : goal.returns-clause-closed
 returns-clause-closed g c =
-    of_told c.args.self.now c.args.hold.now c.args.colour c.column.result.now c.index_mut-pass.result.now
-    c.settle_in-settled.new.pass c.settle_in-settled.new.seat c.behind.new.desks c.requires.hold c.requires.colour c.column.ensures
-    c.index_mut-pass.ensures.value
+    of_told (turn g c) c.settle_in-settled.new.seat c.behind.new.desks
     (λ (t : Tag) (old new : List Told). open_entry c.args.begun.now.id (entries (entries_in new)) ≡ None)
     c.settle_in-settled.ensures.closed
 
 pub returns-clause-stands : goal.returns-clause-stands
 returns-clause-stands g c =
-    of_told c.args.self.now c.args.hold.now c.args.colour c.column.result.now c.index_mut-pass.result.now
-    c.settle_in-settled.new.pass c.settle_in-settled.new.seat c.behind.new.desks c.requires.hold c.requires.colour c.column.ensures
-    c.index_mut-pass.ensures.value
+    of_told (turn g c) c.settle_in-settled.new.seat c.behind.new.desks
     (λ (t : Tag) (old new : List Told). (f : ℕ) → c.args.outcome ≡ Final f → IsFinal (entries_in new)
     c.args.begun.now.id f)
     c.settle_in-settled.ensures.stands
 
 pub returns-clause-position : goal.returns-clause-position
 returns-clause-position g c =
-    of_told c.args.self.now c.args.hold.now c.args.colour c.column.result.now c.index_mut-pass.result.now
-    c.settle_in-settled.new.pass c.settle_in-settled.new.seat c.behind.new.desks c.requires.hold c.requires.colour c.column.ensures
-    c.index_mut-pass.ensures.value
+    of_told (turn g c) c.settle_in-settled.new.seat c.behind.new.desks
     (λ (t : Tag) (old new : List Told). c.settle_in-settled.result.position ≡ place_after (entries_in new)
     c.args.begun.now.id c.args.outcome)
     c.settle_in-settled.ensures.position

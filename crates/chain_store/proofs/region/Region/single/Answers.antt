@@ -39,8 +39,10 @@ returns-in-Ok-clause-hold g c =
     let colour = (tag_in c.column.result.now).colour in
     let more = ap (λ (y : Node). y.id.count + 1) c.deref.ensures in
     hold_moved c.args.self.now c.args.hold.now _ c.args.colour c.column.result.now c.index_mut-pass.result.now
-    c.single_in-entered.new.pass c.requires.hold c.requires.colour c.column.ensures c.index_mut-pass.ensures.value refl refl
-    c.single_in-entered.ensures.pass (same_seat h.seat) (let n = c.requires.id.1 in omega (arith, n, more)) c.behind.ensures
+    c.single_in-entered.new.pass c.requires.hold c.requires.colour c.column.ensures c.index_mut-pass.ensures.value refl
+    refl
+    c.single_in-entered.ensures.pass (same_seat h.seat) (let n = c.requires.id.1 in omega (arith, n, more))
+    c.behind.ensures
     (inr (
       told_single colour h.passes.number x c.in-Ok.answer.stamp,
       c.in-Ok.answer.at,
@@ -52,7 +54,8 @@ returns-in-Ok-clause-hold g c =
 pub returns-in-Ok-clause-others : goal.returns-in-Ok-clause-others
 returns-in-Ok-clause-others g c =
     but_there c.args.self.now c.args.hold.now _ c.args.colour c.column.result.now c.index_mut-pass.result.now
-    c.single_in-entered.new.pass c.requires.hold c.requires.colour c.column.ensures c.index_mut-pass.ensures.value refl refl
+    c.single_in-entered.new.pass c.requires.hold c.requires.colour c.column.ensures c.index_mut-pass.ensures.value refl
+    refl
 
 pub returns-in-Ok-clause-ok : goal.returns-in-Ok-clause-ok
 returns-in-Ok-clause-ok g c =
@@ -60,7 +63,8 @@ returns-in-Ok-clause-ok g c =
     let a = c.in-Ok.answer in
     of_turn c.args.self.now c.args.hold.now (turned c.args.hold.now c.args.colour c.single_in-entered.new.pass
     (c.deref.result.now.id.count + 1) c.behind.new.desks) c.args.colour c.column.result.now c.index_mut-pass.result.now
-    c.single_in-entered.new.pass c.requires.hold c.requires.colour c.column.ensures c.index_mut-pass.ensures.value refl refl
+    c.single_in-entered.new.pass c.requires.hold c.requires.colour c.column.ensures c.index_mut-pass.ensures.value refl
+    refl
     (λ (t : Tag) (old new : List Told). MakesOne n (told_single t.colour n c.args.node.now.value a.stamp) old new a.at)
     (ok_is c.single_in-entered.result _ _ c.in-Ok.is c.single_in-entered.ensures.ok)
 
@@ -69,7 +73,8 @@ returns-in-Ok-clause-position g c =
     let a = c.in-Ok.answer in
     of_turn c.args.self.now c.args.hold.now (turned c.args.hold.now c.args.colour c.single_in-entered.new.pass
     (c.deref.result.now.id.count + 1) c.behind.new.desks) c.args.colour c.column.result.now c.index_mut-pass.result.now
-    c.single_in-entered.new.pass c.requires.hold c.requires.colour c.column.ensures c.index_mut-pass.ensures.value refl refl
+    c.single_in-entered.new.pass c.requires.hold c.requires.colour c.column.ensures c.index_mut-pass.ensures.value refl
+    refl
     (λ (t : Tag) (old new : List Told). a.position
     ≡ position (λ (k : Key). same_key k (entry_key a.stamp c.args.node.now.value.id)) (line (entries_in new)))
     (ok_is c.single_in-entered.result _ _ c.in-Ok.is c.single_in-entered.ensures.position)
@@ -77,19 +82,23 @@ returns-in-Ok-clause-position g c =
 pub returns-in-Err-clause-hold : goal.returns-in-Err-clause-hold
 returns-in-Err-clause-hold g c =
     hold_moved c.args.self.now c.args.hold.now _ c.args.colour c.column.result.now c.index_mut-pass.result.now
-    c.single_in-entered.new.pass c.requires.hold c.requires.colour c.column.ensures c.index_mut-pass.ensures.value refl refl
-    c.single_in-entered.ensures.pass (same_seat c.args.hold.now.seat) (omega arith) c.behind.ensures (inl (at_err c.single_in-entered.result _ c.in-Err.is c.single_in-entered.ensures.err))
+    c.single_in-entered.new.pass c.requires.hold c.requires.colour c.column.ensures c.index_mut-pass.ensures.value refl
+    refl
+    c.single_in-entered.ensures.pass (same_seat c.args.hold.now.seat) (omega arith) c.behind.ensures (inl (at_err
+    c.single_in-entered.result _ c.in-Err.is c.single_in-entered.ensures.err))
 
 pub returns-in-Err-clause-others : goal.returns-in-Err-clause-others
 returns-in-Err-clause-others g c =
     but_there c.args.self.now c.args.hold.now _ c.args.colour c.column.result.now c.index_mut-pass.result.now
-    c.single_in-entered.new.pass c.requires.hold c.requires.colour c.column.ensures c.index_mut-pass.ensures.value refl refl
+    c.single_in-entered.new.pass c.requires.hold c.requires.colour c.column.ensures c.index_mut-pass.ensures.value refl
+    refl
 
 pub returns-in-Err-clause-cause : goal.returns-in-Err-clause-cause
 returns-in-Err-clause-cause g c =
     of_turn c.args.self.now c.args.hold.now (turned c.args.hold.now c.args.colour c.single_in-entered.new.pass
     c.args.hold.now.next c.behind.new.desks) c.args.colour c.column.result.now c.index_mut-pass.result.now
-    c.single_in-entered.new.pass c.requires.hold c.requires.colour c.column.ensures c.index_mut-pass.ensures.value refl refl
+    c.single_in-entered.new.pass c.requires.hold c.requires.colour c.column.ensures c.index_mut-pass.ensures.value refl
+    refl
     (λ (t : Tag) (old new : List Told). HasSingleCause (entries_in new) c.args.node.now.value.floor c.in-Err.fault)
     (err_is c.single_in-entered.result _ _ c.in-Err.is c.single_in-entered.ensures.cause)
 
@@ -97,7 +106,9 @@ pub returns-in-Err-clause-err : goal.returns-in-Err-clause-err
 returns-in-Err-clause-err g c = (
   of_turn c.args.self.now c.args.hold.now (turned c.args.hold.now c.args.colour c.single_in-entered.new.pass
       c.args.hold.now.next c.behind.new.desks) c.args.colour c.column.result.now c.index_mut-pass.result.now
-      c.single_in-entered.new.pass c.requires.hold c.requires.colour c.column.ensures c.index_mut-pass.ensures.value refl refl
-      (λ (t : Tag) (old new : List Told). SeesMore c.args.hold.now.passes.number old new) (at_err c.single_in-entered.result _ c.in-Err.is c.single_in-entered.ensures.err),
+      c.single_in-entered.new.pass c.requires.hold c.requires.colour c.column.ensures c.index_mut-pass.ensures.value
+      refl refl
+      (λ (t : Tag) (old new : List Told). SeesMore c.args.hold.now.passes.number old new) (at_err
+      c.single_in-entered.result _ c.in-Err.is c.single_in-entered.ensures.err),
   refl,
 )
