@@ -8,13 +8,12 @@ ghost use Rattle.bench.specs.Stores.{IsBench};
 use crate::clients::jobs::{append_all, open, played, pulled};
 use log_client::{Client, Store};
 use std::alloc::Global;
-use std::io;
 use std::rt::Clock;
 use std::sync::atomic::{AtomicBool, Ordering};
 use std::sync::{Mutex, Wait};
-use std::thread;
 use std::thread::Threads;
 use std::time::Instant;
+use std::{io, thread};
 
 const APPENDS: u64 = 100;
 

@@ -19,7 +19,13 @@ three_clients r all ys xs ws u t s new many e e' e'' =
     let second = left_at ys xs t (λ n h. IsClient r n 0 h) e' last.0 in
     let first = left_at xs ws s (λ n h. IsClient r n 0 h) e'' second.0 in
     let none : length ws ≡ 0 = omega (
-      arith, many, ap length e, length-append ys (u ∷ []), ap length e', length-append xs (t ∷ []), ap length e'',
+      arith,
+      many,
+      ap length e,
+      length-append ys (u ∷ []),
+      ap length e',
+      length-append xs (t ∷ []),
+      ap length e'',
       length-append ws (s ∷ []),
     ) in
     (subst (λ (n : ℕ). IsClient r n 0 s) none first.1, second.1.hold, last.1.hold)
