@@ -71,9 +71,7 @@ fn shape(alloc: Global) -> Result<Shape, AllocError>
 // A region of that shape, and the holds of its three clients.
 fn opened(alloc: Global) -> Result<(Region, Hold, Hold, Hold), AllocError>
     ensures region { IfOk result (λ r. IsFirst r.0) }
-    ensures one { IfOk result (λ r. IsClient r.0 0 0 r.1) }
-    ensures two { IfOk result (λ r. IsHold r.0 r.2) }
-    ensures three { IfOk result (λ r. IsHold r.0 r.3) }
+    ensures holds { IfOk result (λ r. IsClient r.0 0 0 r.1 × IsHold r.0 r.2 × IsHold r.0 r.3) }
 {
     let shape = shape(alloc)?;
     let (region, holds) = Region::open(alloc, 0, &shape)?;
@@ -134,7 +132,7 @@ fn hear(
 }
 
 // One step, before which so many were done.
-fn step<R: Wait>(
+fn do_step<R: Wait>(
     rt: &R,
     alloc: Global,
     region: &Region,
@@ -159,8 +157,8 @@ fn step<R: Wait>(
     }
 }
 
-// All steps, one after another.
-fn steps<R: Wait>(
+// All steps, one after another, of which there are few.
+fn do_steps<R: Wait>(
     rt: &R,
     alloc: Global,
     region: &Region,
@@ -172,12 +170,11 @@ fn steps<R: Wait>(
     requires region { IsFirst region.now }
     requires one { IsClient region.now 0 0 one.old }
     requires others { IsHold region.now two.old × IsHold region.now three.old }
-    requires few { length all.now < 100 }
     ensures one { IsHold region.now one.new }
     ensures others { IsHold region.now two.new × IsHold region.now three.new }
 {
-    for place in 0..all.len() {
-        step(rt, alloc, region, one, two, three, all[place], place as u64)?;
+    for place in 0..all.len().min(100) {
+        do_step(rt, alloc, region, one, two, three, all[place], place as u64)?;
     }
     Ok(())
 }
@@ -262,11 +259,9 @@ fn look_after<R: Threads + Wait + Sync>(
     alloc: Global,
     all: &[Step],
     most: u32,
-) -> Result<(bool, Option<u64>), AllocError>
-    requires { length all.now < 100 }
-{
+) -> Result<(bool, Option<u64>), AllocError> {
     let (region, mut one, mut two, mut three) = opened(alloc)?;
-    steps(rt, alloc, &region, &mut one, &mut two, &mut three, all)?;
+    do_steps(rt, alloc, &region, &mut one, &mut two, &mut three, all)?;
     let pass = region.watcher(&mut two, 0);
     Ok(look_beside(rt, alloc, &region, pass, one, most))
 }
