@@ -6,7 +6,7 @@ use Rattle.chain_store.specs.Columns.{tag_of}
 use Rattle.chain_store.specs.Passes.{ColumnCell}
 use Rattle.chain_store.specs.Holds.{passes_of}
 use Rattle.chain_store.proofs.Holding.{holder, reached, same_seat}
-use Rattle.chain_store.proofs.ByColour.{turned_hold}
+use Rattle.chain_store.proofs.ByColour.{TurnOf, turned_hold}
 use Rattle.chain_store.proofs.Notes.{split_holder, alike_set}
 use Rattle.chain_store.proofs.region.Region.watcher.Goals as goal
 
@@ -26,10 +26,16 @@ returns-clause-hold c =
     let here = c.index_mut-pass.ensures.value in
     let kept = c.split.ensures.pass in
     let same : seen q ≡ seen p = kept.1.0 in
-    turned_hold r h k cell p q h.desks c.requires.hold c.requires.colour c.column.ensures here
+    let turn : TurnOf r h k cell p q = record {
+      hold = c.requires.hold;
+      inside = c.requires.colour;
+      column = c.column.ensures;
+      pass = here;
+    } in
+    turned_hold turn h.desks
     (split_holder cell h.passes.number p q
     (holder r h k cell p c.requires.hold c.requires.colour c.column.ensures here) kept) c.requires.hold.desks
-    (inl record { more = ([], append-nil (seen p) ∙ sym same); none = ap (made_by maker h.passes.number) same })
+    (inl (record { more = ([], append-nil (seen p) ∙ sym same); none = ap (made_by maker h.passes.number) same }))
 
 pub returns-clause-same : goal.returns-clause-same
 returns-clause-same c =
