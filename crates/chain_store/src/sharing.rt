@@ -15,8 +15,8 @@ use col_core::View;
 use log_node::Counts;
 use std::alloc::{AllocError, Global};
 use std::sync::Wait;
-use std::sync::atomic::AtomicU8;
 use std::sync::atomic::Ordering::Relaxed;
+use std::sync::atomic::{AtomicU8, AtomicU64};
 use turn_cell::{Cell, Pass, Passes};
 
 // Nobody has used the column.
@@ -24,6 +24,9 @@ const NOBODY: u8 = 0;
 
 // Several clients have.
 const SEVERAL: u8 = u8::MAX;
+
+// So many events are published one by one since a look last found the turn held, and then one of so many.
+const QUIET: u64 = 64;
 
 /// Who uses a column, as one client finds when it has used it.
 enum Users {
@@ -60,6 +63,7 @@ impl Share {
             alloc,
             copies,
             users: AtomicU8::new(NOBODY),
+            quiet: AtomicU64::new(0),
             clients,
         };
         Ok((share, passes))
@@ -92,6 +96,14 @@ impl Share {
         }
     }
 
+    // Whether one more event is to be published: while looks find the turn held each is, and else one of many.
+    #[inline]
+    fn wants_event(&self) -> bool {
+        let quiet = self.quiet.load(Relaxed);
+        self.quiet.store(quiet.wrapping_add(1), Relaxed);
+        quiet < QUIET || quiet % QUIET == 0
+    }
+
     // Publishes what there is, if the writer is free.
     #[cold]
     fn publish<R: Wait>(&self, rt: &R, cell: &Cell<Seated>, desk: &mut Desk)
@@ -107,7 +119,8 @@ impl Share {
     }
 
     /// Behind a turn of a client, which added an event or not: where several clients use the column what there is is
-    /// published, if an event was added or it is only now that several do. Where the writer is busy, or without memory, the next turn tries again.
+    /// published, if it is only now that several do, or an event was added and looks have found the turn held of late;
+    /// where none has, one event of many is. Where the writer is busy, or without memory, a later turn tries again.
     #[inline]
     pub(crate) fn behind<R: Wait>(
         &self,
@@ -123,7 +136,7 @@ impl Share {
     {
         let wanted = match self.users(by) {
             Users::One => false,
-            Users::Several => event,
+            Users::Several => event && self.wants_event(),
             Users::SeveralNow => true,
         };
         if wanted {
@@ -153,6 +166,7 @@ impl Share {
             alloc: _,
             copies,
             users: _,
+            quiet: _,
             clients: _,
         } = self;
         let Desk { pass, reader: _ } = desk;
@@ -177,6 +191,7 @@ fn view_beside(
     ensures view { IfSome result (λ view. ShowsHistory (tag_in cell.now) (seen pass.new) from view) }
     ensures desk { IsDesk share.now desk.new }
 {
+    share.quiet.store(0, Relaxed);
     share.seat_reader(desk);
     match desk.reader.take() {
         Some(reader) => {
@@ -205,6 +220,7 @@ fn looked_beside(
     ensures looked { IfSome result (ShowsOn (tag_in cell.now) (seen pass.new) from) }
     ensures desk { IsDesk share.now desk.new }
 {
+    share.quiet.store(0, Relaxed);
     share.seat_reader(desk);
     match desk.reader.take() {
         Some(reader) => {

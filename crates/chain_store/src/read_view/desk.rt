@@ -2,7 +2,7 @@
 use crate::read_view::copies::Copies;
 use crate::read_view::rule::ViewReader;
 use std::alloc::Global;
-use std::sync::atomic::AtomicU8;
+use std::sync::atomic::{AtomicU8, AtomicU64};
 use turn_cell::{Cell, Pass};
 
 /// A column's copies beside it, and who uses the column.
@@ -12,6 +12,8 @@ pub struct Share {
     pub(crate) copies: Cell<Copies>,
     // None yet, one client by its number and one, or several: a hint alone.
     pub(crate) users: AtomicU8,
+    // How many events were added since a look last found the turn held: a hint alone.
+    pub(crate) quiet: AtomicU64,
     // How many clients there are.
     pub(crate) clients: u8,
 }
