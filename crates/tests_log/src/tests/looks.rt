@@ -283,3 +283,24 @@ fn a_look_waits_at_a_column_that_one_client_alone_has_used(rt: HostRuntime) -> R
     assert_eq!(rt; shown, Some(2));
     Ok(())
 }
+
+// Steps behind which the copy shows fewer events than the first client has seen: events are published one by one only for a
+// while, if no look finds the turn held.
+fn many_steps(alloc: Global) -> Result<Vec<Step>, AllocError> {
+    let mut all = Vec::new(alloc);
+    all.push(Second)?;
+    for _ in 0..70 {
+        all.push(Third)?;
+    }
+    all.push(Append)?;
+    Ok(all)
+}
+
+#[test]
+fn a_look_waits_where_the_copy_shows_less_than_was_seen(rt: HostRuntime) -> Result<(), Fail> {
+    let all = many_steps(rt.alloc())?;
+    let (answered, shown) = look_after(&rt, rt.alloc(), all.as_slice(), FEW)?;
+    assert!(rt; !answered);
+    assert_eq!(rt; shown, Some(72));
+    Ok(())
+}
