@@ -3,7 +3,7 @@
 
 ghost use Rattle.std.specs.Prelude.{◌≤◌};
 
-mod jobs;
+pub mod jobs;
 
 use jobs::{append_beside, open, played, pulled};
 use std::alloc::Global;

@@ -1,10 +1,11 @@
 //! Measures what clients do over and over: turns at a cell, a stamp board, appends at a column, and what clients of a store
-//! do.
+//! do, and syncs of a colour to which another appends.
 //!
-//! `bench turn`, `bench board`, `bench column` and `bench client` do a little each, and print what came of it, which is the
-//! same in every run; with no word all four do. With a number behind the word they do that much, and print how long it took.
+//! `bench turn`, `bench board`, `bench column`, `bench client` and `bench beside` do a little each, and print what came of it,
+//! which is the same in every run; with no word all five do. With a number behind the word they do that much, and print how long it took.
 #![tactic(auto)]
 
+mod beside;
 mod boards;
 mod clients;
 mod columns;
@@ -17,7 +18,7 @@ use std::sync::Wait;
 use std::thread::Threads;
 use std::{env, io};
 
-const USAGE: &str = "usage: bench [turn, board, column or client [N]]";
+const USAGE: &str = "usage: bench [turn, board, column, client or beside [N]]";
 
 // The words of the command line without the program's name.
 fn words_of(rt: &HostRuntime) -> io::Result<Vec<String>> {
@@ -28,7 +29,8 @@ fn count_all<R: Threads + Wait + Print + Clock + Sync>(rt: &R, alloc: Global) ->
     turns::count(rt, alloc)?;
     boards::count(rt, alloc)?;
     columns::count(rt, alloc)?;
-    clients::count(rt, alloc)
+    clients::count(rt, alloc)?;
+    beside::count(rt, alloc)
 }
 
 fn count<R: Threads + Wait + Print + Clock + Sync>(
@@ -41,6 +43,7 @@ fn count<R: Threads + Wait + Print + Clock + Sync>(
         "board" => boards::count(rt, alloc),
         "column" => columns::count(rt, alloc),
         "client" => clients::count(rt, alloc),
+        "beside" => beside::count(rt, alloc),
         _ => println!(rt; "{USAGE}"),
     }
 }
@@ -56,6 +59,7 @@ fn measure<R: Threads + Wait + Print + Clock + Sync>(
         "board" => boards::measure(rt, alloc, number),
         "column" => columns::measure(rt, alloc, u64::from(number)),
         "client" => clients::measure(rt, alloc, u64::from(number)),
+        "beside" => beside::measure(rt, alloc, u64::from(number)),
         _ => println!(rt; "{USAGE}"),
     }
 }

@@ -1,5 +1,5 @@
 -- A hold that has begun a row, or has learnt of one.
-use Rattle.std.proofs.Common.{◌≡◌, ◌≢◌, ℕ, ◌+◌, ◌<◌, ◌≤◌, ◌^◌, inl, inr, List, refl, ap, sym, subst, ◌∙◌, arith}
+use Rattle.std.proofs.Common.{Vec, Global, ◌≡◌, ◌≢◌, ℕ, ◌+◌, ◌<◌, ◌≤◌, ◌^◌, inl, inr, List, refl, ap, sym, subst, ◌∙◌, arith}
 use Rattle.std.specs.Prelude.{if◌then◌else◌, ◌==◌}
 use Rattle.std.proofs.lemmas.Bool.{cases_eq, eq-eqb, ne_eqb}
 use Rattle.log_node.specs.declared.limits.TheConstants.{MAX_STAMP}
@@ -19,7 +19,9 @@ use Rattle.chain_store.specs.declared.told.Told.{Told}
 use Rattle.chain_store.specs.declared.hold.Hold.{Hold}
 use Rattle.chain_store.specs.declared.hold.ColumnPasses.{ColumnPasses}
 use Rattle.chain_store.specs.declared.region.Region.{Region}
+use Rattle.chain_store.specs.declared.read_view.desk.Desk.{Desk}
 use Rattle.chain_store.specs.Owning.{Owns, HasRowOf, IsAccountedFor, IsRowNode, row_of}
+use Rattle.chain_store.specs.Desks.{HasDesks}
 use Rattle.chain_store.specs.Holds.{HasPasses, IsHold, made_in, view_of}
 use Rattle.chain_store.specs.Beginning.{HasNextRow, BeginsRow}
 use Rattle.chain_store.proofs.Holding.{clients_later, owns_step}
@@ -114,23 +116,24 @@ next_node r h x is mine above = (
 
 -- a hold of which the seat alone has learnt
 pub hold_learnt : (r : Region) (h g : Hold) → IsHold r h → g.passes ≡ h.passes → g.next ≡ h.next
-    → IsLater h.seat g.seat → IsHold r g
-hold_learnt r h g is same next later = record {
+    → g.desks ≡ h.desks → IsLater h.seat g.seat → IsHold r g
+hold_learnt r h g is same next kept later = record {
   passes = subst (λ (z : ColumnPasses). HasPasses r.columns.items z.number z.items.items) (sym same) is.passes;
   seat = (later.board ∙ is.seat.0, later.grows.size ∙ is.seat.1);
   clients = clients_later r h.seat g.seat later is.clients;
   number = later.client ∙ is.number ∙ ap (λ (z : ColumnPasses). z.number) (sym same);
   owns = subst (λ (z : ColumnPasses). Owns r.board.size r.number (view_of g) z.number g.seat.used g.next
-      (made_in (record { passes = z; seat = g.seat; next = g.next }))) (sym same)
+      (made_in (record { passes = z; seat = g.seat; next = g.next; desks = g.desks }))) (sym same)
       (subst (λ (z : ℕ × ℕ). Owns r.board.size r.number (view_of g) h.passes.number z.0 z.1 (made_in h))
       (λ i. (sym later.used i, sym next i))
       (owns_step r.board.size r.number (view_of h) (view_of g) h.passes.number h.seat.used h.next h.next (made_in h)
       (made_in h) later.grows (omega arith) is.owns (λ colour n t at. inl at)));
+  desks = subst (λ (z : Vec Desk Global). HasDesks r.shares.items z.items) (sym kept) is.desks;
 }
 
 -- a hold that has begun a row
 module _ (r : Region) (h g : Hold) (x : Node) (row : Row) (is : IsHold r h) (same : g.passes ≡ h.passes)
-    (more : g.next ≡ x.id.count + 1) (next : IsNext r.board h.seat row) (began : Begins h.seat g.seat row x)
+    (kept : g.desks ≡ h.desks) (more : g.next ≡ x.id.count + 1) (next : IsNext r.board h.seat row) (began : Begins h.seat g.seat row x)
     (mine : x.id.client ≡ h.passes.number) (above : h.next ≤ x.id.count) (counted : x.id.count < 2 ^ 63)
     (named : HasNextRow r.board h.seat x) (region : x.region ≡ r.number)
     (coloured : AreColours r.board.size x.colours) (floored : x.floor ≤ MAX_STAMP) where
@@ -165,11 +168,12 @@ module _ (r : Region) (h g : Hold) (x : Node) (row : Row) (is : IsHold r h) (sam
     );
     number = began.client ∙ is.number ∙ ap (λ (z : ColumnPasses). z.number) (sym same);
     owns = subst (λ (z : ColumnPasses). Owns r.board.size r.number (view_of g) z.number g.seat.used g.next
-        (made_in (record { passes = z; seat = g.seat; next = g.next }))) (sym same)
+        (made_in (record { passes = z; seat = g.seat; next = g.next; desks = g.desks }))) (sym same)
         (subst (λ (u : ℕ). Owns r.board.size r.number (view_of g) n u g.next (made_in h)) (sym began.used)
         (owns_more r.board.size r.number (view_of h) (view_of g) n h.seat.used h.next g.next x (made_in h) began.grows
         (subst (λ (z : Row). KnowsBegun (view_of g) z x) row_is began.knows)
         (subst (λ (z : Row). IsRowNode r.board.size r.number z x) row_is fits) above more is.owns));
+    desks = subst (λ (z : Vec Desk Global). HasDesks r.shares.items z.items) (sym kept) is.desks;
   }
 
   pub begins : BeginsRow r h g row x

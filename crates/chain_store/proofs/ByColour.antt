@@ -1,5 +1,5 @@
 -- A hold after a call on a colour's column.
-use Rattle.std.proofs.Common.{◌≡◌, ℕ, ◌<◌, ◌≤◌, List, true, Option, None, Some, set, get_or, refl, ap, sym, subst, ◌∙◌, Result, Ok, Err, inl, inr, ◌⊎◌, arith}
+use Rattle.std.proofs.Common.{Vec, Global, ◌≡◌, ℕ, ◌<◌, ◌≤◌, List, true, Option, None, Some, set, get_or, refl, ap, sym, subst, ◌∙◌, Result, Ok, Err, inl, inr, ◌⊎◌, arith}
 use Rattle.std.specs.Prelude.{IfOk, IfSome, OnErr}
 use Rattle.log_node.specs.declared.ids.Counts.{Counts}
 use Rattle.log_node.specs.declared.node.Node.{Node}
@@ -24,6 +24,7 @@ use Rattle.chain_store.specs.declared.told.Tag.{Tag}
 use Rattle.chain_store.specs.declared.told.Told.{Told}
 use Rattle.chain_store.specs.declared.hold.Hold.{Hold}
 use Rattle.chain_store.specs.declared.region.Region.{Region}
+use Rattle.chain_store.specs.declared.read_view.desk.Desk.{Desk}
 use Rattle.chain_store.specs.Histories.{maker}
 use Rattle.chain_store.specs.Passes.{ColumnCell, ColumnPass, IsBeside, IsHolder, SeesMore, Looks, MakesOne, tag_in}
 use Rattle.chain_store.specs.Moves.{LooksAt, RaisesAt, GivesAt, CarriesAt, TrimsAt}
@@ -32,6 +33,7 @@ use Rattle.chain_store.specs.Owning.{IsAccountedFor, HasRowOf, row_of}
 use Rattle.chain_store.specs.Columns.{told_propose, told_settle}
 use Rattle.chain_store.specs.Rows.{IsBegunRow, KnowsRow, IsKnownBelow, OneNode}
 use Rattle.chain_store.specs.Steps.{MatchAt}
+use Rattle.chain_store.specs.Desks.{HasDesks}
 use Rattle.chain_store.specs.Holds.{passes_of, seen_in, view_of, IsHold, SameBut, KnowsAppend}
 use Rattle.chain_store.proofs.Holding.{reached, client_few, same_seat, same_but, of_pass, hold_looked, hold_made, turned}
 
@@ -101,31 +103,40 @@ module _ (r : Region) (h g : Hold) (k : ℕ) (c : ColumnCell) (p q : ColumnPass)
       (subst (λ (t : Tag). P t (seen p) (seen q)) col.tagged x)
 
   pub hold_moved : IsHolder c h.passes.number q → IsLater h.seat g.seat → h.next ≤ g.next
+      → HasDesks r.shares.items g.desks.items
       → MovesBy (IsAccountedFor h.passes.number h.seat.used g.next is.owns.nodes) h.passes.number (seen p) (seen q)
       → IsHold r g
-  hold_moved good later le (inl s) =
-      hold_looked r h g k c p q is col.there (reached r h k p is lt e) number changed good later le s
-  hold_moved good later le (inr m) =
-      hold_made r h g k c p q is col.there (reached r h k p is lt e) number changed good later le m.0 m.1 m.3 m.2
+  hold_moved good later le desks (inl s) =
+      hold_looked r h g k c p q is col.there (reached r h k p is lt e) number changed good later le desks s
+  hold_moved good later le desks (inr m) =
+      hold_made r h g k c p q is col.there (reached r h k p is lt e) number changed good later le desks m.0 m.1 m.3 m.2
       m.4
 
--- the same, where nothing of the hold but the pass is changed
-module _ (r : Region) (h : Hold) (k : ℕ) (c : ColumnCell) (p q : ColumnPass) (is : IsHold r h)
-    (lt : k < r.board.size.colours) (col : IsColumnAt r k c) (e : p ≡ get_or (passes_of h) k p) where
-  pub turned_but : SameBut k h (turned h k q h.next)
-  turned_but = but_there r h (turned h k q h.next) k c p q is lt col e refl refl
+-- a turn of the pass p of the colour's cell, which is q behind it
+pub record TurnOf (r : Region) (h : Hold) (k : ℕ) (c : ColumnCell) (p q : ColumnPass) : Type 0 where
+  pub hold : IsHold r h
+  pub inside : k < r.board.size.colours
+  pub column : IsColumnAt r k c
+  pub pass : p ≡ get_or (passes_of h) k p
+
+-- the same, where nothing of the hold but the pass and the desks is changed
+module _ {r : Region} {h : Hold} {k : ℕ} {c : ColumnCell} {p q : ColumnPass} (t : TurnOf r h k c p q)
+    (ds : Vec Desk Global) where
+  pub turned_but : SameBut k h (turned h k q h.next ds)
+  turned_but = but_there r h (turned h k q h.next ds) k c p q t.hold t.inside t.column t.pass refl refl
 
   pub of_turned : (P : Tag → List Told → List Told → Type 0) → P (tag_in c) (seen p) (seen q)
-      → P (tag_at r k) (seen_in h k) (seen_in (turned h k q h.next) k)
-  of_turned P x = of_turn r h (turned h k q h.next) k c p q is lt col e refl refl P x
+      → P (tag_at r k) (seen_in h k) (seen_in (turned h k q h.next ds) k)
+  of_turned P x = of_turn r h (turned h k q h.next ds) k c p q t.hold t.inside t.column t.pass refl refl P x
 
-  pub turned_hold : IsHolder c h.passes.number q → Moves h.passes.number (seen p) (seen q)
-      → IsHold r (turned h k q h.next)
-  turned_hold good m =
-      hold_moved r h (turned h k q h.next) k c p q is lt col e refl refl good (same_seat h.seat) (omega arith)
+  pub turned_hold : IsHolder c h.passes.number q → HasDesks r.shares.items ds.items
+      → Moves h.passes.number (seen p) (seen q) → IsHold r (turned h k q h.next ds)
+  turned_hold good desks m =
+      hold_moved r h (turned h k q h.next ds) k c p q t.hold t.inside t.column t.pass refl refl good
+      (same_seat h.seat) (omega arith) desks
       (elim m [
         | inl s ↦ inl s
-        | inr x ↦ inr (x.0, x.1, x.2, x.3, x.4 h.seat.used h.next is.owns.nodes)
+        | inr x ↦ inr (x.0, x.1, x.2, x.3, x.4 h.seat.used h.next t.hold.owns.nodes)
       ])
 
 -- the client is one of those that a column's tag counts
@@ -136,12 +147,13 @@ client_tagged r h k c is col =
 
 -- a hold that has learnt of the board's rows too
 
--- the hold with another pass of a colour's column, and another seat
-abbrev pub turned_told : Hold → ℕ → ColumnPass → Seat → Hold
-turned_told h k q s = record {
+-- the hold with another pass of a colour's column, another seat, and these desks
+abbrev pub turned_told : Hold → ℕ → ColumnPass → Seat → Vec Desk Global → Hold
+turned_told h k q s ds = record {
   passes = record { number = h.passes.number; items = with_item h.passes.items k q };
   seat = s;
   next = h.next;
+  desks = ds;
 }
 
 -- the append is of one of the client's rows, where it is of the client's ids
@@ -188,35 +200,35 @@ pub look_answers : (n : ℕ) (old new : List Told) (P : ℕ → Type 0) (at : At
 look_answers n old new P (Event place) m = m
 look_answers n old new P (Look events) s = (s.0, ap Look s.1)
 
-module _ (r : Region) (h : Hold) (k : ℕ) (c : ColumnCell) (p q : ColumnPass) (s : Seat) (is : IsHold r h)
-    (lt : k < r.board.size.colours) (col : IsColumnAt r k c) (e : p ≡ get_or (passes_of h) k p) where
-  pub told_but : SameBut k h (turned_told h k q s)
-  told_but = but_there r h (turned_told h k q s) k c p q is lt col e refl refl
+module _ {r : Region} {h : Hold} {k : ℕ} {c : ColumnCell} {p q : ColumnPass} (t : TurnOf r h k c p q) (s : Seat)
+    (ds : Vec Desk Global) where
+  pub told_but : SameBut k h (turned_told h k q s ds)
+  told_but = but_there r h (turned_told h k q s ds) k c p q t.hold t.inside t.column t.pass refl refl
 
   pub of_told : (P : Tag → List Told → List Told → Type 0) → P (tag_in c) (seen p) (seen q)
-      → P (tag_at r k) (seen_in h k) (seen_in (turned_told h k q s) k)
-  of_told P x = of_turn r h (turned_told h k q s) k c p q is lt col e refl refl P x
+      → P (tag_at r k) (seen_in h k) (seen_in (turned_told h k q s ds) k)
+  of_told P x = of_turn r h (turned_told h k q s ds) k c p q t.hold t.inside t.column t.pass refl refl P x
 
-  pub told_hold : IsHolder c h.passes.number q → IsLater h.seat s
-      → MovesBy (IsAccountedFor h.passes.number h.seat.used h.next is.owns.nodes) h.passes.number (seen p) (seen q)
-      → IsHold r (turned_told h k q s)
-  told_hold good later m =
-      hold_moved r h (turned_told h k q s) k c p q is lt col e refl refl good later (omega arith) m
+  pub told_hold : IsHolder c h.passes.number q → IsLater h.seat s → HasDesks r.shares.items ds.items
+      → MovesBy (IsAccountedFor h.passes.number h.seat.used h.next t.hold.owns.nodes) h.passes.number (seen p) (seen q)
+      → IsHold r (turned_told h k q s ds)
+  told_hold good later desks m =
+      hold_moved r h (turned_told h k q s ds) k c p q t.hold t.inside t.column t.pass refl refl good later (omega arith) desks m
 
 -- a colour's column is beside the region's board
 pub beside : (r : Region) (k : ℕ) (c : ColumnCell) → IsColumnAt r k c → IsBeside r.board c
 beside r k c col = (ap (λ (t : Tag). t.size) col.tagged, ap (λ (t : Tag). t.board) col.tagged)
 
 -- the hold knows of the append that a look at a column found
-pub knows_first : (r : Region) (h : Hold) (k : ℕ) (c : ColumnCell) (q : ColumnPass) (s : Seat) → IsHold r h →
-    IsColumnAt r k c
+pub knows_first : (r : Region) (h : Hold) (k : ℕ) (c : ColumnCell) (q : ColumnPass) (s : Seat) (ds : Vec Desk Global)
+    → IsHold r h → IsColumnAt r k c
     → IsLater h.seat s → (first : Option BegunAppend)
     → IfSome first (IsKnownBelow r.board.size (tag_in c).region (tag_in c).colour (seat_seen s))
     → IfSome first (λ (b : BegunAppend). IsClients r.board h.seat → b.row.client ≡ h.seat.client
     → b.row.number < h.seat.used)
-    → IfSome first (λ (b : BegunAppend). KnowsAppend r (turned_told h k q s) b × (has b.colours k ≡ true))
-knows_first r h k c q s is col later None known own = tt
-knows_first r h k c q s is col later (Some b) known own = (
+    → IfSome first (λ (b : BegunAppend). KnowsAppend r (turned_told h k q s ds) b × (has b.colours k ≡ true))
+knows_first r h k c q s ds is col later None known own = tt
+knows_first r h k c q s ds is col later (Some b) known own = (
   record {
     knows = subst (λ (t : Tag). KnowsRow r.board.size t.region (seat_seen s) b) col.tagged known.0;
     own = λ mine. subst (λ (u : ℕ). b.row.number < u) (sym later.used) (own is.clients (mine ∙ sym is.number));

@@ -5,7 +5,10 @@ use Rattle.std.proofs.lemmas.Bool.{cases_eq}
 use Rattle.std.proofs.lemmas.Option.{slice_get_within}
 use Rattle.chain_store.specs.declared.hold.ColumnPasses.{ColumnPasses}
 use Rattle.chain_store.specs.declared.seated.Seated.{Seated}
+use Rattle.chain_store.specs.declared.read_view.desk.Share.{Share}
+use Rattle.chain_store.specs.declared.read_view.desk.Desk.{Desk}
 use Rattle.chain_store.specs.Passes.{ColumnCell, ColumnPass}
+use Rattle.chain_store.specs.Desks.{HasDesks, IsDesk}
 use Rattle.chain_store.specs.Ends.{AreHolders}
 use Rattle.chain_store.specs.Closings.{HaveOneMore, Gave, Gathered, AllHold, AreOfColour, IsClosed}
 use Rattle.chain_store.proofs.Holding.{set_got, set_other}
@@ -140,3 +143,20 @@ closed_more cells old m n cell s closed next more is here good rest k d t at nat
       by (suc k) at tat =
           let z : n + k ≡ m + suc k = omega (arith, more) in
           subst (λ (i : ℕ). IsClosed d old i t) z (rest k d t (ap (slice_get cells) z ∙ at) tat)
+
+-- the last desk is at the last copies, and the others at the others
+pub desks_less : (shares rest : List Share) (s : Share) (ds left : List Desk) (d : Desk) → HasDesks shares ds
+    → shares ≡ rest ++ s ∷ [] → ds ≡ left ++ d ∷ [] → HasDesks rest left × IsDesk s d
+desks_less shares rest s ds left d h is are =
+    let a : length shares ≡ length rest + 1 = ap length is ∙ length-append rest (s ∷ []) in
+    let b : length ds ≡ length left + 1 = ap length are ∙ length-append left (d ∷ []) in
+    let count = h.count in
+    let same : length left ≡ length rest = omega (arith, a, b, count) in (
+      record {
+        count = same;
+        each = λ k t e at eat. h.each k t e (ap (λ l. slice_get l k) is ∙ get_old rest (s ∷ []) k t at)
+            (ap (λ l. slice_get l k) are ∙ get_old left (d ∷ []) k e eat);
+      },
+      h.each (length rest) s d (ap (λ l. slice_get l (length rest)) is ∙ get_last rest s)
+          (ap (λ l. slice_get l (length rest)) are ∙ ap (slice_get (left ++ d ∷ [])) (sym same) ∙ get_last left d),
+    )

@@ -1,9 +1,9 @@
 -- A hold after a turn at one column.
-use Rattle.std.proofs.Common.{◌≡◌, ◌≢◌, ℕ, zero, suc, ◌+◌, ◌<◌, ◌≤◌, List, [], ◌∷◌, ◌++◌, length, Some, set, get_or, refl, ap, sym, subst, ◌∙◌, arith, inl, inr, ◌⊎◌, length-set}
+use Rattle.std.proofs.Common.{Vec, Global, ◌≡◌, ◌≢◌, ℕ, zero, suc, ◌+◌, ◌<◌, ◌≤◌, List, [], ◌∷◌, ◌++◌, length, Some, set, get_or, refl, ap, sym, subst, ◌∙◌, arith, inl, inr, ◌⊎◌, length-set}
 use Rattle.std.specs.Prelude.{slice_get}
 use Rattle.std.specs.Vec.{with_item}
 use Rattle.std.proofs.lemmas.Bool.{cases_eq}
-use Rattle.std.proofs.lemmas.Option.{slice_get_read}
+use Rattle.std.proofs.lemmas.Option.{slice_get_read, slice_get_within}
 use Rattle.log_node.specs.declared.limits.TheConstants.{MAX_CLIENTS}
 use Rattle.log_node.specs.declared.node.Node.{Node}
 use Rattle.log_node.specs.declared.node.At.{At}
@@ -20,11 +20,14 @@ use Rattle.turn_cell.specs.Cells.{seen}
 use Rattle.chain_store.specs.declared.told.Told.{Told}
 use Rattle.chain_store.specs.declared.hold.Hold.{Hold}
 use Rattle.chain_store.specs.declared.region.Region.{Region}
+use Rattle.chain_store.specs.declared.read_view.desk.Share.{Share}
+use Rattle.chain_store.specs.declared.read_view.desk.Desk.{Desk}
 use Rattle.column.specs.Columns.{single_event}
 use Rattle.chain_store.specs.Histories.{maker}
 use Rattle.chain_store.specs.Passes.{ColumnCell, ColumnPass, IsHolder, SeesMore, MakesOne}
 use Rattle.chain_store.specs.Regions.{IsColumnAt}
 use Rattle.chain_store.specs.Owning.{Owns, IsAccountedFor, row_of}
+use Rattle.chain_store.specs.Desks.{IsDesk, HasDesks}
 use Rattle.chain_store.specs.Holds.{history_seen, passes_of, turned_in, made_in, view_of, HasPasses, IsHold, SameBut}
 use Rattle.chain_store.proofs.Entering.{get_cases}
 use Rattle.chain_store.proofs.Passing.{made_with}
@@ -67,6 +70,27 @@ passes_set cells ps n i c q here good all = (
     | inr t ↦ all.1 k d p at t.1
   ],
 )
+
+pub desks_set : (shares : List Share) (ds : List Desk) (i : ℕ) (s : Share) (d : Desk) → slice_get shares i ≡ Some s
+    → IsDesk s d → HasDesks shares ds → HasDesks shares (set ds i d)
+desks_set shares ds i s d here good all = record {
+  count = length-set ds i d ∙ all.count;
+  each = λ k z e at eat. elim (got_set ds i k d e eat) [
+    | inl t ↦
+        let two : Some s ≡ Some z = sym here ∙ (ap (slice_get shares) (sym t.0) ∙ at) in
+        let same : s ≡ z = cc (two) in
+        subst (λ (x : Share). IsDesk x e) same (subst (IsDesk s) t.1 good)
+    | inr t ↦ all.each k z e at t.1
+  ];
+}
+
+-- the desk of a colour
+pub desk_there : (shares : List Share) (ds : List Desk) (k : ℕ) (s : Share) (d : Desk) → HasDesks shares ds
+    → slice_get shares k ≡ Some s → d ≡ get_or ds k d → IsDesk s d
+desk_there shares ds k s d all here e =
+    let many = all.count in
+    let inside = slice_get_within shares k s here in
+    all.each k s d here (slice_get_read ds (length ds) k d refl (omega (arith, many, inside)) e)
 
 -- what is accounted for stays so with more counts given out
 pub accounted_later : (client used next more : ℕ) (nodes : ℕ → Node) (e : Event) → next ≤ more
@@ -145,7 +169,8 @@ module _ (r : Region) (h g : Hold) (k : ℕ) (c : ColumnCell) (p q : ColumnPass)
   made_more t at by m = made_now ∙ ap (made_by maker n) m.adds ∙ made_with n m.before t by
       ∙ ap (λ (l : List Told). l ++ t ∷ []) (m.none ∙ sym made_was)
 
-  module _ (good : IsHolder c n q) (later : IsLater h.seat g.seat) (le : h.next ≤ g.next) where
+  module _ (good : IsHolder c n q) (later : IsLater h.seat g.seat) (le : h.next ≤ g.next)
+      (desks : HasDesks r.shares.items g.desks.items) where
     held : Owns r.board.size r.number (view_of g) n h.seat.used g.next (made_in g) → IsHold r g
     held o = record {
       passes = subst (λ (m : ℕ). HasPasses r.columns.items m (passes_of g)) (sym number)
@@ -156,6 +181,7 @@ module _ (r : Region) (h g : Hold) (k : ℕ) (c : ColumnCell) (p q : ColumnPass)
       number = later.client ∙ is.number ∙ sym number;
       owns = subst (λ (z : ℕ × ℕ). Owns r.board.size r.number (view_of g) z.0 z.1 g.next (made_in g))
           (λ i. (sym number i, sym later.used i)) o;
+      desks = desks;
     }
 
     pub hold_looked : SeesMore n (seen p) (seen q) → IsHold r g
@@ -219,10 +245,11 @@ single_of r h x is le next e colour = (
   (λ j lt same. let b = is.owns.below j lt in omega (arith, b, le, same)),
 )
 
--- the hold with another pass of a colour's column
-abbrev pub turned : Hold → ℕ → ColumnPass → ℕ → Hold
-turned h k q next = record {
+-- the hold with another pass of a colour's column, and these desks
+abbrev pub turned : Hold → ℕ → ColumnPass → ℕ → Vec Desk Global → Hold
+turned h k q next ds = record {
   passes = record { number = h.passes.number; items = with_item h.passes.items k q };
   seat = h.seat;
   next = next;
+  desks = ds;
 }

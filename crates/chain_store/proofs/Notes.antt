@@ -1,5 +1,5 @@
 -- Passes that have told or heard.
-use Rattle.std.proofs.Common.{◌≡◌, Bool, ℕ, zero, suc, ◌+◌, ◌<◌, ◌≤◌, inl, inr, List, [], ◌∷◌, ◌++◌, length, Option, Some, set, get_or, slice_get, refl, ap, sym, subst, ◌∙◌, arith, length-append, append-nil}
+use Rattle.std.proofs.Common.{Vec, Global, ◌≡◌, Bool, ℕ, zero, suc, ◌+◌, ◌<◌, ◌≤◌, inl, inr, List, [], ◌∷◌, ◌++◌, length, Option, Some, set, get_or, slice_get, refl, ap, sym, subst, ◌∙◌, arith, length-append, append-nil}
 use Rattle.std.proofs.lemmas.Bool.{cases_eq}
 use Rattle.std.proofs.lemmas.Option.{slice_get_within, slice_get_past, slice_get_read}
 use Rattle.std.proofs.lemmas.List.Elements.{filter-append}
@@ -13,10 +13,12 @@ use Rattle.turn_cell.specs.Cells.{seen, own, IsReady, IsSameView, IsAccounted}
 use Rattle.chain_store.specs.declared.told.Told.{Told}
 use Rattle.chain_store.specs.declared.hold.Hold.{Hold}
 use Rattle.chain_store.specs.declared.region.Region.{Region}
+use Rattle.chain_store.specs.declared.read_view.desk.Desk.{Desk}
 use Rattle.chain_store.specs.Histories.{maker, HasIds}
 use Rattle.chain_store.specs.Columns.{tag_of}
 use Rattle.chain_store.specs.Passes.{ColumnCell, ColumnPass, IsHolder, IsLawfulTold, tag_in}
 use Rattle.chain_store.specs.Owning.{Owns}
+use Rattle.chain_store.specs.Desks.{HasDesks}
 use Rattle.chain_store.specs.Holds.{history_seen, passes_of, HasPasses, IsHold, made_in, seen_in, view_of}
 use Rattle.chain_store.specs.Telling.{IsTold, SeenAlike, Heard, HeardAll}
 use Rattle.chain_store.proofs.Entering.{get_last}
@@ -197,8 +199,8 @@ heard_more n ps ts now i m p t q e pat tat nat one all k le = elim (cases_eq k m
 -- a hold of the same client that has made and begun what it had
 pub hold_stays : (r : Region) (h g : Hold) → IsHold r h → g.passes.number ≡ h.passes.number
     → HasPasses r.columns.items h.passes.number (passes_of g) → ((c : ℕ) → made_in g c ≡ made_in h c)
-    → g.next ≡ h.next → IsLater h.seat g.seat → IsHold r g
-hold_stays r h g is number passes made next later = record {
+    → g.next ≡ h.next → g.desks ≡ h.desks → IsLater h.seat g.seat → IsHold r g
+hold_stays r h g is number passes made next same later = record {
   passes = subst (λ (z : ℕ). HasPasses r.columns.items z (passes_of g)) (sym number) passes;
   seat = (later.board ∙ is.seat.0, later.grows.size ∙ is.seat.1);
   clients = clients_later r h.seat g.seat later is.clients;
@@ -208,6 +210,7 @@ hold_stays r h g is number passes made next later = record {
       (owns_step r.board.size r.number (view_of h) (view_of g) h.passes.number h.seat.used h.next h.next (made_in h)
       (made_in g) later.grows (omega arith) is.owns
       (λ c n t at. inl (ap (λ (l : List Told). slice_get l n) (sym (made c)) ∙ at)));
+  desks = subst (λ (z : Vec Desk Global). HasDesks r.shares.items z.items) (sym same) is.desks;
 }
 
 -- what a hold made of what it has seen

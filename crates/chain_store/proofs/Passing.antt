@@ -1,6 +1,6 @@
 -- What a pass has seen and made, from the turns of its cell.
 use Rattle.std.proofs.Common.{◌≡◌, ℕ, zero, suc, ◌-◌, take, drop, List, [], ◌∷◌, ◌++◌, length, Some, refl, ap, sym, subst, ◌∙◌, Result, Ok, Err, inl, inr, eq-eqb}
-use Rattle.std.specs.Prelude.{IfOk, ◌==◌, slice_get}
+use Rattle.std.specs.Prelude.{IfOk, IfErr, OnErr, ◌==◌, slice_get}
 use Rattle.std.proofs.lemmas.Bool.{cases_eq}
 use Rattle.log_node.specs.declared.ids.Counts.{Counts}
 use Rattle.log_node.specs.Vectors.{at}
@@ -26,6 +26,18 @@ use Rattle.chain_store.specs.Columns.{Stands, tag_of}
 use Rattle.chain_store.proofs.Entering.{column_ids, entered_named, entered_region}
 use Rattle.chain_store.specs.Passes.{ColumnCell, ColumnPass, IsHolder, ShowsHistory, dated_in, tag_in}
 pub use Rattle.log_node.proofs.CallerLemmas.{ok_then as ok_as}
+
+-- what an answer says that is known
+
+module _ {T E : Type 0} (res : Result T E) where
+  pub ok_is : (x : T) (P : T → Type 0) → res ≡ Ok x → IfOk res P → P x
+  ok_is x P is p = subst (λ (z : Result T E). IfOk z P) is p
+
+  pub err_is : (e : E) (P : E → Type 0) → res ≡ Err e → IfErr res P → P e
+  err_is e P is p = subst (λ (z : Result T E). IfErr z P) is p
+
+  pub at_err : {e : E} (P : Type 0) → res ≡ Err e → OnErr res P → P
+  at_err P is p = subst (λ (z : Result T E). OnErr z P) is p
 
 -- entries of a number
 

@@ -18,6 +18,7 @@ use Rattle.chain_store.specs.Passes.{ColumnCell, ColumnPass, IsHolder, SeesMore,
 use Rattle.chain_store.specs.Moves.{LooksAt, RaisesAt, GivesAt, CarriesAt, TrimsAt}
 use Rattle.chain_store.specs.Owning.{Owns}
 use Rattle.chain_store.specs.Rows.{KnowsRow}
+use Rattle.chain_store.specs.Desks.{HasDesks}
 
 -- the history that a pass has seen; nothing without a pass
 abbrev pub history_seen : Option ColumnPass → List Told
@@ -62,6 +63,7 @@ pub record IsHold (r : Region) (h : Hold) : Type 0 where
   pub clients : IsClients r.board h.seat
   pub number : h.seat.client ≡ h.passes.number
   pub owns : Owns r.board.size r.number (view_of h) h.passes.number h.seat.used h.next (made_in h)
+  pub desks : HasDesks r.shares.items h.desks.items
 
 -- it is the hold of the same client, and knows of the other columns what it knew
 pub record SameBut (colour : ℕ) (g h : Hold) : Type 0 where

@@ -22,9 +22,8 @@ ghost use Rattle.chain_store.specs.Marks.{stamps_of, numbers};
 ghost use Rattle.chain_store.specs.Rows.{IsBegunRow, place_after};
 ghost use Rattle.chain_store.specs.Proposals.{HasProposal, IsMarkedOpen};
 ghost use Rattle.chain_store.specs.Steps.{HasSingleCause, MatchAt};
-ghost use Rattle.chain_store.specs.Looking.{ShowsOn};
-ghost use Rattle.chain_store.specs.Passes.{ShowsHistory, dated_in};
-ghost use Rattle.chain_store.specs.Regions.{tag_at, IsColumnAt};
+ghost use Rattle.chain_store.specs.Passes.{dated_in};
+ghost use Rattle.chain_store.specs.Regions.{tag_at};
 ghost use Rattle.chain_store.specs.Holds.{IsHold, KnowsAppend, SameBut, seen_in, entries_seen, view_of};
 ghost use Rattle.chain_store.specs.Holds.{SeesMoreIn, MakesOneIn, LooksIn, RaisesIn, GivesIn, CarriesIn, TrimsIn};
 ghost use Rattle.chain_store.specs.Givens.{OfTheirHeads};
@@ -32,26 +31,15 @@ ghost use Rattle.chain_store.specs.Givens.{OfTheirHeads};
 use crate::calls::{Single, single_in};
 use crate::changes::{carry_in, give_in, raise_in, trim_in};
 use crate::hold::Hold;
-use crate::looks::{Looked, clock_in, held_in, look_in, look_on_in, place_in};
+use crate::looks::{clock_in, held_in, place_in};
 use crate::region::Region;
 use crate::rows::{Proposed, Settled, below_in, propose_in, settle_in};
-use crate::seated::Seated;
-use col_core::View;
 use column::{Below, ColumnFault, Given};
 use log_node::{At, Begun, Counts, Key, MAX_STAMP, Mark, Node, Outcome};
 use std::alloc::{AllocError, Global};
 use std::sync::{Arc, Wait};
-use turn_cell::Cell;
 
 impl Region {
-    // The colour's column.
-    pub(crate) fn column(&self, colour: u8) -> &Cell<Seated>
-        requires { colour < self.now.board.size.colours }
-        ensures { IsColumnAt self.now colour result.now }
-    {
-        &self.columns[colour as usize]
-    }
-
     /// The node enters the colour's column as final under the next stamp. Answers its position in the line too, which is
     /// `None` where an open entry stands before it.
     pub fn single<R: Wait>(
@@ -79,59 +67,15 @@ impl Region {
     {
         let by = hold.passes.number;
         let pass = &mut hold.passes.items[colour as usize];
-        match single_in(rt, self.column(colour), pass, by, node) {
+        let entered = single_in(rt, self.column(colour), pass, by, node);
+        self.behind(rt, &mut hold.desks, colour, by, entered.is_ok());
+        match entered {
             Ok(answer) => {
                 hold.next = node.id.count + 1;
                 Ok(answer)
             }
             Err(fault) => Err(fault),
         }
-    }
-
-    /// What a reader with these counts sees of the colour's column.
-    pub fn look<R: Wait>(
-        &self,
-        rt: &R,
-        alloc: Global,
-        hold: &mut Hold,
-        colour: u8,
-        from: Counts,
-    ) -> Result<View, AllocError>
-        requires hold { IsHold self.now hold.old }
-        requires colour { colour < self.now.board.size.colours }
-        ensures hold { IsHold self.now hold.new }
-        ensures others { SameBut colour hold.old hold.new }
-        ensures same { (hold.new.seat ≡ hold.old.seat) × (hold.new.next ≡ hold.old.next) }
-        ensures sees { SeesMoreIn colour hold.old hold.new }
-        ensures view { IfOk result (λ view.
-            ShowsHistory (tag_at self.now colour) (seen_in hold.new colour) from view) }
-    {
-        let by = hold.passes.number;
-        let pass = &mut hold.passes.items[colour as usize];
-        look_in(rt, alloc, self.column(colour), pass, by, from)
-    }
-
-    /// What a reader sees of the colour's column who goes on from these counts; behind the column's base that is the base
-    /// alone, at no cost for what the column has above it.
-    pub fn look_on<R: Wait>(
-        &self,
-        rt: &R,
-        alloc: Global,
-        hold: &mut Hold,
-        colour: u8,
-        from: Counts,
-    ) -> Result<Looked, AllocError>
-        requires hold { IsHold self.now hold.old }
-        requires colour { colour < self.now.board.size.colours }
-        ensures hold { IsHold self.now hold.new }
-        ensures others { SameBut colour hold.old hold.new }
-        ensures same { (hold.new.seat ≡ hold.old.seat) × (hold.new.next ≡ hold.old.next) }
-        ensures sees { SeesMoreIn colour hold.old hold.new }
-        ensures looked { IfOk result (ShowsOn (tag_at self.now colour) (seen_in hold.new colour) from) }
-    {
-        let by = hold.passes.number;
-        let pass = &mut hold.passes.items[colour as usize];
-        look_on_in(rt, alloc, self.column(colour), pass, by, from)
     }
 
     /// The position of a key in the line of the colour's column, counted from 0; `None` exactly where it is not in the
@@ -199,7 +143,10 @@ impl Region {
     {
         let by = hold.passes.number;
         let pass = &mut hold.passes.items[colour as usize];
-        raise_in(rt, self.column(colour), pass, by, to)
+        let raised = raise_in(rt, self.column(colour), pass, by, to);
+        let event = matches!(raised, Ok(At::Event(_)));
+        self.behind(rt, &mut hold.desks, colour, by, event);
+        raised
     }
 
     /// Gives another region the own nodes of the colour from a number on.
@@ -223,7 +170,9 @@ impl Region {
     {
         let by = hold.passes.number;
         let pass = &mut hold.passes.items[colour as usize];
-        give_in(rt, alloc, self.column(colour), pass, by, region, from)
+        let given = give_in(rt, alloc, self.column(colour), pass, by, region, from);
+        self.behind(rt, &mut hold.desks, colour, by, given.is_ok());
+        given
     }
 
     /// Takes over what is new of a part of another region's line of the colour, and answers how many nodes that is.
@@ -249,7 +198,10 @@ impl Region {
     {
         let by = hold.passes.number;
         let pass = &mut hold.passes.items[colour as usize];
-        carry_in(rt, alloc, self.column(colour), pass, by, region, given)
+        let carried = carry_in(rt, alloc, self.column(colour), pass, by, region, given);
+        let event = matches!(carried, Ok((At::Event(_), _)));
+        self.behind(rt, &mut hold.desks, colour, by, event);
+        carried
     }
 
     /// Drops nodes of the colour below these counts that every other region has asked past, and answers the base.
@@ -270,7 +222,9 @@ impl Region {
     {
         let by = hold.passes.number;
         let pass = &mut hold.passes.items[colour as usize];
-        trim_in(rt, self.column(colour), pass, by, counts)
+        let trimmed = trim_in(rt, self.column(colour), pass, by, counts);
+        self.behind(rt, &mut hold.desks, colour, by, trimmed.is_ok());
+        trimmed
     }
 
     /// Proposes a begun append in the colour's column: where its row has no mark there, its node enters as open and the
@@ -299,7 +253,7 @@ impl Region {
     {
         let by = hold.passes.number;
         let pass = &mut hold.passes.items[colour as usize];
-        propose_in(
+        let proposed = propose_in(
             rt,
             &self.board,
             self.column(colour),
@@ -307,7 +261,10 @@ impl Region {
             &mut hold.seat,
             by,
             begun,
-        )
+        );
+        let event = matches!(proposed.at, At::Event(_));
+        self.behind(rt, &mut hold.desks, colour, by, event);
+        proposed
     }
 
     /// Settles a begun append in the colour's column with the outcome of its row: where its id is open, it becomes
@@ -338,7 +295,7 @@ impl Region {
     {
         let by = hold.passes.number;
         let pass = &mut hold.passes.items[colour as usize];
-        settle_in(
+        let settled = settle_in(
             rt,
             &self.board,
             self.column(colour),
@@ -347,7 +304,10 @@ impl Region {
             by,
             begun,
             outcome,
-        )
+        );
+        let event = matches!(settled.at, At::Event(_));
+        self.behind(rt, &mut hold.desks, colour, by, event);
+        settled
     }
 
     /// How many open entries the colour's column has with a key below, and the append of the least of them, of which the

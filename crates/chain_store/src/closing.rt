@@ -2,10 +2,12 @@
 ghost use Rattle.std.specs.Prelude.{◌≡◌, ◌<◌, length, map, IfOk};
 ghost use Rattle.chain_store.specs.Closings.{HaveOneMore, AllHold, AreClosed, Gathered};
 ghost use Rattle.chain_store.specs.Closing.{AreHoldsOf, Closed};
+ghost use Rattle.chain_store.specs.Desks.{HasDesks};
 
 use crate::closed::{ClosedRegion, Holds};
 use crate::ends::close_column;
 use crate::hold::{ColumnPasses, Hold};
+use crate::read_view::desk::{Desk, Share};
 use crate::region::Region;
 use crate::seated::Seated;
 use column::Column;
@@ -14,26 +16,41 @@ use std::alloc::{AllocError, Global};
 use std::sync::Wait;
 use turn_cell::{Cell, Pass};
 
-// The passes and the seats of the holds.
+// The passes, the seats and the desks of the holds.
 fn split_holds(
     alloc: Global,
     holds: Vec<Hold>,
-) -> Result<(Vec<ColumnPasses>, Vec<Seat>), AllocError>
+) -> Result<(Vec<ColumnPasses>, Vec<Seat>, Vec<Vec<Desk>>), AllocError>
     ensures { IfOk result (λ r. (r.0.items ≡ map (λ h. h.passes) holds.items)
-        × (r.1.items ≡ map (λ h. h.seat) holds.items)) }
+        × (r.1.items ≡ map (λ h. h.seat) holds.items) × (r.2.items ≡ map (λ h. h.desks) holds.items)) }
 {
     let mut passes = Vec::new(alloc);
     let mut seats = Vec::new(alloc);
+    let mut desks = Vec::new(alloc);
     for hold in holds {
         let Hold {
             passes: own,
             seat,
             next: _,
+            desks: at_copies,
         } = hold;
         passes.push(own)?;
         seats.push(seat)?;
+        desks.push(at_copies)?;
     }
-    Ok((passes, seats))
+    Ok((passes, seats, desks))
+}
+
+// The end of the columns' copies, each by a client's desk: those of the last colour first.
+fn close_shares<R: Wait>(rt: &R, mut shares: Vec<Share>, mut desks: Vec<Desk>)
+    requires { HasDesks shares.items desks.items }
+{
+    while let Some(share) = shares.pop() {
+        match desks.pop() {
+            Some(desk) => share.close(rt, desk),
+            None => unreachable!(),
+        }
+    }
 }
 
 // The last pass of each client.
@@ -111,8 +128,14 @@ impl Region {
             regions: _,
             board,
             columns,
+            shares,
         } = self;
-        let (clients, seats) = split_holds(alloc, holds.into_vec())?;
+        let (clients, seats, mut desks) = split_holds(alloc, holds.into_vec())?;
+        match desks.pop() {
+            Some(own) => close_shares(rt, shares, own),
+            None => unreachable!(),
+        }
+        drop(desks);
         let closed = close_columns(rt, alloc, columns, clients)?;
         let (columns, column_seats) = split_columns(alloc, closed)?;
         let rows = board.close(alloc, seats.into(), column_seats.into())?;

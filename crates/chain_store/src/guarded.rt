@@ -131,7 +131,9 @@ impl Region {
     {
         let by = hold.passes.number;
         let pass = &mut hold.passes.items[colour as usize];
-        match only_in(rt, self.column(colour), pass, by, node) {
+        let entered = only_in(rt, self.column(colour), pass, by, node);
+        self.behind(rt, &mut hold.desks, colour, by, entered.is_ok());
+        match entered {
             Ok(answer) => {
                 hold.next = node.id.count + 1;
                 Ok(answer)

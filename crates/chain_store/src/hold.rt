@@ -1,4 +1,5 @@
 // What a client has of a region.
+use crate::read_view::desk::Desk;
 use crate::seated::Seated;
 use stamp_board::Seat;
 use turn_cell::Pass;
@@ -10,11 +11,12 @@ pub struct ColumnPasses {
     pub(crate) items: Vec<Pass<Seated>>,
 }
 
-/// What a client has of a region: its passes of all columns, its seat of the board, and a number above the counts of all
-/// nodes that it has appended here.
+/// What a client has of a region: its passes of all columns, its seat of the board, a number above the counts of all nodes
+/// that it has appended here, and by colour what it has of the columns' published copies.
 #[derive(Drop)]
 pub struct Hold {
     pub(crate) passes: ColumnPasses,
     pub(crate) seat: Seat,
     pub(crate) next: u64,
+    pub(crate) desks: Vec<Desk>,
 }

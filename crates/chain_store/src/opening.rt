@@ -1,14 +1,18 @@
 // A new region, and a hold for each client.
 ghost use Rattle.std.specs.Prelude.{◌≡◌, ◌<◌, ◌≤◌, length, IfOk};
 ghost use Rattle.stamp_board.specs.Rows.{IsSize};
-ghost use Rattle.stamp_board.specs.Seats.{AreFreshColumns};
+ghost use Rattle.stamp_board.specs.Seats.{AreFreshColumns, IsFreshColumn};
+ghost use Rattle.chain_store.specs.Passes.{IsCellOf};
+ghost use Rattle.chain_store.specs.Desks.{AreSharesOf, IsShareOf};
 ghost use Rattle.chain_store.specs.Tied.{AreTied};
-ghost use Rattle.chain_store.specs.Openings.{AreEmpty, Dealt, HaveAll, Zipped};
+ghost use Rattle.chain_store.specs.Openings.{AllGotNew, AreEmpty, Dealt, Got, HaveAll, Zipped};
 ghost use Rattle.chain_store.specs.Opening.{size_of, AreNewHolds};
 
 use crate::closed::Holds;
 use crate::ends::open_column;
 use crate::hold::{ColumnPasses, Hold};
+use crate::read_view::copies::Copies;
+use crate::read_view::desk::{Desk, Share};
 use crate::region::Region;
 use crate::seated::Seated;
 use log_node::{MAX_COLOURS, MAX_REGIONS, Shape};
@@ -16,79 +20,146 @@ use stamp_board::{Board, ColumnSeat, Seat};
 use std::alloc::{AllocError, Global};
 use turn_cell::{Cell, Pass};
 
-// No passes yet, for each client.
-fn fresh_passes(alloc: Global, clients: u8) -> Result<Vec<ColumnPasses>, AllocError>
+// What a client has of the columns that are open so far.
+#[derive(Drop)]
+struct Client {
+    passes: ColumnPasses,
+    desks: Vec<Desk>,
+}
+
+impl Client {
+    // The pass, and a desk with the pass of the copies, in front of those that there are.
+    fn get(&mut self, pass: Pass<Seated>, copies: Pass<Copies>) -> Result<(), AllocError>
+        ensures { IfOk result (λ _. Got self.old self.new pass copies) }
+    {
+        let desk = Desk {
+            pass: copies,
+            reader: None,
+        };
+        self.passes.items.insert(0, pass)?;
+        self.desks.insert(0, desk)?;
+        Ok(())
+    }
+}
+
+// The clients, by number, with nothing yet.
+fn fresh_clients(alloc: Global, clients: u8) -> Result<Vec<Client>, AllocError>
     ensures { IfOk result (λ all. (length all.items ≡ clients) × AreEmpty all.items) }
 {
     let mut all = Vec::new(alloc);
     for number in 0..clients {
         let items = Vec::new(alloc);
-        all.push(ColumnPasses { number, items })?;
+        let desks = Vec::new(alloc);
+        let passes = ColumnPasses { number, items };
+        all.push(Client { passes, desks })?;
     }
     Ok(all)
 }
 
-// Each client gets the pass of its number, in front of those that it has.
-fn deal(clients: &mut Vec<ColumnPasses>, mut passes: Vec<Pass<Seated>>) -> Result<(), AllocError>
-    requires { length passes.items ≡ length clients.old.items }
-    ensures { IfOk result (λ _. Dealt clients.old.items clients.new.items passes.items 0) }
+// Each client gets the passes of its number.
+fn deal(
+    clients: &mut Vec<Client>,
+    mut passes: Vec<Pass<Seated>>,
+    mut copies: Vec<Pass<Copies>>,
+) -> Result<(), AllocError>
+    requires passes { length passes.items ≡ length clients.old.items }
+    requires copies { length copies.items ≡ length clients.old.items }
+    ensures { IfOk result (λ _. Dealt clients.old.items clients.new.items passes.items copies.items 0) }
 {
     while let Some(pass) = passes.pop() {
         let number = passes.len();
-        clients[number].items.insert(0, pass)?;
+        match copies.pop() {
+            Some(other) => clients[number].get(pass, other)?,
+            None => unreachable!(),
+        }
     }
     Ok(())
 }
 
-// The columns of a region, by colour: the last colour first.
+// A column, and its copies: with one pass more than there are clients, which is the copies' own.
+fn open_shared(
+    alloc: Global,
+    board: &Board,
+    seat: ColumnSeat,
+    region: u8,
+    colour: u8,
+    shape: &Shape,
+    clients: &mut Vec<Client>,
+) -> Result<(Cell<Seated>, Share), AllocError>
+    requires seat { IsFreshColumn board.now seat colour }
+    requires region { region < MAX_REGIONS }
+    requires colour { colour < MAX_COLOURS }
+    requires regions { shape.now.regions ≤ MAX_REGIONS }
+    requires clients { length clients.old.items ≡ board.now.size.clients }
+    ensures cell { IfOk result (λ r. IsCellOf board.now region colour shape.now.regions r.0) }
+    ensures share { IfOk result (λ r. IsShareOf r.0 r.1) }
+    ensures clients { IfOk result (λ r. AllGotNew r.0 r.1 clients.old.items clients.new.items) }
+{
+    let count = board.clients();
+    let (cell, passes) = open_column(alloc, board, seat, region, colour, shape, count + 1)?;
+    let mut passes = passes.into_vec();
+    match passes.pop() {
+        Some(own) => {
+            let (share, copies) = Share::open(alloc, &cell, own, count)?;
+            deal(clients, passes, copies.into_vec())?;
+            Ok((cell, share))
+        }
+        None => unreachable!(),
+    }
+}
+
+// The columns of a region and their copies, by colour: the last colour first.
 fn open_columns(
     alloc: Global,
     board: &Board,
     mut seats: Vec<ColumnSeat>,
     region: u8,
     shape: &Shape,
-    clients: &mut Vec<ColumnPasses>,
-) -> Result<Vec<Cell<Seated>>, AllocError>
+    clients: &mut Vec<Client>,
+) -> Result<(Vec<Cell<Seated>>, Vec<Share>), AllocError>
     requires seats { (length seats.items ≤ MAX_COLOURS) × AreFreshColumns board.now seats.items }
     requires region { region < MAX_REGIONS }
     requires regions { shape.now.regions ≤ MAX_REGIONS }
-    requires clients { (length clients.old.items ≡ board.now.size.clients) × (0 < board.now.size.clients) × AreEmpty clients.old.items }
-    ensures cells { IfOk result (λ cells.
-        (length cells.items ≡ length seats.items) × AreTied board.now region shape.now.regions cells.items) }
-    ensures clients { IfOk result (λ cells.
-        (length clients.new.items ≡ board.now.size.clients) × HaveAll cells.items clients.new.items) }
+    requires clients { (length clients.old.items ≡ board.now.size.clients) × AreEmpty clients.old.items }
+    ensures cells { IfOk result (λ r.
+        (length r.0.items ≡ length seats.items) × AreTied board.now region shape.now.regions r.0.items) }
+    ensures shares { IfOk result (λ r. AreSharesOf r.0.items r.1.items) }
+    ensures clients { IfOk result (λ r.
+        (length clients.new.items ≡ board.now.size.clients) × HaveAll r.0.items r.1.items clients.new.items) }
 {
     let mut cells = Vec::new(alloc);
+    let mut shares = Vec::new(alloc);
     while let Some(seat) = seats.pop() {
         let colour = seats.len() as u8;
-        let count = board.clients();
-        let (cell, passes) = open_column(alloc, board, seat, region, colour, shape, count)?;
-        deal(clients, passes.into_vec())?;
+        let (cell, share) = open_shared(alloc, board, seat, region, colour, shape, clients)?;
         cells.insert(0, cell)?;
+        shares.insert(0, share)?;
     }
-    Ok(cells)
+    Ok((cells, shares))
 }
 
-// A hold of each client, of its passes and its seat.
+// A hold of each client, of what it has of the columns and its seat.
 fn zip(
     alloc: Global,
-    mut passes: Vec<ColumnPasses>,
+    mut clients: Vec<Client>,
     mut seats: Vec<Seat>,
 ) -> Result<Vec<Hold>, AllocError>
-    requires { length passes.items ≡ length seats.items }
-    ensures { IfOk result (λ holds. (length holds.items ≡ length seats.items) × Zipped passes.items seats.items 0 holds.items) }
+    requires { length clients.items ≡ length seats.items }
+    ensures { IfOk result (λ holds. (length holds.items ≡ length seats.items) × Zipped clients.items seats.items 0 holds.items) }
 {
     let mut holds = Vec::new(alloc);
     while let Some(seat) = seats.pop() {
-        match passes.pop() {
-            Some(own) => holds.insert(
-                0,
-                Hold {
-                    passes: own,
+        match clients.pop() {
+            Some(client) => {
+                let Client { passes, desks } = client;
+                let hold = Hold {
+                    passes,
                     seat,
                     next: 0,
-                },
-            )?,
+                    desks,
+                };
+                holds.insert(0, hold)?;
+            }
             None => unreachable!(),
         }
     }
@@ -107,21 +178,22 @@ impl Region {
     {
         let count = shape.homes.len() as u8;
         let (board, seats, column_seats) = Board::open(alloc, count, shape.colours, shape.rows)?;
-        let mut passes = fresh_passes(alloc, count)?;
-        let columns = open_columns(
+        let mut clients = fresh_clients(alloc, count)?;
+        let (columns, shares) = open_columns(
             alloc,
             &board,
             column_seats.into_vec(),
             region,
             shape,
-            &mut passes,
+            &mut clients,
         )?;
-        let holds = zip(alloc, passes, seats.into_vec())?;
+        let holds = zip(alloc, clients, seats.into_vec())?;
         let region = Region {
             number: region,
             regions: shape.regions,
             board,
             columns,
+            shares,
         };
         Ok((region, holds.into()))
     }

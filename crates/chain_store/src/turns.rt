@@ -1,5 +1,5 @@
 // A client's turn at a column: from its pass at rest until it is at rest again.
-ghost use Rattle.std.specs.Prelude.{◌≡◌, ℕ};
+ghost use Rattle.std.specs.Prelude.{◌≡◌, ℕ, None, IfSome};
 ghost use Rattle.turn_cell.specs.Cells.{seen, IsLook, IsEvent, HasTurn, Adds, MayPut};
 ghost use Rattle.chain_store.specs.declared.told.Told.{Told};
 ghost use Rattle.chain_store.specs.Histories.{maker, HasIds};
@@ -29,6 +29,21 @@ pub(crate) fn begin<'a, R: Wait>(
     let turn = cell.take(rt, pass);
     turn.value.column.agrees();
     turn
+}
+
+/// The turn, if it is free just now; does not wait.
+pub(crate) fn begin_now<'a>(
+    cell: &'a Cell<Seated>,
+    pass: &mut Pass<Seated>,
+    by: u8,
+) -> Option<Turn<'a, Seated>>
+    requires { IsHolder cell.now by pass.old }
+    ensures turn { IfSome result (λ t. HasTurnOf cell.now by pass.new × (t.cell.now ≡ cell.now)) }
+    ensures more { SeesMore by (seen pass.old) (seen pass.new) }
+    ensures value { IfSome result (λ t. Stands t.value.value (seen pass.new) × (tag_of t.value.value ≡ tag_in cell.now)) }
+    ensures none { result ≡ None → IsHolder cell.now by pass.new }
+{
+    cell.try_take(pass)
 }
 
 /// Ends the turn, with one entry more or none.

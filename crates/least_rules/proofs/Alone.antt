@@ -107,6 +107,7 @@ module _ (version : ℕ) (objects : List Object) (commands : List Command) (line
       events = λ colour less. first_column
           (λ r c. All (λ (y : Entry). FitsRows [] c y.event) (acc.log.histories r c)) fits region colour lt less;
     };
+    marked = λ region lt k d within. absurd (let f : ⊥ = omega (arith, within) in f);
     copies = λ colour less origin copier a b apart. absurd (apart (let f : origin ≡ copier = omega (arith, a, b) in f));
   }
 

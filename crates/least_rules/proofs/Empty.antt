@@ -30,7 +30,7 @@ use Rattle.lawful_run.specs.Parts.{HasValue}
 use Rattle.lawful_run.specs.Refusals.{IsAway, IsHomeRefusal}
 use Rattle.lawful_run.proofs.CallerLemmas.{asked_kind}
 use Rattle.run_rules.specs.Told.{Account, Step, IsTold, kept_at, is_several, kept_after_raises, kept_after_syncs, OfEachStep}
-use Rattle.run_rules.specs.Telling.{step_of}
+use Rattle.run_rules.specs.Telling.{places_shown, step_of}
 use Rattle.run_rules.specs.Naming.{Names}
 use Rattle.run_rules.specs.Rules.{IsReplyTo, UsesNode, Stands, StopsAsTold}
 use Rattle.run_rules.specs.Shown.{Shows, AnswersRight, HasCause, begins_row, StandsNext, TreeAnswers, PartAnswers}
@@ -79,7 +79,7 @@ module _ (version : ℕ) (objects : List Object) (n : ℕ) (what : What) (line :
   its_caller = caller_of s 0
 
   abbrev step : Step
-  step = step_of its.log its_caller nothing_kept (asks n a what) line
+  step = step_of its.log its_caller (places_shown s r 0) nothing_kept (asks n a what) line
 
   -- what the rules to the eighth say of the reply, which uses no id
   record Quiet : Type 0 where

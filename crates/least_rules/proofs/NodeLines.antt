@@ -28,7 +28,7 @@ use Rattle.lawful_run.specs.Callers.{Caller, caller_of}
 use Rattle.lawful_run.specs.Lawful.{IsHelp}
 use Rattle.lawful_run.specs.Reads.{ShowsNode}
 use Rattle.run_rules.specs.Told.{Account, Step, kept_at, kept_past}
-use Rattle.run_rules.specs.Telling.{step_of}
+use Rattle.run_rules.specs.Telling.{places_shown, step_of}
 use Rattle.run_rules.specs.Naming.{Names, NamesPoint}
 use Rattle.run_rules.specs.Rules.{IsReplyTo, UsesNode, Stands, StopsAsTold}
 use Rattle.run_rules.specs.Shown.{Shows}
@@ -77,10 +77,11 @@ module _ (items : List PlacedNode) where
   its_caller = caller_of s 0
 
   abbrev step_one : Step
-  step_one = step_of its.log its_caller nothing_kept (append 6) (stood_at 6 1 0 0)
+  step_one = step_of its.log its_caller (places_shown s r 0) nothing_kept (append 6) (stood_at 6 1 0 0)
 
   abbrev step_two : Step
-  step_two = step_of its.log its_caller (kept_past its.log its_caller step_one) (asks 7 a (whats.Sync x)) (synced items)
+  step_two = step_of its.log its_caller (places_shown s r 0) (kept_past its.log its_caller step_one) (asks 7 a (whats.Sync x))
+      (synced items)
 
   keeps_8 : Keeps s r 8
   keeps_8 = (

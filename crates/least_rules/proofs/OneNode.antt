@@ -20,7 +20,7 @@ use Rattle.report_text.specs.declared.report.Report.{Report}
 use Rattle.lawful_run.specs.Callers.{Caller, caller_of, node_of}
 use Rattle.lawful_run.specs.Lawful.{IsHelp}
 use Rattle.run_rules.specs.Told.{Account, Step, IsTold, kept_at}
-use Rattle.run_rules.specs.Telling.{step_of}
+use Rattle.run_rules.specs.Telling.{places_shown, step_of}
 use Rattle.run_rules.specs.Naming.{Names, NamesPoint}
 use Rattle.run_rules.specs.Rules.{IsReplyTo, UsesNode, Stands}
 use Rattle.run_rules.specs.Keeping.{Keeps, RulesTo, one, two, three, four, five}
@@ -67,7 +67,7 @@ module _ (k : ℕ) (stamp position : ℕ) where
   its_caller = caller_of s 0
 
   abbrev step : Step
-  step = step_of its.log its_caller nothing_kept (append 6) (stood_at 6 stamp 0 position)
+  step = step_of its.log its_caller (places_shown s r 0) nothing_kept (append 6) (stood_at 6 stamp 0 position)
 
   its_told : IsTold s r its
   its_told = told 1 [] (append 6 ∷ []) (stood_at 6 stamp 0 position ∷ []) (entry ∷ []) 1 keys [] (counts 1 0) (counts 0 0)

@@ -35,7 +35,7 @@ use Rattle.lawful_run.specs.Columns.{IsClientIn, row_report}
 use Rattle.lawful_run.specs.Lawful.{HasStopped}
 use Rattle.lawful_run.specs.Stops.{Stops, stopped_at_once, stopped_after}
 use Rattle.run_rules.specs.Told.{Account, Step, IsTold, OfEachStep, kept_at, kept_past, kept_after_stop}
-use Rattle.run_rules.specs.Telling.{account_of, journal_among, row_of, step_of, step_places}
+use Rattle.run_rules.specs.Telling.{account_of, journal_among, places_shown, row_of, step_of, step_places}
 use Rattle.run_rules.specs.Naming.{Names, NamesSteps, Has}
 use Rattle.run_rules.specs.Rules.{with_room, Rule1, Rule2, Rule3, Rule4, Rule5, Rule6, IsReplyTo, IsNamed, IsLawfulColumn, UsesNode, HasOwnNodes, Stands, StopsAsTold}
 use Rattle.run_rules.specs.Keeping.{Keeps, one, two, three, four, five, six, seven}
@@ -72,7 +72,7 @@ its_nodes zero = its_node ∷ []
 its_nodes (suc n) = []
 
 abbrev its_row : BegunRow
-its_row = row_of its_nodes shown_row
+its_row = row_of (journal_among columns) its_nodes shown_row
 
 -- nothing happened in any column
 no_history : (region colour : ℕ) → journal_among columns region colour ≡ []
@@ -161,6 +161,7 @@ module _ (commands : List Command) (lines : List ReplyLine) where
   rule3_of = record {
     of_clients = of_clients;
     lawful = lawful;
+    marked = marked;
     copies = λ colour less origin copier c d apart. absurd (apart (let f : origin ≡ copier = omega (arith, c, d) in f));
   } where
     of_clients : (region : ℕ) → region < 1 → All (λ (z : BegunRow). IsClientIn s region z.row.client) (its.log.rows region)
@@ -186,6 +187,13 @@ module _ (commands : List Command) (lines : List ReplyLine) where
       events = λ colour less. nothing_in (λ (z : Entry). FitsRows (its_row ∷ []) colour z.event) 0 colour;
     }
     lawful (suc region) lt = absurd (let f : ⊥ = omega (arith, lt) in f)
+
+    marked : (region : ℕ) → region < 1
+        → All (λ (z : BegunRow). All (λ (m : ColourMark). m.colour < 2) z.marks) (its.log.rows region)
+    marked zero lt = one_of (λ (z : BegunRow). All (λ (m : ColourMark). m.colour < 2) z.marks) its_row
+        (two_of (λ (m : ColourMark). m.colour < 2) (record { colour = x; mark = marks.None })
+        (record { colour = y; mark = marks.None }) (omega arith) (omega arith))
+    marked (suc region) lt = absurd (let f : ⊥ = omega (arith, lt) in f)
 
   rule4_of : All (λ (t : Step). Names its.log t.untold (caller_of s 0) (kept_at t) t.command.what t.reply.answer) (its.steps 0)
       → its.steps 1 ≡ []
@@ -267,12 +275,16 @@ stop_asked = asks 8 a (whats.Stop 2 on_both (codes "s")) ∷ []
 abbrev stop_told : List ReplyLine
 stop_told = replies 8 words.Stop (answers.Stopped 2) ∷ []
 
+-- the places that the first client's replies print
+abbrev shown : List Command → List ReplyLine → ℕ → List ℕ
+shown commands lines colour = places_shown (s commands lines) (r commands lines) 0 0 colour
+
 -- an append of which its client took no step in the columns
 no_steps : (lines : List ReplyLine) (commands : List Command) → NamesSteps (its commands lines).log (caller_of (s commands lines) 0) nothing_kept
-    (λ colour. step_places 0 (id a 0) (journal_among columns 0 colour))
+    (λ colour. step_places 0 (id a 0) (shown commands lines colour) (journal_among columns 0 colour))
 no_steps lines commands colour =
     subst (All (λ (place : ℕ). (0 ≤ place) × Has 0 (journal_among columns 0 colour) (IsStepOf (id a 0)) place))
-    (sym (ap (step_places 0 (id a 0)) (no_history 0 colour)))
+    (sym (ap (step_places 0 (id a 0) (shown commands lines colour)) (no_history 0 colour)))
     (All-nil (λ (place : ℕ). (0 ≤ place) × Has 0 (journal_among columns 0 colour) (IsStepOf (id a 0)) place))
 
 stops_kept : Keeps (s stop_asked stop_told) (r stop_asked stop_told) 6
@@ -296,7 +308,7 @@ stops_kept = (
         ),
         four (rule4_of stop_asked stop_told (one_of (λ (t : Step). Names (its stop_asked stop_told).log t.untold
             (caller_of (s stop_asked stop_told) 0) (kept_at t) t.command.what t.reply.answer) _ (no_steps stop_told stop_asked)) refl
-            (λ colour less. sym (ap (step_places 0 (id a 0)) (no_history 0 colour))) refl),
+            (λ colour less. sym (ap (step_places 0 (id a 0) (shown stop_asked stop_told colour)) (no_history 0 colour))) refl),
       ),
       five (rule5_of stop_asked stop_told (one_of (λ (t : Step). UsesNode (its stop_asked stop_told).log
           (caller_of (s stop_asked stop_told) 0) (kept_at t) t.command.what t.reply.answer) _
@@ -368,18 +380,20 @@ abbrev open_caller : Caller
 open_caller = caller_of (s open_asked open_told) 0
 
 abbrev step_one : Step
-step_one = step_of open_log open_caller nothing_kept (asks 8 a (whats.Stop 1 on_both (codes "s")))
+step_one = step_of open_log open_caller (places_shown (s open_asked open_told) (r open_asked open_told) 0) nothing_kept (asks 8 a (whats.Stop 1 on_both (codes "s")))
     (replies 8 words.Stop (answers.Stopped 1))
 
 abbrev step_two : Step
-step_two = step_of open_log open_caller (kept_past open_log open_caller step_one) (asks 9 a (whats.Sync y))
+step_two = step_of open_log open_caller (places_shown (s open_asked open_told) (r open_asked open_told) 0)
+    (kept_past open_log open_caller step_one) (asks 9 a (whats.Sync y))
     (replies 9 words.Sync (answers.Synced (look y 0 (counts 0 0)) 0))
 
 abbrev places : ℕ → List ℕ
-places colour = step_places 0 (id a 0) (journal_among columns 0 colour)
+places colour = step_places 0 (id a 0) (shown open_asked open_told colour) (journal_among columns 0 colour)
 
 none_placed : (P : ℕ → Type 0) (colour : ℕ) → All P (places colour)
-none_placed P colour = subst (All P) (sym (ap (step_places 0 (id a 0)) (no_history 0 colour))) (All-nil P)
+none_placed P colour =
+    subst (All P) (sym (ap (step_places 0 (id a 0) (shown open_asked open_told colour)) (no_history 0 colour))) (All-nil P)
 
 stops_once : Stops open_log (with_room open_caller nothing_kept) nothing_kept
     (node_of open_caller nothing_kept on_both (codes "s")) 1 (kept_after_stop step_one.untold open_caller nothing_kept 1)
@@ -424,7 +438,7 @@ open_kept = (
           four (rule4_of open_asked open_told
               (two_of (λ (t : Step). Names open_log t.untold open_caller (kept_at t) t.command.what t.reply.answer) step_one
               step_two (no_steps open_told open_asked) ((omega arith, omega arith), omega arith)) refl
-              (λ colour less. sym (ap (step_places 0 (id a 0)) (no_history 0 colour))) refl),
+              (λ colour less. sym (ap (step_places 0 (id a 0) (shown open_asked open_told colour)) (no_history 0 colour))) refl),
         ),
         five (rule5_of open_asked open_told
             (two_of (λ (t : Step). UsesNode open_log open_caller (kept_at t) t.command.what t.reply.answer) step_one step_two

@@ -26,18 +26,11 @@ use Rattle.lawful_run.specs.Moves.{with_places}
 use Rattle.lawful_run.specs.Reads.{events_until, kept_after_place, kept_after_piece}
 use Rattle.lawful_run.proofs.CallerLemmas.{before_is, behind_is}
 use Rattle.run_rules.specs.Told.{Untold, Step, Follow, is_several, kept_at, kept_past, kept_told, kept_after_append, kept_after_row, kept_after_raises, kept_after_syncs, kept_after_read, kept_after_end, kept_deciding, kept_pulled, kept_where, with_found, stamp_told}
+use Rattle.run_rules.specs.Printed.{nowhere, only_at, printed, printed_at, printed_append, printed_end, printed_raises}
 use Rattle.run_rules.specs.Shown.{is_row, begins_row}
 use Rattle.run_rules.specs.Agreeing.{began_row}
 
 -- PLACES BY REGION AND COLOUR
-
--- none
-abbrev pub nowhere : ℕ → ℕ → List ℕ
-nowhere region colour = []
-
--- these of one column
-abbrev pub only_at : ℕ → ℕ → List ℕ → ℕ → ℕ → List ℕ
-only_at region colour places = updated_at nowhere region colour places
 
 -- those of the steps of a row, where it was begun
 abbrev pub row_part : Bool → ℕ → (ℕ → List ℕ) → ℕ → ℕ → List ℕ
@@ -48,41 +41,6 @@ row_part false own places = nowhere
 abbrev pub low_part : Untold → Answer → What → ℕ → ℕ → List ℕ
 low_part untold (answers.Pulled count give carry) (whats.Pull region colour) = only_at region colour untold.too_low
 low_part untold _ _ = nowhere
-
-abbrev pub printed_at : ℕ → ℕ → At → ℕ → ℕ → List ℕ
-printed_at region colour (Event place) = only_at region colour (place ∷ [])
-printed_at region colour (Look events) = nowhere
-
-abbrev pub printed_raises : ℕ → List RaisePiece → ℕ → ℕ → List ℕ
-printed_raises own [] r c = []
-printed_raises own (raise ∷ raises) r c = printed_at own raise.colour raise.at r c ++ printed_raises own raises r c
-
-abbrev pub printed_append : ℕ → Option ℕ → List PointPiece → ℕ → ℕ → List ℕ
-printed_append own None [] = nowhere
-printed_append own None (point ∷ points) = only_at own point.colour (events_until point.at ∷ [])
-printed_append own (Some number) points = nowhere
-
-abbrev pub printed_end : ℕ → Ended → ℕ → ℕ → List ℕ
-printed_end own (ends.Stood stamp point) = only_at own point.colour (events_until point.at ∷ [])
-printed_end own _ = nowhere
-
--- those that an answer prints
-abbrev pub printed : ℕ → Answer → What → ℕ → ℕ → List ℕ
-printed own (answers.Stood stamp row points) what r c = printed_append own row points r c
-printed own (answers.Scanned stamp count raises syncs) what r c = printed_raises own raises r c
-printed own (answers.Pulled count give carry) (whats.Pull region colour) r c =
-    only_at region colour (events_until give ∷ []) r c ++ printed_at own colour carry r c
-printed own (answers.Based given base) (whats.Trim colour) r c = only_at own colour (events_until given ∷ []) r c
-printed own (answers.GotKeys stamp shown raises syncs) what r c = printed_raises own raises r c
-printed own (answers.Ruled conflict stamp row points read_stamp raises syncs) what r c =
-    printed_append own row points r c ++ printed_raises own raises r c
-printed own (answers.Changed failed stamp row points read_stamp raises syncs) what r c =
-    printed_append own row points r c ++ printed_raises own raises r c
-printed own (answers.Listed names stamp raises syncs) what r c = printed_raises own raises r c
-printed own (answers.Decided commits stamp sync read_stamp raises syncs ended) what r c =
-    printed_raises own raises r c ++ printed_end own ended r c
-printed own (answers.Took value point sync) what r c = only_at own point.colour (events_until point.at ∷ []) r c
-printed own _ what r c = []
 
 -- all that a step adds: what it leaves out, and then what it prints
 abbrev pub step_part : Caller → Step → ℕ → ℕ → List ℕ

@@ -21,9 +21,11 @@ use Rattle.lawful_run.specs.Explains.{Explained, start, next}
 use Rattle.lawful_run.specs.Lawful.{LawfulRun}
 use Rattle.lawful_run.specs.Refusals.{kept_before, kept_behind, IsAway, IsHomeRefusal}
 use Rattle.run_rules.specs.Told.{Account, Step, Follow, IsTold, AreKeysFound, kept_at, kept_past, OfEachStep}
+use Rattle.run_rules.specs.Rules.{Rule1, Rule4, Rule5}
 use Rattle.run_rules.specs.Keeping.{HidesNothing, hides}
 use Rattle.run_rules.specs.Laws.{LawfulRunsKeepRules, BrokenIsUnlawful}
 use Rattle.run_rules.proofs.Facts.{Facts}
+use Rattle.run_rules.proofs.MarksWithin.{marks_within}
 use Rattle.run_rules.proofs.Numbers.{AllRules, rules_of, keeps_fewer}
 use Rattle.run_rules.proofs.Reached.{home_within}
 use Rattle.run_rules.proofs.RulesLawful.{shown_replies}
@@ -153,35 +155,50 @@ module _ (script : Script) (fits : IsFitting script) (report : Report) (none : H
   keeps_at : OfEachStep script report account (StepKeeps log)
   keeps_at n c there = (client_at n c there).traced.keep
 
+  first : Rule1 script report account
+  first = record {
+    version = run.version;
+    names = run.names;
+    replies = λ n c there k d lt. let s = keeps_at n c there k d lt in
+        record { line = s.line; word = s.word; answer = s.facts.can };
+    columns = run.columns.all;
+    named = λ k d lt. let x = run.columns.each k d lt in record { region = x.region_named; colour = x.colour_named };
+    by_client = run.begun.by_client;
+  }
+
+  fourth : Rule4 script report account
+  fourth = record {
+    named = λ n c there k d lt. (keeps_at n c there k d lt).facts.names;
+    made = λ n c there. (client_at n c there).made;
+    helpers = run.helpers;
+  }
+
+  fifth : Rule5 script report account
+  fifth = record {
+    used = λ n c there k d lt. (keeps_at n c there k d lt).facts.used;
+    own = λ n c there. record {
+      nodes = (client_at n c there).nodes;
+      rows = (client_at n c there).rows;
+      row_nodes = (run.clients n c there).row_nodes;
+    };
+  }
+
   all_rules : AllRules script report account
   all_rules = record {
-    r1 = record {
-      version = run.version;
-      names = run.names;
-      replies = λ n c there k d lt. let s = keeps_at n c there k d lt in
-          record { line = s.line; word = s.word; answer = s.facts.can };
-      columns = run.columns.all;
-      named = λ k d lt. let x = run.columns.each k d lt in record { region = x.region_named; colour = x.colour_named };
-      by_client = run.begun.by_client;
-    };
+    r1 = first;
     r2 = record {
       each = λ k d lt. let x = run.columns.each k d lt in
           record { legal = x.legal; makers = x.makers; closing = x.closing };
     };
-    r3 = record { of_clients = run.begun.of_clients; lawful = run.begun.lawful; copies = run.copies };
-    r4 = record {
-      named = λ n c there k d lt. (keeps_at n c there k d lt).facts.names;
-      made = λ n c there. (client_at n c there).made;
-      helpers = run.helpers;
+    r3 = record {
+      of_clients = run.begun.of_clients;
+      lawful = run.begun.lawful;
+      marked = marks_within script report account fits told first fourth fifth run.begun.of_clients
+          (λ region lt. (run.begun.lawful region lt).fit);
+      copies = run.copies;
     };
-    r5 = record {
-      used = λ n c there k d lt. (keeps_at n c there k d lt).facts.used;
-      own = λ n c there. record {
-        nodes = (client_at n c there).nodes;
-        rows = (client_at n c there).rows;
-        row_nodes = (run.clients n c there).row_nodes;
-      };
-    };
+    r4 = fourth;
+    r5 = fifth;
     r6 = record { stands = λ n c there k d lt. (keeps_at n c there k d lt).facts.stands };
     r7 = record { stops = λ n c there k d lt. (keeps_at n c there k d lt).facts.stops };
     r8 = record { left_open = run.left_open; helped = run.helped };

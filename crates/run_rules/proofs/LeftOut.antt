@@ -27,7 +27,8 @@ use Rattle.run_rules.specs.Naming.{Names, NamesSteps, GivesTo, Has}
 use Rattle.run_rules.specs.Answering.{CanHave}
 use Rattle.run_rules.specs.Shown.{begins_row}
 use Rattle.run_rules.specs.Agreeing.{began_row}
-use Rattle.run_rules.proofs.Growing.{nowhere, only_at, row_part, low_part, printed, step_part, steps_part, step_grows}
+use Rattle.run_rules.specs.Printed.{nowhere, only_at, printed, printed_all}
+use Rattle.run_rules.proofs.Growing.{row_part, low_part, step_part, steps_part, step_grows}
 
 -- PLACES OF ONE COLUMN
 
@@ -44,7 +45,7 @@ in_choice : (b : Bool) (xs : ℕ → List ℕ) (c p : ℕ) → In p ((cond b xs 
 in_choice true xs c p i = (refl, i)
 in_choice false xs c p i = absurd i
 
-in_row : (b : Bool) (own : ℕ) (places : ℕ → List ℕ) (r c p : ℕ) → In p (row_part b own places r c)
+pub in_row : (b : Bool) (own : ℕ) (places : ℕ → List ℕ) (r c p : ℕ) → In p (row_part b own places r c)
     → (b ≡ true) × (r ≡ own) × In p (places c)
 in_row true own places r c p i =
     let x = in_choice (r == own) places c p i in (refl, eqb-true r own x.0, x.1)
@@ -72,7 +73,7 @@ abbrev pub StandsLeftOut : Log → Caller → ℕ → ℕ → ℕ → ℕ → Ty
 StandsLeftOut log caller ids r c p =
     (e : Entry) × (slice_get (log.histories r c) p ≡ Some e) × IsLeftOut caller.client caller.own ids e.event
 
-one_id : (x y : Id) (event : events.Event) → IsStepOf x event → IsStepOf y event → x ≡ y
+pub one_id : (x y : Id) (event : events.Event) → IsStepOf x event → IsStepOf y event → x ≡ y
 one_id x y (Single id floor wants) s t = absurd s
 one_id x y (Propose id floor wants) s t = sym s ∙ t
 one_id x y (Settle id outcome) s t = sym s ∙ t
@@ -81,7 +82,7 @@ one_id x y (Give region from) s t = absurd s
 one_id x y (Carry region start heads) s t = absurd s
 one_id x y (Trim counts) s t = absurd s
 
-no_give : (x : Id) (own : ℕ) (event : events.Event) → IsStepOf x event → GivesTo own event → ⊥
+pub no_give : (x : Id) (own : ℕ) (event : events.Event) → IsStepOf x event → GivesTo own event → ⊥
 no_give x own (Single id floor wants) s g = g
 no_give x own (Propose id floor wants) s g = g
 no_give x own (Settle id outcome) s g = g
@@ -126,7 +127,7 @@ module _ (log : Log) (untold : Untold) (caller : Caller) (kept : Kept) (what : W
   steps_of_row (answers.Changed failed stamp (Some number) points read_stamp raises syncs) t n = n.0.1
   steps_of_row _ t n = absurd (let f : ⊥ = cc (t) in f)
 
-  low_gives : (answer : Answer) (r c p : ℕ)
+  pub low_gives : (answer : Answer) (r c p : ℕ)
       → Names log untold caller kept what answer → In p (low_part untold answer what r c)
       → (e : Entry) × (slice_get (log.histories r c) p ≡ Some e) × GivesTo caller.own e.event
   low_gives (answers.Pulled count give carry) r c p n i = of_pull what n.2 i where
@@ -197,8 +198,76 @@ later_out log caller ids more r c p le s = (s.0, s.1, turn s.2) where
   turn (inl x) = let m = x.1 in inl (x.0, omega (arith, le, m), x.2)
   turn (inr g) = inr g
 
-abbrev AddedOr : Log → Caller → ℕ → ℕ → ℕ → ℕ → List ℕ → Type 0
-AddedOr log caller ids r c p places = In p places ⊎ StandsLeftOut log caller ids r c p
+-- the places that steps print
+abbrev pub printed_by : Caller → List Step → ℕ → ℕ → List ℕ
+printed_by caller steps r c =
+    printed_all caller.own (map (λ (s : Step). s.command) steps) (map (λ (s : Step). s.reply) steps) r c
+
+-- what steps print they add
+pub by_parts : (caller : Caller) (ys : List Step) (r c p : ℕ) → In p (printed_by caller ys r c) → In p (steps_part caller ys r c)
+by_parts caller [] r c p i = i
+by_parts caller (y ∷ ys) r c p i =
+    turn (in_append p (printed caller.own y.reply.answer y.command.what r c) (printed_by caller ys r c) i)
+    (λ j. by_parts caller ys r c p j) where
+      turn : In p (printed caller.own y.reply.answer y.command.what r c) ⊎ In p (printed_by caller ys r c)
+          → (In p (printed_by caller ys r c) → In p (steps_part caller ys r c))
+          → In p (step_part caller y r c ++ steps_part caller ys r c)
+      turn (inl j) more =
+          in_left p (step_part caller y r c) (steps_part caller ys r c)
+          (in_right p (row_part (began_row caller y) caller.own y.untold.places r c)
+          (low_part y.untold y.reply.answer y.command.what r c ++ printed caller.own y.reply.answer y.command.what r c)
+          (in_right p (low_part y.untold y.reply.answer y.command.what r c)
+          (printed caller.own y.reply.answer y.command.what r c) j))
+      turn (inr j) more = in_right p (step_part caller y r c) (steps_part caller ys r c) (more j)
+
+-- what steps add they print, or it is left out
+pub parts_in : (script : Script) (log : Log) (caller : Caller) (xs : List Step)
+    → All (Obeys script log caller) xs → (kept last : Kept) → Follow log caller kept xs last → (r c p : ℕ)
+    → In p (steps_part caller xs r c) → In p (printed_by caller xs r c) ⊎ StandsLeftOut log caller kept.ids r c p
+parts_in script log caller [] o kept last follow r c p i = absurd i
+parts_in script log caller (x ∷ xs) o kept last follow r c p i =
+    turn (in_append p (step_part caller x r c) (steps_part caller xs r c) i)
+    (λ j. parts_in script log caller xs (All-tail (Obeys script log caller) x xs o) (kept_past log caller x) last follow.1
+    r c p j) where
+      its_ids : x.kept.ids ≡ kept.ids
+      its_ids = ap (λ (k : Kept). k.ids) follow.0
+
+      out : In p (row_part (began_row caller x) caller.own x.untold.places r c)
+          ⊎ In p (low_part x.untold x.reply.answer x.command.what r c) → StandsLeftOut log caller kept.ids r c p
+      out j =
+          subst (λ (n : ℕ). StandsLeftOut log caller n r c p) its_ids
+          (left_there script log caller x (All-head (Obeys script log caller) x xs o) r c p j)
+
+      behind : In p (low_part x.untold x.reply.answer x.command.what r c)
+          ⊎ In p (printed caller.own x.reply.answer x.command.what r c)
+          → In p (printed_by caller (x ∷ xs) r c) ⊎ StandsLeftOut log caller kept.ids r c p
+      behind (inl j) = inr (out (inr j))
+      behind (inr j) = inl (in_left p (printed caller.own x.reply.answer x.command.what r c) (printed_by caller xs r c) j)
+
+      here : In p (row_part (began_row caller x) caller.own x.untold.places r c)
+          ⊎ In p (low_part x.untold x.reply.answer x.command.what r c ++ printed caller.own x.reply.answer x.command.what r c)
+          → In p (printed_by caller (x ∷ xs) r c) ⊎ StandsLeftOut log caller kept.ids r c p
+      here (inl j) = inr (out (inl j))
+      here (inr j) =
+          behind (in_append p (low_part x.untold x.reply.answer x.command.what r c)
+          (printed caller.own x.reply.answer x.command.what r c) j)
+
+      later : In p (printed_by caller xs r c) ⊎ StandsLeftOut log caller (kept_past log caller x).ids r c p
+          → In p (printed_by caller (x ∷ xs) r c) ⊎ StandsLeftOut log caller kept.ids r c p
+      later (inl j) = inl (in_right p (printed caller.own x.reply.answer x.command.what r c) (printed_by caller xs r c) j)
+      later (inr s) =
+          let g = (step_grows log caller x).ids in
+          let k = its_ids in
+          inr (later_out log caller kept.ids (kept_past log caller x).ids r c p (omega (arith, g, k)) s)
+
+      turn : In p (step_part caller x r c) ⊎ In p (steps_part caller xs r c)
+          → (In p (steps_part caller xs r c)
+          → In p (printed_by caller xs r c) ⊎ StandsLeftOut log caller (kept_past log caller x).ids r c p)
+          → In p (printed_by caller (x ∷ xs) r c) ⊎ StandsLeftOut log caller kept.ids r c p
+      turn (inl j) more =
+          here (in_append p (row_part (began_row caller x) caller.own x.untold.places r c)
+          (low_part x.untold x.reply.answer x.command.what r c ++ printed caller.own x.reply.answer x.command.what r c) j)
+      turn (inr j) more = later (more j)
 
 -- what one account's steps add the other's add, or it is left out there
 pub steps_in : (script : Script) (log : Log) (caller : Caller) (xs ys : List Step)
@@ -206,61 +275,13 @@ pub steps_in : (script : Script) (log : Log) (caller : Caller) (xs ys : List Ste
     → map (λ (s : Step). s.reply) xs ≡ map (λ (s : Step). s.reply) ys
     → All (Obeys script log caller) xs → (kept last : Kept) → Follow log caller kept xs last → (r c p : ℕ)
     → In p (steps_part caller xs r c) → In p (steps_part caller ys r c) ⊎ StandsLeftOut log caller kept.ids r c p
-steps_in script log caller [] ys e f o kept last follow r c p i = absurd i
-steps_in script log caller (x ∷ xs) [] e f o kept last follow r c p i = absurd (let g : ⊥ = cc (e) in g)
-steps_in script log caller (x ∷ xs) (y ∷ ys) e f o kept last follow r c p i =
-    let command : x.command ≡ y.command = cc (e) in
-    let reply : x.reply ≡ y.reply = cc (f) in
-    let commands : map (λ (s : Step). s.command) xs ≡ map (λ (s : Step). s.command) ys = cc (e) in
-    let replies : map (λ (s : Step). s.reply) xs ≡ map (λ (s : Step). s.reply) ys = cc (f) in
-    turn command reply (All-head (Obeys script log caller) x xs o)
-    (λ j. steps_in script log caller xs ys commands replies (All-tail (Obeys script log caller) x xs o)
-    (kept_past log caller x) last follow.1 r c p j)
-    (in_append p (step_part caller x r c) (steps_part caller xs r c) i) where
-      same : x.command ≡ y.command → x.reply ≡ y.reply
-          → printed caller.own x.reply.answer x.command.what r c ≡ printed caller.own y.reply.answer y.command.what r c
-      same d a =
-          ap (λ (k : Command). printed caller.own x.reply.answer k.what r c) d
-          ∙ ap (λ (k : ReplyLine). printed caller.own k.answer y.command.what r c) a
+steps_in script log caller xs ys e f o kept last follow r c p i =
+    turn (parts_in script log caller xs o kept last follow r c p i) where
+      same : printed_by caller xs r c ≡ printed_by caller ys r c
+      same = ap (λ (cs : List Command). printed_all caller.own cs (map (λ (s : Step). s.reply) xs) r c) e
+          ∙ ap (λ (rs : List ReplyLine). printed_all caller.own (map (λ (s : Step). s.command) ys) rs r c) f
 
-      its_ids : x.kept.ids ≡ kept.ids
-      its_ids = ap (λ (k : Kept). k.ids) follow.0
-
-      out : StandsLeftOut log caller x.kept.ids r c p → AddedOr log caller kept.ids r c p (step_part caller y r c ++ steps_part caller ys r c)
-      out s = inr (subst (λ (n : ℕ). StandsLeftOut log caller n r c p) its_ids s)
-
-      inner : x.command ≡ y.command → x.reply ≡ y.reply → Obeys script log caller x
-          → In p (low_part x.untold x.reply.answer x.command.what r c)
-          ⊎ In p (printed caller.own x.reply.answer x.command.what r c) → AddedOr log caller kept.ids r c p (step_part caller y r c ++ steps_part caller ys r c)
-      inner d a q (inl low) = out (left_there script log caller x q r c p (inr low))
-      inner d a q (inr shown) =
-          inl (in_left p (step_part caller y r c) (steps_part caller ys r c)
-          (in_right p (row_part (began_row caller y) caller.own y.untold.places r c)
-          (low_part y.untold y.reply.answer y.command.what r c ++ printed caller.own y.reply.answer y.command.what r c)
-          (in_right p (low_part y.untold y.reply.answer y.command.what r c)
-          (printed caller.own y.reply.answer y.command.what r c) (subst (In p) (same d a) shown))))
-
-      here : x.command ≡ y.command → x.reply ≡ y.reply → Obeys script log caller x
-          → In p (row_part (began_row caller x) caller.own x.untold.places r c)
-          ⊎ In p (low_part x.untold x.reply.answer x.command.what r c ++ printed caller.own x.reply.answer x.command.what r c)
-          → AddedOr log caller kept.ids r c p (step_part caller y r c ++ steps_part caller ys r c)
-      here d a q (inl row) = out (left_there script log caller x q r c p (inl row))
-      here d a q (inr j) =
-          inner d a q (in_append p (low_part x.untold x.reply.answer x.command.what r c)
-          (printed caller.own x.reply.answer x.command.what r c) j)
-
-      later : In p (steps_part caller ys r c) ⊎ StandsLeftOut log caller (kept_past log caller x).ids r c p → AddedOr log caller kept.ids r c p (step_part caller y r c ++ steps_part caller ys r c)
-      later (inl j) = inl (in_right p (step_part caller y r c) (steps_part caller ys r c) j)
-      later (inr s) =
-          let g = (step_grows log caller x).ids in
-          let k = its_ids in
-          inr (later_out log caller kept.ids (kept_past log caller x).ids r c p (omega (arith, g, k)) s)
-
-      turn : x.command ≡ y.command → x.reply ≡ y.reply → Obeys script log caller x
-          → (In p (steps_part caller xs r c)
-          → In p (steps_part caller ys r c) ⊎ StandsLeftOut log caller (kept_past log caller x).ids r c p)
-          → In p (step_part caller x r c) ⊎ In p (steps_part caller xs r c) → AddedOr log caller kept.ids r c p (step_part caller y r c ++ steps_part caller ys r c)
-      turn d a q more (inl j) =
-          here d a q (in_append p (row_part (began_row caller x) caller.own x.untold.places r c)
-          (low_part x.untold x.reply.answer x.command.what r c ++ printed caller.own x.reply.answer x.command.what r c) j)
-      turn d a q more (inr j) = later (more j)
+      turn : In p (printed_by caller xs r c) ⊎ StandsLeftOut log caller kept.ids r c p
+          → In p (steps_part caller ys r c) ⊎ StandsLeftOut log caller kept.ids r c p
+      turn (inl j) = inl (by_parts caller ys r c p (subst (In p) same j))
+      turn (inr s) = inr s

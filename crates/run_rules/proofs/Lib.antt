@@ -1,5 +1,8 @@
 mod AppendsAlike
 mod AppendsTold
+mod Computed
+mod ComputedNodes
+mod ComputedSteps
 pub mod CallerLemmas
 mod Explaining
 mod Facts
@@ -9,6 +12,8 @@ mod Growing
 mod LawfulRules
 mod LeftOut
 mod Lists
+mod MarksWithin
+mod NamesAlike
 mod NodesAlike
 mod Numbers
 mod OneAccount
@@ -18,8 +23,10 @@ mod Reached
 mod ReadsTold
 mod ReportsTell
 mod Room
+mod RowsTold
 mod RulesAlike
 mod RulesLawful
 mod SameKept
 mod StepsTold
 mod ToldAlike
+mod WellFormed

@@ -1,8 +1,8 @@
 -- Facts on lists.
-use Rattle.std.proofs.Common.{◌≡◌, ℕ, suc, Bool, true, false, List, [], ◌∷◌, map, Some, None, refl, ap, sym, ◌∙◌, ◌⊎◌, inl, inr, arith, cond}
+use Rattle.std.proofs.Common.{◌≡◌, ℕ, suc, Bool, true, false, List, [], ◌∷◌, ◌++◌, map, Some, None, refl, ap, sym, ◌∙◌, ◌⊎◌, inl, inr, arith, append-nil, cond}
 use Rattle.std.specs.Prelude.{◌≢◌, slice_get}
-use Rattle.std.specs.List.{All, AllPairs, find}
-use Rattle.std.proofs.lemmas.List.Elements.{All-cons, All-head, All-tail, All-contains}
+use Rattle.std.specs.List.{All, AllPairs, AllZip, filter, find}
+use Rattle.std.proofs.lemmas.List.Elements.{All-nil, All-cons, All-head, All-tail, All-contains}
 use Rattle.col_core.proofs.CallerLemmas.{In, contains_in, slice_in, by_test, if_true, if_false}
 
 -- the first of which a test holds is this one, where it holds of no other
@@ -45,6 +45,47 @@ same_by {A} {B} f (z ∷ zs) apart x y i j e =
       turn (inl a) (inr b) more = absurd (differs y b (ap f a ∙ e))
       turn (inr a) (inl b) more = absurd (differs x a (ap f b ∙ sym e))
       turn (inr a) (inr b) more = more a b e
+
+-- of two lists behind one another a test takes what it takes of each
+pub filter_joined : {A : Type 0} (test : A → Bool) (xs ys : List A) → filter test (xs ++ ys) ≡ filter test xs ++ filter test ys
+filter_joined test [] ys = refl
+filter_joined {A} test (x ∷ xs) ys = step (test x) (filter_joined test xs ys) where
+  step : (b : Bool) → filter test (xs ++ ys) ≡ filter test xs ++ filter test ys
+      → cond b (x ∷ filter test (xs ++ ys)) (filter test (xs ++ ys))
+      ≡ cond b (x ∷ filter test xs) (filter test xs) ++ filter test ys
+  step true more = ap (λ (l : List A). x ∷ l) more
+  step false more = more
+
+pub filter_none : {A : Type 0} (test : A → Bool) (xs : List A) → ((x : A) → In x xs → test x ≡ false) → filter test xs ≡ []
+filter_none test [] f = refl
+filter_none test (x ∷ xs) f =
+    if_false (test x) (x ∷ filter test xs) (filter test xs) (f x (inl refl)) ∙ filter_none test xs (λ y i. f y (inr i))
+
+pub filter_all : {A : Type 0} (test : A → Bool) (xs : List A) → ((x : A) → In x xs → test x ≡ true) → filter test xs ≡ xs
+filter_all test [] f = refl
+filter_all {A} test (x ∷ xs) f =
+    if_true (test x) (x ∷ filter test xs) (filter test xs) (f x (inl refl))
+    ∙ ap (λ (l : List A). x ∷ l) (filter_all test xs (λ y i. f y (inr i)))
+
+-- what a test takes of a list is a stretch of it, where it holds there and nowhere else
+pub filter_stretch : {A : Type 0} (test : A → Bool) (us vs ws : List A) → ((x : A) → In x us → test x ≡ false)
+    → ((x : A) → In x vs → test x ≡ true) → ((x : A) → In x ws → test x ≡ false) → filter test (us ++ (vs ++ ws)) ≡ vs
+filter_stretch {A} test us vs ws f g h =
+    filter_joined test us (vs ++ ws)
+    ∙ (ap (λ (l : List A). l ++ filter test (vs ++ ws)) (filter_none test us f)
+    ∙ (filter_joined test vs ws
+    ∙ (ap (λ (l : List A). l ++ filter test ws) (filter_all test vs g)
+    ∙ (ap (λ (l : List A). vs ++ l) (filter_none test ws h) ∙ append-nil vs))))
+
+-- of items beside one another, what is known of each of the first list tells of those of the second
+pub zip_onto : {A : Type 0} {R : A → A → Type 0} {P Q S : A → Type 0} (xs ys : List A) → AllZip R xs ys → All P xs
+    → All Q ys → ((x y : A) → R x y → P x → Q y → S y) → All S ys
+zip_onto {A} {R} {P} {Q} {S} [] [] r p q f = All-nil S
+zip_onto {A} {R} {P} {Q} {S} [] (y ∷ ys) r p q f = absurd r
+zip_onto {A} {R} {P} {Q} {S} (x ∷ xs) [] r p q f = absurd r
+zip_onto {A} {R} {P} {Q} {S} (x ∷ xs) (y ∷ ys) r p q f =
+    All-cons S y ys (f x y r.0 (All-head P x xs p) (All-head Q y ys q))
+    (zip_onto {R = R} {P = P} {Q = Q} {S = S} xs ys r.1 (All-tail P x xs p) (All-tail Q y ys q) f)
 
 -- what a map of a map gives
 pub map_map : {A B C : Type 0} (g : B → C) (f : A → B) (xs : List A) → map g (map f xs) ≡ map (λ x. g (f x)) xs

@@ -22,6 +22,8 @@ use Rattle.script_text.specs.declared.uses.Use.{Use}
 use Rattle.script_text.specs.declared.uses.Use.TheVariants.{OfObject}
 use Rattle.script_text.specs.Commands.{use_of}
 use Rattle.script_text.specs.Fitting.{IsFitting}
+use Rattle.report_text.specs.declared.report.ClientReport.{ClientReport}
+use Rattle.report_text.specs.declared.report.Report.{Report}
 use Rattle.report_text.specs.declared.report.Answer.{Answer}
 use Rattle.report_text.specs.declared.report.Answer.TheVariants as answers
 use Rattle.report_text.specs.declared.report.Ended.{Ended}
@@ -35,9 +37,9 @@ use Rattle.lawful_run.specs.Columns.{row_report}
 use Rattle.lawful_run.specs.Reads.{kept_after_place, kept_after_piece}
 use Rattle.lawful_run.specs.Refusals.{kept_before}
 use Rattle.lawful_run.proofs.CallerLemmas.{before_is, behind_is}
-use Rattle.run_rules.specs.Told.{Untold, Step, Follow, is_several, kept_at, kept_past, kept_told, kept_after_append, kept_after_row, kept_after_raises, kept_after_read, kept_after_end, kept_appending, kept_deciding, kept_pulled, kept_trimmed, kept_where, with_found, stamp_told}
-use Rattle.run_rules.specs.Rules.{HasNode, UsesEnd, UsesNode}
-use Rattle.run_rules.specs.Agreeing.{HasColumn, KeepSame, AreStepsAlike, AreNodesAlike}
+use Rattle.run_rules.specs.Told.{Untold, Step, Account, Follow, IsTold, OfEachStep, is_several, kept_at, kept_past, kept_told, kept_after_append, kept_after_row, kept_after_raises, kept_after_read, kept_after_end, kept_appending, kept_deciding, kept_pulled, kept_trimmed, kept_where, with_found, stamp_told}
+use Rattle.run_rules.specs.Rules.{HasNode, Rule1, Rule4, UsesEnd, UsesNode}
+use Rattle.run_rules.specs.Agreeing.{Agree, HasColumn, KeepSame, AreStepsAlike, AreNodesAlike}
 use Rattle.run_rules.specs.Laws.{ToldNodesAgree}
 use Rattle.run_rules.proofs.Facts.{asked_colours}
 use Rattle.run_rules.proofs.Numbers.{rule1, rule4, rule5}
@@ -66,11 +68,11 @@ read_ids log caller kept stamp raises syncs =
     (syncs_keep log caller (kept_after_raises caller kept raises) syncs).0 ∙ raises_ids caller kept raises
 
 -- no id is used, or the one of a node that the command appends over what is then kept
-abbrev MayUse : Log → Caller → Kept → Kept → What → Kept → Type 0
+abbrev pub MayUse : Log → Caller → Kept → Kept → What → Kept → Type 0
 MayUse log caller kept over what after =
     (after.ids ≡ kept.ids) ⊎ ((after.ids ≡ kept.ids + 1) × HasNode log caller over what)
 
-over_ids : (log : Log) (caller : Caller) (kept : Kept) (answer : Answer)
+pub over_ids : (log : Log) (caller : Caller) (kept : Kept) (answer : Answer)
     → (kept_appending log caller kept answer).ids ≡ kept.ids
 over_ids log caller kept (answers.Decided commits stamp sync read_stamp raises syncs ended) =
     read_ids log caller (kept_after_piece log caller kept sync) read_stamp raises syncs
@@ -159,10 +161,10 @@ abbrev pub Uses : Log → Caller → Step → Type 0
 Uses log caller step = UsesNode log caller (kept_at step) step.command.what step.reply.answer
 
 -- what the client keeps when the step's node is appended
-abbrev over : Log → Caller → Step → Kept
+abbrev pub over : Log → Caller → Step → Kept
 over log caller step = kept_appending log caller (kept_at step) step.reply.answer
 
-step_uses : (log : Log) (caller : Caller) (step : Step) → Uses log caller step
+pub step_uses : (log : Log) (caller : Caller) (step : Step) → Uses log caller step
     → MayUse log caller (kept_at step) (over log caller step) step.command.what (kept_past log caller step)
 step_uses log caller step n =
     let told = told_uses log step.untold caller (kept_at step) step.command.what step.reply.answer n in
@@ -297,22 +299,29 @@ over_same script fits n one two histories home rows x y alike obeys =
     (appending_same script fits n one two histories home rows x.command.what obeys.within x.untold y.untold (kept_at x)
     (kept_at y) before x.reply.nodes x.reply.answer obeys.can)
 
-pub told_nodes_agree : ToldNodesAgree
-told_nodes_agree script report a b fits ta tb ra rb n c there =
-    let agree = told_accounts_agree script report a b fits ta tb ra.0 rb.0 in
+-- accounts that agree have nodes that do, where these are of commands
+pub nodes_agree : (script : Script) (report : Report) (a b : Account) → IsFitting script → IsTold script report a
+    → IsTold script report b → Rule1 script report a → Rule4 script report a → Agree script report a b
+    → OfEachStep script report a (Uses a.log) → OfEachStep script report b (Uses b.log) → (n : ℕ) (c : ClientReport)
+    → slice_get report.clients n ≡ Some c → length (a.log.nodes n) ≡ (a.last n).ids → length (b.log.nodes n) ≡ (b.last n).ids
+    → AllZip AreNodesAlike (a.log.nodes n) (b.log.nodes n)
+nodes_agree script report a b fits ta tb a1 a4 agree uses_a uses_b n c there of_a of_b =
     let caller = caller_of script n in
     let last = agree.last n c there in
-    let a1 = rule1 ra.0.0.0.0.1 in
-    let a5 = rule5 ra.1 in
-    let b5 = rule5 rb.1 in
-    let of_a = (a5.own n c there).nodes in
-    let of_b = (b5.own n c there).nodes in
     let same = last.ids in
     let home = home_within script report fits a1.names n c there in
     all_alike (a.log.nodes n) (b.log.nodes n) (of_a ∙ (same ∙ sym of_b))
     (λ i lt. nodes_from script caller a.log b.log
     (over_same script fits n a.log b.log agree.histories home (agree.rows caller.own home)) (a.steps n) (b.steps n) _ _
     (a.last n) (b.last n)
-    (agree.steps n c there) (obeys script fits report a ta a1 (rule4 ra.0.1) n c there) (a5.used n c there)
-    (b5.used n c there) (ta.clients n c there).follow
+    (agree.steps n c there) (obeys script fits report a ta a1 a4 n c there) (uses_a n c there)
+    (uses_b n c there) (ta.clients n c there).follow
     (tb.clients n c there).follow last i (omega arith) (omega (arith, lt, of_a)))
+
+pub told_nodes_agree : ToldNodesAgree
+told_nodes_agree script report a b fits ta tb ra rb n c there =
+    let a5 = rule5 ra.1 in
+    let b5 = rule5 rb.1 in
+    nodes_agree script report a b fits ta tb (rule1 ra.0.0.0.0.1) (rule4 ra.0.1)
+    (told_accounts_agree script report a b fits ta tb ra.0 rb.0) a5.used b5.used n c there (a5.own n c there).nodes
+    (b5.own n c there).nodes

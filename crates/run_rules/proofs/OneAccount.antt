@@ -4,6 +4,7 @@ use Rattle.std.specs.Prelude.{◌==◌, IsTrue, slice_get}
 use Rattle.std.specs.List.{All, AllZip, flat_map, range_with_len}
 use Rattle.std.proofs.lemmas.Bool.{cases_lt}
 use Rattle.std.proofs.lemmas.List.Elements.{All-contains, All-head, All-tail}
+use Rattle.log_node.specs.declared.node.At.{At}
 use Rattle.col_core.specs.declared.Entry.{Entry}
 use Rattle.col_core.specs.Ids.{IsStepOf}
 use Rattle.col_core.specs.Log.{Log, places_of}
@@ -34,7 +35,8 @@ use Rattle.run_rules.specs.Agreeing.{HasColumn, KeepSame, AreStepsAlike, IsPulle
 use Rattle.run_rules.specs.Laws.{ToldAccountsAgree}
 use Rattle.run_rules.proofs.Numbers.{rule1, rule4}
 use Rattle.run_rules.proofs.Places.{Once, once_apart, once_behind, places_once, behind_same, one_beginning, one_before}
-use Rattle.run_rules.proofs.Growing.{only_at, row_part, low_part, printed, printed_at, step_part, steps_part, one_where, step_grows, follow_grows}
+use Rattle.run_rules.specs.Printed.{only_at, printed, printed_at}
+use Rattle.run_rules.proofs.Growing.{row_part, low_part, step_part, steps_part, one_where, step_grows, follow_grows}
 use Rattle.run_rules.proofs.Reached.{home_within}
 use Rattle.run_rules.proofs.SameKept.{before_same}
 use Rattle.run_rules.proofs.SameKept.{behind_same as behind_kept}
@@ -73,8 +75,13 @@ one_by_one f g of_f of_g from (suc k) e x le lt =
       turn first more (inr l) =
           let s : from ≡ x = omega (arith, le, l) in subst (λ (n : ℕ). f n ≡ g n) s first
 
+-- a row of a region shows it
+pub shows_region : (rows : ℕ → List BegunRow) (x : ℕ) (p : RowReport) → In p (map (row_report x) (rows x)) → p.region ≡ x
+shows_region rows x p i =
+    let r = in_map (row_report x) (rows x) p i in ap (λ (q : RowReport). q.region) (sym r.2)
+
 module _ (script : Script) (report : Report) where
-  column_there : map (λ (c : ColumnReport). (c.region, c.colour)) report.columns
+  pub column_there : map (λ (c : ColumnReport). (c.region, c.colour)) report.columns
       ≡ column_numbers script.shape.regions script.shape.colours
       → (region colour : ℕ) → HasColumn script region colour
       → (c : ColumnReport) × In c report.columns × (c.region ≡ region) × (c.colour ≡ colour)
@@ -97,10 +104,21 @@ module _ (script : Script) (report : Report) where
       told.histories (contains_in report.columns c i)
       ∙ (ap (λ (r : ℕ). account.log.histories r c.colour) er ∙ ap (account.log.histories region) ec)
 
--- a row of a region shows it
-shows_region : (rows : ℕ → List BegunRow) (x : ℕ) (p : RowReport) → In p (map (row_report x) (rows x)) → p.region ≡ x
-shows_region rows x p i =
-    let r = in_map (row_report x) (rows x) p i in ap (λ (q : RowReport). q.region) (sym r.2)
+  -- two accounts that are told have one log, but for nodes
+  module _ (a b : Account) (ta : IsTold script report a) (tb : IsTold script report b) where
+    pub histories_alike : Rule1 script report a → (r c : ℕ) → HasColumn script r c
+        → a.log.histories r c ≡ b.log.histories r c
+    histories_alike first r c has =
+        let column = column_there first.columns r c has in
+        sym (history_is a ta column.0 column.1 r c column.2 column.3)
+        ∙ history_is b tb column.0 column.1 r c column.2 column.3
+
+    pub rows_alike : (region : ℕ) → region < script.shape.regions
+        → map (row_report region) (a.log.rows region) ≡ map (row_report region) (b.log.rows region)
+    rows_alike region lt =
+        one_by_one (λ (x : ℕ). map (row_report x) (a.log.rows x)) (λ (x : ℕ). map (row_report x) (b.log.rows x))
+        (shows_region a.log.rows) (shows_region b.log.rows) 0 script.shape.regions (sym ta.rows ∙ tb.rows) region
+        (omega arith) (omega (arith, lt))
 
 -- STEPS
 
@@ -110,6 +128,17 @@ pub step_with : (step : Step) (command : Command) (reply : ReplyLine) → comman
 step_with step command reply e f =
     ap (λ (c : Command). record { command = c; reply = step.reply; kept = step.kept; untold = step.untold }) (sym e)
     ∙ ap (λ (a : ReplyLine). record { command = command; reply = a; kept = step.kept; untold = step.untold }) (sym f)
+
+-- what a pull adds to a column that it gives in: gives that were too low, then its give
+pub pulled_part : (own region colour : ℕ) (give carry : At) (xs rest : List ℕ)
+    → (only_at region colour xs region colour
+    ++ (only_at region colour (events_until give ∷ []) region colour ++ printed_at own colour carry region colour)) ++ rest
+    ≡ xs ++ events_until give ∷ (printed_at own colour carry region colour ++ rest)
+pulled_part own region colour give carry xs rest =
+    ap (λ (l : List ℕ). (l ++ (only_at region colour (events_until give ∷ []) region colour ++ printed_at own colour carry region colour)) ++ rest)
+    (only_own region colour xs)
+    ∙ (ap (λ (l : List ℕ). (xs ++ (l ++ printed_at own colour carry region colour)) ++ rest) (only_own region colour (events_until give ∷ []))
+    ∙ append_assoc xs (events_until give ∷ printed_at own colour carry region colour) rest)
 
 -- gives that were too low, before the give of their pull
 low_alike : (own : ℕ) (s t : Bool) (u v : Untold) (answer : Answer) → IsPulled answer → (region colour : ℕ) (more less : List ℕ)
@@ -128,21 +157,12 @@ low_alike : (own : ℕ) (s t : Bool) (u v : Untold) (answer : Answer) → IsPull
     → u.too_low ≡ v.too_low
 low_alike own s t u v (answers.Pulled count give carry) p region colour more less e o q =
     one_before (events_until give) u.too_low v.too_low (printed_at own colour carry region colour ++ more) (printed_at own colour carry region colour ++ less)
-    (sym (opened u.too_low more) ∙ (e ∙ opened v.too_low less)) (subst Once (opened u.too_low more) o)
-    (subst Once (opened v.too_low less) q) where
-      opened : (xs rest : List ℕ)
-          → (only_at region colour xs region colour
-          ++ (only_at region colour (events_until give ∷ []) region colour ++ printed_at own colour carry region colour)) ++ rest
-          ≡ xs ++ events_until give ∷ (printed_at own colour carry region colour ++ rest)
-      opened xs rest =
-          ap (λ (l : List ℕ). (l ++ (only_at region colour (events_until give ∷ []) region colour ++ printed_at own colour carry region colour)) ++ rest)
-          (only_own region colour xs)
-          ∙ (ap (λ (l : List ℕ). (xs ++ (l ++ printed_at own colour carry region colour)) ++ rest) (only_own region colour (events_until give ∷ []))
-          ∙ append_assoc xs (events_until give ∷ printed_at own colour carry region colour) rest)
+    (sym (pulled_part own region colour give carry u.too_low more) ∙ (e ∙ pulled_part own region colour give carry v.too_low less)) (subst Once (pulled_part own region colour give carry u.too_low more) o)
+    (subst Once (pulled_part own region colour give carry v.too_low less) q)
 low_alike own s t u v _ p region colour more less e o q = absurd p
 
 -- a pull is answered so
-pull_asked : (caller : Caller) (kept : Kept) (what : What) (nodes : _) (answer : Answer) → IsPulled answer
+pub pull_asked : (caller : Caller) (kept : Kept) (what : What) (nodes : _) (answer : Answer) → IsPulled answer
     → CanHave caller kept what nodes answer → (region : ℕ) × (colour : ℕ) × (what ≡ whats.Pull region colour)
 pull_asked caller kept what nodes (answers.Pulled count give carry) p can = (can.1, can.2, can.3)
 pull_asked caller kept what nodes _ p can = absurd p
@@ -357,18 +377,8 @@ module _ (script : Script) (fits : IsFitting script) (report : Report) where
   module _ (a b : Account) (ta : IsTold script report a) (tb : IsTold script report b)
       (a1 : Rule1 script report a) (b1 : Rule1 script report b)
       (a4 : Rule4 script report a) (b4 : Rule4 script report b) where
-    histories_alike : (r c : ℕ) → HasColumn script r c → a.log.histories r c ≡ b.log.histories r c
-    histories_alike r c has =
-        let column = column_there script report a1.columns r c has in
-        sym (history_is script report a ta column.0 column.1 r c column.2 column.3)
-        ∙ history_is script report b tb column.0 column.1 r c column.2 column.3
-
-    rows_alike : (region : ℕ) → region < script.shape.regions
-        → map (row_report region) (a.log.rows region) ≡ map (row_report region) (b.log.rows region)
-    rows_alike region lt =
-        one_by_one (λ (x : ℕ). map (row_report x) (a.log.rows x)) (λ (x : ℕ). map (row_report x) (b.log.rows x))
-        (shows_region a.log.rows) (shows_region b.log.rows) 0 script.shape.regions (sym ta.rows ∙ tb.rows) region
-        (omega arith) (omega (arith, lt))
+    abbrev alike : (r c : ℕ) → HasColumn script r c → a.log.histories r c ≡ b.log.histories r c
+    alike = histories_alike script report a b ta tb a1
 
     clients_alike : (n : ℕ) (c : ClientReport) → slice_get report.clients n ≡ Some c
         → AllZip (AreStepsAlike script (caller_of script n)) (a.steps n) (b.steps n)
@@ -380,7 +390,7 @@ module _ (script : Script) (fits : IsFitting script) (report : Report) where
         let who = caller_of script n in
         let grown_a = follow_grows a.log who nothing_kept (a.steps n) (a.last n) of_a.follow in
         let grown_b = follow_grows b.log who nothing_kept (b.steps n) (b.last n) of_b.follow in
-        steps_alike script fits n own a.log b.log histories_alike (rows_alike who.own own) (a.steps n) (b.steps n)
+        steps_alike script fits n own a.log b.log alike (rows_alike script report a b ta tb who.own own) (a.steps n) (b.steps n)
         (of_a.commands ∙ sym of_b.commands) (of_a.replied ∙ sym of_b.replied) (obeys a ta a1 a4 n c there)
         (obeys b tb b1 b4 n c there) nothing_kept nothing_kept (a.last n) (b.last n) of_a.follow of_b.follow
         (record {
@@ -395,7 +405,7 @@ module _ (script : Script) (fits : IsFitting script) (report : Report) where
         })
         (λ r x has. sym (grown_a r x)
         ∙ (sym (a4.made n c there r x has.0 has.1)
-        ∙ (ap (places_of n) (histories_alike r x has) ∙ (b4.made n c there r x has.0 has.1 ∙ grown_b r x))))
+        ∙ (ap (places_of n) (alike r x has) ∙ (b4.made n c there r x has.0 has.1 ∙ grown_b r x))))
         (λ r x has. subst Once (a4.made n c there r x has.0 has.1 ∙ grown_a r x)
         (places_once 0 n (a.log.histories r x)))
 
@@ -405,8 +415,8 @@ told_accounts_agree script report a b fits ta tb ra rb =
     let b1 = rule1 rb.0.0.0.1 in
     let a4 = rule4 ra.1 in
     let b4 = rule4 rb.1 in record {
-      histories = histories_alike script fits report a b ta tb a1 b1 a4 b4;
-      rows = rows_alike script fits report a b ta tb a1 b1 a4 b4;
+      histories = histories_alike script report a b ta tb a1;
+      rows = rows_alike script report a b ta tb;
       steps = λ n c there. (clients_alike script fits report a b ta tb a1 b1 a4 b4 n c there).0;
       last = λ n c there. (clients_alike script fits report a b ta tb a1 b1 a4 b4 n c there).1;
     }

@@ -1,8 +1,9 @@
 -- A client's own steps stand at places each of which is there once; beginnings of lists of such places.
-use Rattle.std.proofs.Common.{◌≡◌, ℕ, ◌+◌, ◌≤◌, List, [], ◌∷◌, ◌++◌, refl, ap, sym, subst, ◌∙◌, ◌⊎◌, inl, inr, arith}
-use Rattle.std.specs.Prelude.{◌==◌, ◌&&◌}
+use Rattle.std.proofs.Common.{◌≡◌, ℕ, ◌+◌, ◌<◌, ◌≤◌, List, [], ◌∷◌, ◌++◌, refl, ap, sym, subst, ◌∙◌, ◌⊎◌, inl, inr, arith}
+use Rattle.std.specs.Prelude.{◌==◌, ◌&&◌, max}
 use Rattle.col_core.specs.declared.Entry.{Entry}
 use Rattle.col_core.specs.Log.{is_own, places_from}
+use Rattle.col_core.specs.Keeping.{seen_past}
 use Rattle.col_core.proofs.CallerLemmas.{In, choice, in_right}
 
 -- each is there once
@@ -43,6 +44,45 @@ places_once from client (e ∷ es) =
       places_once (from + 1) client es,
     ))
     (λ f. places_once (from + 1) client es)
+
+-- each is below all that stand behind it
+abbrev pub Climbs : List ℕ → Type 0
+Climbs [] = Unit {0}
+Climbs (x ∷ xs) = ((p : ℕ) → In p xs → x < p) × Climbs xs
+
+pub places_climb : (from client : ℕ) (h : List Entry) → Climbs (places_from from client h)
+places_climb from client [] = tt
+places_climb from client (e ∷ es) =
+    choice Climbs ((e.by == client) && is_own client e.event) (from ∷ places_from (from + 1) client es)
+    (places_from (from + 1) client es)
+    (λ t. (λ p i. let r = places_least (from + 1) client es p i in omega (arith, r), places_climb (from + 1) client es))
+    (λ f. places_climb (from + 1) client es)
+
+pub climbs_apart : (xs ys : List ℕ) (p q : ℕ) → Climbs (xs ++ ys) → In p xs → In q ys → p < q
+climbs_apart [] ys p q o i j = absurd i
+climbs_apart (x ∷ xs) ys p q o (inl e) j = subst (λ (n : ℕ). n < q) e (o.0 q (in_right q xs ys j))
+climbs_apart (x ∷ xs) ys p q o (inr i) j = climbs_apart xs ys p q o.1 i j
+
+pub climbs_behind : (xs ys : List ℕ) → Climbs (xs ++ ys) → Climbs ys
+climbs_behind [] ys o = o
+climbs_behind (x ∷ xs) ys o = climbs_behind xs ys o.1
+
+-- who sees so many events and makes these sees none from a place on that is behind them all
+pub seen_below : (places : List ℕ) (seen q : ℕ) → seen ≤ q → ((p : ℕ) → In p places → p < q)
+    → seen_past seen places ≤ q
+seen_below [] seen q le f = le
+seen_below (x ∷ xs) seen q le f =
+    seen_below xs (max seen (x + 1)) q (let l = f x (inl refl) in omega (arith, le, l)) (λ p i. f p (inr i))
+
+seen_least : (places : List ℕ) (seen : ℕ) → seen ≤ seen_past seen places
+seen_least [] seen = omega arith
+seen_least (x ∷ xs) seen = let l = seen_least xs (max seen (x + 1)) in omega (arith, l)
+
+-- and has seen each that it made
+pub seen_made : (places : List ℕ) (seen p : ℕ) → In p places → p < seen_past seen places
+seen_made [] seen p i = absurd i
+seen_made (x ∷ xs) seen p (inl e) = let l = seen_least xs (max seen (x + 1)) in omega (arith, e, l)
+seen_made (x ∷ xs) seen p (inr i) = seen_made xs (max seen (x + 1)) p i
 
 -- what stands behind one beginning
 pub behind_same : {A : Type 0} (xs us vs : List A) → xs ++ us ≡ xs ++ vs → us ≡ vs

@@ -8,6 +8,7 @@ use Rattle.log_node.specs.declared.node.Node.{Node}
 use Rattle.log_node.specs.declared.ids.Id.{Id}
 use Rattle.log_node.specs.declared.forms.Version.{Version}
 use Rattle.log_node.specs.Order.{same_id}
+use Rattle.col_core.specs.declared.Entry.{Entry}
 use Rattle.col_core.specs.Log.{Log}
 use Rattle.col_core.specs.Keeping.{Kept, nothing_kept}
 use Rattle.col_core.proofs.CallerLemmas.{In, all_in, both, by_test, choice, contains_in, if_true, if_false, same_id-true}
@@ -20,7 +21,7 @@ use Rattle.report_text.specs.declared.report.ColumnReport.{ColumnReport}
 use Rattle.lawful_run.specs.Callers.{Caller, caller_of, commands_of}
 use Rattle.lawful_run.specs.Columns.{row_report}
 use Rattle.run_rules.specs.Told.{Step, Follow, AreKeysFound, kept_past}
-use Rattle.run_rules.specs.Telling.{journal_among, unnamed, step_of, steps_of, last_of_steps, bare_node, node_or, row_of, is_in, log_of, replies_in, replies_to}
+use Rattle.run_rules.specs.Telling.{journal_among, unnamed, step_of, steps_of, last_of_steps, bare_node, node_or, row_of, is_in, log_of, replies_in, replies_to, places_shown}
 use Rattle.run_rules.specs.Laws.{ReportsTell}
 use Rattle.run_rules.proofs.Lists.{map_map}
 
@@ -61,43 +62,43 @@ journal_at (d ∷ ds) apart c i = turn i (journal_at ds (λ k m x lt within. apa
 
 -- ROWS
 
-module _ (nodes : ℕ → List Node) where
-  its_id : (r : RowReport) (shown : Option Node) → (node_or r shown).id ≡ r.id
+module _ (histories : ℕ → ℕ → List Entry) (nodes : ℕ → List Node) where
+  pub its_id : (r : RowReport) (shown : Option Node) → (node_or histories r shown).id ≡ r.id
   its_id r None = refl
   its_id r (Some node) =
-      choice (λ (n : Node). n.id ≡ r.id) (same_id node.id r.id) node (bare_node r) (same_id-true node.id r.id) (λ f. refl)
+      choice (λ (n : Node). n.id ≡ r.id) (same_id node.id r.id) node (bare_node histories r) (same_id-true node.id r.id) (λ f. refl)
 
-  shown_again : (region : ℕ) (r : RowReport) → r.region ≡ region → row_report region (row_of nodes r) ≡ r
+  shown_again : (region : ℕ) (r : RowReport) → r.region ≡ region → row_report region (row_of histories nodes r) ≡ r
   shown_again region r e =
-      ap (λ (n : ℕ). row_report n (row_of nodes r)) (sym e)
+      ap (λ (n : ℕ). row_report n (row_of histories nodes r)) (sym e)
       ∙ ap (λ (id : Id). record { region = r.region; row = r.row; id = id; marks = r.marks; last = r.last })
       (its_id r (slice_get (nodes r.id.client) r.id.count))
 
-  rows_again : (region : ℕ) (rs : List RowReport)
-      → map (row_report region) (map (row_of nodes) (filter (is_in region) rs)) ≡ filter (is_in region) rs
+  pub rows_again : (region : ℕ) (rs : List RowReport)
+      → map (row_report region) (map (row_of histories nodes) (filter (is_in region) rs)) ≡ filter (is_in region) rs
   rows_again region [] = refl
   rows_again region (r ∷ rs) =
       by_test _ (is_in region r)
       (λ t. let e = if_true (is_in region r) (r ∷ filter (is_in region) rs) (filter (is_in region) rs) t in
-      ap (λ (l : List RowReport). map (row_report region) (map (row_of nodes) l)) e
-      ∙ (ap (λ (x : RowReport). x ∷ map (row_report region) (map (row_of nodes) (filter (is_in region) rs)))
+      ap (λ (l : List RowReport). map (row_report region) (map (row_of histories nodes) l)) e
+      ∙ (ap (λ (x : RowReport). x ∷ map (row_report region) (map (row_of histories nodes) (filter (is_in region) rs)))
       (shown_again region r (eqb-true r.region region t))
       ∙ (ap (λ (l : List RowReport). r ∷ l) (rows_again region rs) ∙ sym e)))
       (λ f. let e = if_false (is_in region r) (r ∷ filter (is_in region) rs) (filter (is_in region) rs) f in
-      ap (λ (l : List RowReport). map (row_report region) (map (row_of nodes) l)) e ∙ (rows_again region rs ∙ sym e))
+      ap (λ (l : List RowReport). map (row_report region) (map (row_of histories nodes) l)) e ∙ (rows_again region rs ∙ sym e))
 
   all_rows : (regions : List ℕ) (rs : List RowReport)
-      → flat_map (λ region. map (row_report region) (map (row_of nodes) (filter (is_in region) rs))) regions
+      → flat_map (λ region. map (row_report region) (map (row_of histories nodes) (filter (is_in region) rs))) regions
       ≡ flat_map (λ region. filter (is_in region) rs) regions
   all_rows [] rs = refl
   all_rows (region ∷ regions) rs =
-      ap (λ (l : List RowReport). l ++ flat_map (λ x. map (row_report x) (map (row_of nodes) (filter (is_in x) rs))) regions)
+      ap (λ (l : List RowReport). l ++ flat_map (λ x. map (row_report x) (map (row_of histories nodes) (filter (is_in x) rs))) regions)
       (rows_again region rs)
       ∙ ap (λ (l : List RowReport). filter (is_in region) rs ++ l) (all_rows regions rs)
 
 -- STEPS
 
-keys_unnamed : (answer : Answer) → AreKeysFound (unnamed answer) answer
+pub keys_unnamed : (answer : Answer) → AreKeysFound (unnamed answer) answer
 keys_unnamed (answers.GotKeys stamp shown raises syncs) = map_map (λ (v : Version). v.key) _ shown
 keys_unnamed (answers.Stood stamp row points) = tt
 keys_unnamed (answers.StampEnd colour) = tt
@@ -124,53 +125,54 @@ keys_unnamed (answers.Trimmed colour base) = tt
 keys_unnamed (answers.NotHome home) = tt
 keys_unnamed answers.NoMemory = tt
 
-module _ (log : Log) (caller : Caller) where
+module _ (log : Log) (caller : Caller) (shown : ℕ → ℕ → List ℕ) where
   abbrev KeysAt : Step → Type 0
   KeysAt s = AreKeysFound s.untold.found s.reply.answer
 
   steps_asked : (kept : Kept) (cs : List Command) (rs : List ReplyLine) → length cs ≡ length rs
-      → map (λ (s : Step). s.command) (steps_of log caller kept cs rs) ≡ cs
+      → map (λ (s : Step). s.command) (steps_of log caller shown kept cs rs) ≡ cs
   steps_asked kept [] rs e = refl
   steps_asked kept (c ∷ cs) [] e = absurd (let f : ⊥ = omega (arith, e) in f)
   steps_asked kept (c ∷ cs) (r ∷ rs) e =
-      ap (λ (l : List Command). c ∷ l) (steps_asked (kept_past log caller (step_of log caller kept c r)) cs rs (omega (arith, e)))
+      ap (λ (l : List Command). c ∷ l) (steps_asked (kept_past log caller (step_of log caller shown kept c r)) cs rs (omega (arith, e)))
 
   steps_replied : (kept : Kept) (cs : List Command) (rs : List ReplyLine) → length cs ≡ length rs
-      → map (λ (s : Step). s.reply) (steps_of log caller kept cs rs) ≡ rs
+      → map (λ (s : Step). s.reply) (steps_of log caller shown kept cs rs) ≡ rs
   steps_replied kept [] [] e = refl
   steps_replied kept [] (r ∷ rs) e = absurd (let f : ⊥ = omega (arith, e) in f)
   steps_replied kept (c ∷ cs) [] e = refl
   steps_replied kept (c ∷ cs) (r ∷ rs) e =
       ap (λ (l : List ReplyLine). r ∷ l)
-      (steps_replied (kept_past log caller (step_of log caller kept c r)) cs rs (omega (arith, e)))
+      (steps_replied (kept_past log caller (step_of log caller shown kept c r)) cs rs (omega (arith, e)))
 
   steps_follow : (kept : Kept) (cs : List Command) (rs : List ReplyLine)
-      → Follow log caller kept (steps_of log caller kept cs rs) (last_of_steps log caller kept cs rs)
+      → Follow log caller kept (steps_of log caller shown kept cs rs) (last_of_steps log caller shown kept cs rs)
   steps_follow kept [] rs = refl
   steps_follow kept (c ∷ cs) [] = refl
-  steps_follow kept (c ∷ cs) (r ∷ rs) = (refl, steps_follow (kept_past log caller (step_of log caller kept c r)) cs rs)
+  steps_follow kept (c ∷ cs) (r ∷ rs) = (refl, steps_follow (kept_past log caller (step_of log caller shown kept c r)) cs rs)
 
-  steps_keys : (kept : Kept) (cs : List Command) (rs : List ReplyLine) → All KeysAt (steps_of log caller kept cs rs)
+  steps_keys : (kept : Kept) (cs : List Command) (rs : List ReplyLine) → All KeysAt (steps_of log caller shown kept cs rs)
   steps_keys kept [] rs = All-nil KeysAt
   steps_keys kept (c ∷ cs) [] = All-nil KeysAt
   steps_keys kept (c ∷ cs) (r ∷ rs) =
-      All-cons KeysAt (step_of log caller kept c r)
-      (steps_of log caller (kept_past log caller (step_of log caller kept c r)) cs rs) (keys_unnamed r.answer)
-      (steps_keys (kept_past log caller (step_of log caller kept c r)) cs rs)
+      All-cons KeysAt (step_of log caller shown kept c r)
+      (steps_of log caller shown (kept_past log caller (step_of log caller shown kept c r)) cs rs) (keys_unnamed r.answer)
+      (steps_keys (kept_past log caller (step_of log caller shown kept c r)) cs rs)
 
 pub reports_tell : ReportsTell
 reports_tell script report nodes well = record {
   histories = all_in (λ (c : ColumnReport). c.journal ≡ journal_among report.columns c.region c.colour) report.columns
       (journal_at report.columns well.apart);
-  rows = well.rows ∙ sym (all_rows nodes (range_with_len 0 script.shape.regions) report.rows);
+  rows = well.rows ∙ sym (all_rows (journal_among report.columns) nodes (range_with_len 0 script.shape.regions) report.rows);
   clients = λ n c there.
       let log = log_of report nodes in
       let caller = caller_of script n in
+      let places = places_shown script report n in
       let shown : replies_to report n ≡ c.replies = ap replies_in there in
       let long = well.replied n c there ∙ ap length (sym shown) in record {
-        commands = steps_asked log caller nothing_kept (commands_of script n) (replies_to report n) long;
-        replied = steps_replied log caller nothing_kept (commands_of script n) (replies_to report n) long ∙ shown;
-        follow = steps_follow log caller nothing_kept (commands_of script n) (replies_to report n);
-        keys = steps_keys log caller nothing_kept (commands_of script n) (replies_to report n);
+        commands = steps_asked log caller places nothing_kept (commands_of script n) (replies_to report n) long;
+        replied = steps_replied log caller places nothing_kept (commands_of script n) (replies_to report n) long ∙ shown;
+        follow = steps_follow log caller places nothing_kept (commands_of script n) (replies_to report n);
+        keys = steps_keys log caller places nothing_kept (commands_of script n) (replies_to report n);
       };
 }

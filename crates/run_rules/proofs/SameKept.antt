@@ -108,7 +108,7 @@ module _ (script : Script) where
       reads = s.reads;
     }
 
-    place_same : (region colour : ℕ) (at : At)
+    pub place_same : (region colour : ℕ) (at : At)
         → KeepSame script (kept_after_place a region colour at) (kept_after_place b region colour at)
     place_same region colour (Event place) = event_same region colour place
     place_same region colour (Look events) = look_same region colour events

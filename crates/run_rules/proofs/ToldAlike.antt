@@ -67,7 +67,7 @@ points_are : (colours : List ℕ) (row : Option ℕ) (points : List PointPiece) 
 points_are colours None points h = h.0
 points_are colours (Some number) points h = h.0
 
-mapped_below : {A : Type 0} (count : ℕ) (f : A → ℕ) (xs : List A) (colours : List ℕ) → map f xs ≡ colours
+pub mapped_below : {A : Type 0} (count : ℕ) (f : A → ℕ) (xs : List A) (colours : List ℕ) → map f xs ≡ colours
     → Below count colours → (x : A) → In x xs → f x < count
 mapped_below count f xs colours e b x i = b (f x) (subst (In (f x)) e (in_map-back f xs x i))
 
@@ -93,12 +93,12 @@ module _ (script : Script) (fits : IsFitting script) (n : ℕ) (log other : Log)
       mapped_below script.shape.colours (λ (p : PointPiece). p.colour) points (colours_asked who a what)
       (points_are (colours_asked who a what) row points h) (appended_within script fits n a what within) x i
 
-  one_below : (colour : ℕ) → colours_synced who what ≡ colour ∷ [] → colour < script.shape.colours
+  pub one_below : (colour : ℕ) → colours_synced who what ≡ colour ∷ [] → colour < script.shape.colours
   one_below colour e =
       synced_within script fits n what within colour (subst (In colour) (sym e) (inl refl))
 
   -- an append, and a stamped read behind it
-  behind_same : (row : Option ℕ) (points : List PointPiece) → HasPoints (colours_asked who a what) row points
+  pub behind_same : (row : Option ℕ) (points : List PointPiece) → HasPoints (colours_asked who a what) row points
       → (IsTrue (is_row row) → SamePlaces script who log other histories home rows u v)
       → KeepSame script
       (kept_after_append u who a (stamp_told log who a row points) row points)
@@ -109,12 +109,12 @@ module _ (script : Script) (fits : IsFitting script) (n : ℕ) (log other : Log)
       (stamp_same script who log other histories home rows s row points (points_below row points h)) row points places
 
   -- decisions
-  decide_below : (sync : SyncPiece) (colours : List ℕ) → AsksToDecide who what sync colours
+  pub decide_below : (sync : SyncPiece) (colours : List ℕ) → AsksToDecide who what sync colours
       → Below script.shape.colours (sync.colour ∷ rising colours)
   decide_below sync colours asks c i =
       synced_within script fits n what within c (subst (In c) (sym (decide_synced who what sync colours asks)) i)
 
-  got_below : (value : Value) (sync : SyncPiece) (kind : Option Kind) → CanGet who what sync value kind
+  pub got_below : (value : Value) (sync : SyncPiece) (kind : Option Kind) → CanGet who what sync value kind
       → sync.colour < script.shape.colours
   got_below value sync (Some (kinds.Map home colours)) can = one_below sync.colour can.1.3
   got_below value sync (Some (kinds.Parts home colours)) can = elim can [

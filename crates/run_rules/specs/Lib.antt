@@ -1,8 +1,10 @@
 pub mod Told
+pub mod Printed
 pub mod Telling
 pub mod Naming
 pub mod Answering
 pub mod Rules
+pub mod Nodes
 pub mod Shown
 pub mod Keeping
 pub mod Agreeing

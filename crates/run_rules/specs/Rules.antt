@@ -3,6 +3,7 @@ use Rattle.std.specs.Prelude.{◌≡◌, IsTrue, ℕ, zero, suc, ◌+◌, ◌<�
 use Rattle.std.specs.List.{All, Contains, filter}
 use Rattle.std.specs.List.Sorted.{IsNonDecreasing}
 use Rattle.log_node.specs.declared.ids.Colours.{Colours}
+use Rattle.log_node.specs.declared.marks.ColourMark.{ColourMark}
 use Rattle.col_core.specs.declared.Event.TheVariants.{Single}
 use Rattle.col_core.specs.declared.Entry.{Entry}
 use Rattle.col_core.specs.Computed.{dated}
@@ -69,13 +70,15 @@ pub record Rule2 (script : Script) (report : Report) : Type 0 where
   pub each : All (IsLawfulColumn script) report.columns
 
 -- RULE 3. Each region's rows are lawful beside its columns, for some nodes of theirs, and of clients of the region; what a
--- region holds of another is a true copy.
+-- region holds of another is a true copy. A row's marks are of colours that there are.
 
 pub record Rule3 (script : Script) (account : Account) : Type 0 where
   pub of_clients : (region : ℕ) → region < script.shape.regions
       → All (λ (r : BegunRow). IsClientIn script region r.row.client) (account.log.rows region)
   pub lawful : (region : ℕ) → region < script.shape.regions
       → AreLawfulRows region script.shape.colours (account.log.histories region) (account.log.rows region)
+  pub marked : (region : ℕ) → region < script.shape.regions → All (λ (r : BegunRow).
+      All (λ (m : ColourMark). m.colour < script.shape.colours) r.marks) (account.log.rows region)
   pub copies : HoldsTrueCopies account.log script
 
 -- RULE 4. What a reply names is there, is of its client, and comes after all that this had seen; a client's own events are

@@ -1,5 +1,5 @@
 -- Regions and clients that tests begin with.
-use Rattle.std.specs.Prelude.{◌≡◌, ◌≤◌, ℕ}
+use Rattle.std.specs.Prelude.{◌≡◌, ◌<◌, ◌≤◌, ℕ}
 use Rattle.stamp_board.specs.declared.view.Size.{Size}
 use Rattle.chain_store.specs.declared.hold.Hold.{Hold}
 use Rattle.chain_store.specs.declared.region.Region.{Region}
@@ -14,6 +14,10 @@ pub record IsSmall (number : ℕ) (r : Region) : Type 0 where
   pub number_is : r.number ≡ number
   pub regions : r.regions ≡ 2
   pub size : r.board.size ≡ small
+
+-- the first region of a log, with one colour at least
+abbrev pub IsFirst : Region → Type 0
+IsFirst r = (r.number ≡ 0) × (0 < r.board.size.colours)
 
 -- the hold of the client n, which has given out counts below `next` alone
 pub record IsClient (r : Region) (n next : ℕ) (h : Hold) : Type 0 where

@@ -3,6 +3,7 @@ mod boards;
 mod columns;
 mod forms;
 mod journals;
+mod looks;
 mod made;
 mod nodes;
 mod objects;

@@ -50,6 +50,15 @@ impl<E, T> Rest<E, T> {
             (_, None) => None,
         }
     }
+
+    /// The pass that was moved from here rests here again.
+    pub fn take_back(&self, moved: Rest<E, T>)
+        requires { (rest_table moved ≡ rest_table self.now) × (rest_view moved ≡ rest_view self.now) }
+    {
+        if let (_, Some(seat)) = moved.perch.take(EMPTY) {
+            drop(self.perch.give(seat, EMPTY, FULL));
+        }
+    }
 }
 
 impl<V: HasHistory> Cell<V> {

@@ -71,8 +71,8 @@ fn append_one<R: Wait>(rt: &R, alloc: Global, store: &Store, client: &mut Client
     let _answer = client.append(rt, alloc, store, &OpenGate, colours, text, None);
 }
 
-// The client appends this many nodes to the first colour or to both.
-fn append_all<R: Wait>(
+/// The client appends this many nodes to the first colour or to both.
+pub fn append_all<R: Wait>(
     rt: &R,
     alloc: Global,
     store: &Store,
@@ -131,6 +131,7 @@ pub fn pulled<R: Wait>(rt: &R, alloc: Global, store: &Store, client: &mut Client
 pub fn played<R: Wait>(rt: &R, alloc: Global, store: &Store, client: &mut Client) -> u64
     requires store { IsBench store.now }
     requires client { IsClient store.now client.old }
+    ensures { IsClient store.now client.new }
 {
     match client.sync(rt, alloc, store, 0) {
         Ok(synced) => synced.count,

@@ -1,11 +1,13 @@
 // The objects of a script as a client opens them.
-ghost use Rattle.std.specs.Prelude.{◌≡◌, IfOk};
+ghost use Rattle.std.specs.Prelude.{◌≡◌, ◌≤◌, IfOk, length};
+ghost use Rattle.log_node.specs.declared.limits.TheConstants.{MAX_COLOURS};
+ghost use Rattle.script_text.specs.Apart.{colours_of};
 ghost use Rattle.run_script.specs.Opened.{kind_opened, AreUnopened, IsUnfolded};
 
 use atomic_map::AtomicMap;
 use causal_map::CausalMap;
 use log_map::LogMap;
-use log_node::{ColourList, ListOf, MAX_COLOURS};
+use log_node::{ColourList, ListOf};
 use log_queue::LogQueue;
 use log_tree::LogTree;
 use region_fold::{Tx, TxMap};
@@ -51,14 +53,12 @@ fn open_tx(alloc: Global, home: u8, colours: &[u8]) -> Result<Opened, AllocError
     })
 }
 
-// Opens one that keeps its colours to itself. No script has one of more colours than there may be.
+// Opens one that keeps its colours to itself.
 fn open_parts(alloc: Global, home: u8, colours: &[u8]) -> Result<Opened, AllocError>
+    requires { length colours.now ≤ MAX_COLOURS }
     ensures kind { IfOk result (λ x. kind_opened x ≡ Kind.Parts home colours.now) }
     ensures unfolded { IfOk result IsUnfolded }
 {
-    if colours.len() > MAX_COLOURS as usize {
-        return Err(AllocError);
-    }
     let players = PartPlayers::open(alloc, home, copied(alloc, colours)?);
     let map = TxMap::open(alloc, home, copied(alloc, colours)?);
     Ok(Opened::Tx {
@@ -70,6 +70,7 @@ fn open_parts(alloc: Global, home: u8, colours: &[u8]) -> Result<Opened, AllocEr
 
 /// Opens an object of this kind.
 pub fn open(alloc: Global, kind: &Kind) -> Result<Opened, AllocError>
+    requires { length (colours_of kind.now) ≤ MAX_COLOURS }
     ensures kind { IfOk result (λ x. kind_opened x ≡ kind.now) }
     ensures unfolded { IfOk result IsUnfolded }
 {

@@ -1,6 +1,7 @@
 use Rattle.std.proofs.Common.{◌≡◌, ◌+◌, ℕ, Some, slice_get, length}
 use Rattle.stamp_board.specs.declared.seats.ColumnSeat.{ColumnSeat}
 use Rattle.chain_store.specs.Passes.{ColumnCell, IsCellOf}
+use Rattle.chain_store.specs.Desks.{AreSharesOf}
 use Rattle.chain_store.specs.Openings.{HaveAll}
 use Rattle.chain_store.proofs.opening.open_columns.Given as goal
 
@@ -11,8 +12,9 @@ invariant-loop-seat l = record {
   count : length l.seats.items + length l.cells.items ≡ length l.initial.seats.items;
   tied : (k : ℕ) (c : ColumnCell) → slice_get l.cells.items k ≡ Some c
       → IsCellOf l.board l.region (length l.seats.items + k) l.shape.regions c;
+  shared : AreSharesOf l.cells.items l.shares.items;
   many : length l.clients.items ≡ l.board.size.clients;
-  all : HaveAll l.cells.items l.clients.items;
+  all : HaveAll l.cells.items l.shares.items l.clients.items;
 }
 
 abbrev pub decreases-loop-seat : goal.decreases-loop-seat

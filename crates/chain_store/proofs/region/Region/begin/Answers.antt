@@ -12,7 +12,12 @@ begin-requires-clause-next c lt =
 pub returns-in_err-row-clause-hold : goal.returns-in_err-row-clause-hold
 returns-in_err-row-clause-hold c =
     let h = c.args.hold.now in
-    subst (λ (s : Seat). IsHold c.args.self.now (record { passes = h.passes; seat = s; next = h.next }))
+    subst (λ (s : Seat). IsHold c.args.self.now (record {
+      passes = h.passes;
+      seat = s;
+      next = h.next;
+      desks = h.desks;
+    }))
     (sym c.in_err-row.ensures.begun) c.requires.hold
 
 pub returns-clause-hold : goal.returns-clause-hold
@@ -20,8 +25,10 @@ returns-clause-hold c =
     let h = c.args.hold.now in
     let e = c.in_ok-row.ensures in
     hold_began c.args.self.now h
-    (record { passes = h.passes; seat = c.begin.new.seat; next = c.deref.result.now.id.count + 1 }) c.args.node.now.value
-    c.in_ok-row.row c.requires.hold refl (ap (λ (z : Node). z.id.count + 1) c.deref.ensures) e.row e.begun c.requires.id.0
+    (record { passes = h.passes; seat = c.begin.new.seat; next = c.deref.result.now.id.count + 1; desks = h.desks })
+    c.args.node.now.value
+    c.in_ok-row.row c.requires.hold refl refl (ap (λ (z : Node). z.id.count + 1) c.deref.ensures) e.row e.begun
+    c.requires.id.0
     c.requires.id.1 c.requires.count c.requires.row c.requires.region c.requires.colours c.requires.floor
 
 pub returns-clause-begun : goal.returns-clause-begun
@@ -29,6 +36,8 @@ returns-clause-begun c =
     let h = c.args.hold.now in
     let e = c.in_ok-row.ensures in
     begins c.args.self.now h
-    (record { passes = h.passes; seat = c.begin.new.seat; next = c.deref.result.now.id.count + 1 }) c.args.node.now.value
-    c.in_ok-row.row c.requires.hold refl (ap (λ (z : Node). z.id.count + 1) c.deref.ensures) e.row e.begun c.requires.id.0
+    (record { passes = h.passes; seat = c.begin.new.seat; next = c.deref.result.now.id.count + 1; desks = h.desks })
+    c.args.node.now.value
+    c.in_ok-row.row c.requires.hold refl refl (ap (λ (z : Node). z.id.count + 1) c.deref.ensures) e.row e.begun
+    c.requires.id.0
     c.requires.id.1 c.requires.count c.requires.row c.requires.region c.requires.colours c.requires.floor

@@ -10,12 +10,13 @@ use Rattle.chain_store.specs.Holds.{view_of}
 use Rattle.chain_store.specs.Moves.{LooksAt}
 use Rattle.chain_store.specs.Proposals.{IsMarkedOpen}
 use Rattle.chain_store.proofs.Holding.{holder}
-use Rattle.chain_store.proofs.ByColour.{knows_first, told_but, of_told, told_hold, beside}
+use Rattle.chain_store.proofs.ByColour.{TurnOf, knows_first, told_but, of_told, told_hold, beside}
 use Rattle.log_node.specs.declared.node.At.TheVariants.{Look}
 use Rattle.std.specs.Option.{option_map}
 use Rattle.column.specs.Columns.{is_open_below}
 use Rattle.log_node.specs.Seen.{BegunAppend}
 use Rattle.log_node.specs.Standings.{Standing}
+use Rattle.chain_store.proofs.region.Region.below.Given.{Over}
 use Rattle.chain_store.proofs.region.Region.below.Goals as goal
 
 pub below_in-requires-clause-cell : goal.below_in-requires-clause-cell
@@ -31,42 +32,42 @@ pub below_in-requires-clause-seat : goal.below_in-requires-clause-seat
 below_in-requires-clause-seat g c =
     c.requires.hold.seat
 
+abbrev turn : (g : Over) (c : goal.After-hold-1 g) → TurnOf c.args.self.now c.args.hold.now c.args.colour
+    c.column.result.now
+    c.index_mut-pass.result.now c.below_in.new.pass
+turn g c = record {
+  hold = c.requires.hold;
+  inside = c.requires.colour;
+  column = c.column.ensures;
+  pass = c.index_mut-pass.ensures.value;
+}
+
 pub returns-clause-hold : goal.returns-clause-hold
 returns-clause-hold g c =
-    told_hold c.args.self.now c.args.hold.now c.args.colour c.column.result.now c.index_mut-pass.result.now
-    c.below_in.new.pass c.below_in.new.seat c.requires.hold c.requires.colour c.column.ensures
-    c.index_mut-pass.ensures.value
-    c.below_in.ensures.pass c.below_in.ensures.seat
+    told_hold (turn g c) c.below_in.new.seat c.args.hold.now.desks
+    c.below_in.ensures.pass c.below_in.ensures.seat c.requires.hold.desks
     (inl c.below_in.ensures.look.0)
 
 pub returns-clause-others : goal.returns-clause-others
 returns-clause-others g c =
-    told_but c.args.self.now c.args.hold.now c.args.colour c.column.result.now c.index_mut-pass.result.now
-    c.below_in.new.pass c.below_in.new.seat c.requires.hold c.requires.colour c.column.ensures
-    c.index_mut-pass.ensures.value
+    told_but (turn g c) c.below_in.new.seat c.args.hold.now.desks
 
 pub returns-clause-look : goal.returns-clause-look
 returns-clause-look g c =
-    of_told c.args.self.now c.args.hold.now c.args.colour c.column.result.now c.index_mut-pass.result.now
-    c.below_in.new.pass c.below_in.new.seat c.requires.hold c.requires.colour c.column.ensures
-    c.index_mut-pass.ensures.value
+    of_told (turn g c) c.below_in.new.seat c.args.hold.now.desks
     (λ (t : Tag) (old new : List Told). LooksAt c.args.hold.now.passes.number old new (Look c.below_in.result.events))
     (c.below_in.ensures.look.0, ap Look c.below_in.ensures.look.1)
 
 pub returns-clause-count : goal.returns-clause-count
 returns-clause-count g c =
-    of_told c.args.self.now c.args.hold.now c.args.colour c.column.result.now c.index_mut-pass.result.now
-    c.below_in.new.pass c.below_in.new.seat c.requires.hold c.requires.colour c.column.ensures
-    c.index_mut-pass.ensures.value
+    of_told (turn g c) c.below_in.new.seat c.args.hold.now.desks
     (λ (t : Tag) (old new : List Told). c.below_in.result.count ≡ length (filter (is_open_below c.args.key) (entries
     (entries_in new))))
     c.below_in.ensures.count
 
 pub returns-clause-first_id : goal.returns-clause-first_id
 returns-clause-first_id g c =
-    of_told c.args.self.now c.args.hold.now c.args.colour c.column.result.now c.index_mut-pass.result.now
-    c.below_in.new.pass c.below_in.new.seat c.requires.hold c.requires.colour c.column.ensures
-    c.index_mut-pass.ensures.value
+    of_told (turn g c) c.below_in.new.seat c.args.hold.now.desks
     (λ (t : Tag) (old new : List Told). option_map (λ (b : BegunAppend). b.id) c.below_in.result.first
     ≡ option_map (λ (e : Standing). e.key.id) (find (is_open_below c.args.key) (entries (entries_in new))))
     c.below_in.ensures.first_id
@@ -74,15 +75,14 @@ returns-clause-first_id g c =
 pub returns-clause-known : goal.returns-clause-known
 returns-clause-known g c =
     knows_first c.args.self.now c.args.hold.now c.args.colour c.column.result.now c.below_in.new.pass
-    c.below_in.new.seat c.requires.hold c.column.ensures
+    c.below_in.new.seat c.args.hold.now.desks c.requires.hold c.column.ensures
     c.below_in.ensures.seat c.below_in.result.first c.below_in.ensures.known c.below_in.ensures.own
 
 pub returns-clause-marked : goal.returns-clause-marked
 returns-clause-marked g c =
     let r = c.args.self.now in
     let h = c.args.hold.now in
-    of_told r h c.args.colour c.column.result.now c.index_mut-pass.result.now c.below_in.new.pass c.below_in.new.seat
-    c.requires.hold c.requires.colour c.column.ensures c.index_mut-pass.ensures.value
+    of_told (turn g c) c.below_in.new.seat c.args.hold.now.desks
     (λ (t : Tag) (old new : List Told). IfSome c.below_in.result.first
     (IsMarkedOpen r.board.size t.colour (view_of h) (seat_seen c.below_in.new.seat) new))
     c.below_in.ensures.marked

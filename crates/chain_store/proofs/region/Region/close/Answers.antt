@@ -1,14 +1,27 @@
-use Rattle.std.proofs.Common.{◌≡◌, List, map, refl, ap, sym, subst, ◌∙◌, slice_get}
+use Rattle.std.proofs.Common.{◌≡◌, List, length, map, refl, ap, sym, subst, ◌∙◌, slice_get}
+use Rattle.std.specs.Global.{Vec}
 use Rattle.stamp_board.specs.declared.seats.Seat.{Seat}
 use Rattle.stamp_board.specs.declared.seats.ColumnSeat.{ColumnSeat}
 use Rattle.stamp_board.specs.Seats.{IsSeatOf, IsClients, IsColumnOf}
 use Rattle.chain_store.specs.declared.hold.Hold.{Hold}
 use Rattle.chain_store.specs.declared.hold.ColumnPasses.{ColumnPasses}
 use Rattle.chain_store.specs.declared.seated.Seated.{Seated}
+use Rattle.chain_store.specs.declared.read_view.desk.Desk.{Desk}
+use Rattle.chain_store.specs.Desks.{HasDesks}
 use Rattle.chain_store.specs.Holds.{HasPasses}
+use Rattle.chain_store.proofs.Entering.{get_last}
 use Rattle.chain_store.proofs.TakenApart.{CloseOf, closed_seat, ends_region}
 use Rattle.chain_store.proofs.Places.{image_at}
 use Rattle.chain_store.proofs.region.Region.close.Goals as goal
+
+pub close_shares-requires : goal.close_shares-requires
+close_shares-requires g c =
+    let rest = c.pop.new.self.items in
+    let t = image_at (λ (h : Hold). h.desks) c.args.holds (length rest) c.in-Some.own
+    (ap (λ l. slice_get l (length rest)) (ap (map (λ (h : Hold). h.desks)) (sym c.into_vec.ensures)
+    ∙ sym c.in_ok-clients.ensures.2 ∙ c.in-Some.ensures.items) ∙ get_last rest c.in-Some.own) in
+    let h = c.requires.holds.1 (length rest) t.0 t.1 in
+    subst (λ (ds : Vec Desk). HasDesks c.args.self.shares.items ds.items) t.2 h.0.desks
 
 pub close_columns-requires-clause-passes : goal.close_columns-requires-clause-passes
 close_columns-requires-clause-passes g c = λ n clients at.

@@ -9,8 +9,14 @@ use Rattle.chain_store.proofs.region.Region.decide.Goals as goal
 pub returns-clause-hold : goal.returns-clause-hold
 returns-clause-hold c =
     hold_learnt c.args.self.now c.args.hold.now
-    (record { passes = c.args.hold.now.passes; seat = c.last.new.seat; next = c.args.hold.now.next }) c.requires.hold
-    refl refl
+    (record {
+      passes = c.args.hold.now.passes;
+      seat = c.last.new.seat;
+      next = c.args.hold.now.next;
+      desks =
+          c.args.hold.now.desks;
+    }) c.requires.hold
+    refl refl refl
     (later_then c.args.hold.now.seat c.decide.new.seat c.last.new.seat c.decide.ensures.seat c.last.ensures.seat)
 
 pub returns-clause-before : goal.returns-clause-before

@@ -8,57 +8,64 @@ use Rattle.chain_store.specs.Passes.{SeesMore, tag_in}
 use Rattle.chain_store.specs.Moves.{GivesAt}
 use Rattle.chain_store.proofs.Holding.{holder}
 use Rattle.chain_store.proofs.Passing.{ok_as}
-use Rattle.chain_store.proofs.ByColour.{gave, or_looked, turned_but, of_turned, turned_hold, client_tagged}
+use Rattle.chain_store.proofs.ByColour.{TurnOf, gave, or_looked, turned_but, of_turned, turned_hold, client_tagged}
 use Rattle.std.specs.Prelude.{OnErr}
+use Rattle.chain_store.proofs.region.Region.give.Given.{Over}
 use Rattle.chain_store.proofs.region.Region.give.Goals as goal
 
-pub give_in-requires-clause-pass : goal.give_in-requires-clause-pass
-give_in-requires-clause-pass g c =
+pub give_in-given-requires-clause-pass : goal.give_in-given-requires-clause-pass
+give_in-given-requires-clause-pass g c =
     holder c.args.self.now c.args.hold.now c.args.colour c.column.result.now c.index_mut-pass.result.now c.requires.hold
     c.requires.colour c.column.ensures c.index_mut-pass.ensures.value
 
-pub give_in-requires-clause-maker : goal.give_in-requires-clause-maker
-give_in-requires-clause-maker g c =
+pub give_in-given-requires-clause-maker : goal.give_in-given-requires-clause-maker
+give_in-given-requires-clause-maker g c =
     client_tagged c.args.self.now c.args.hold.now c.args.colour c.column.result.now c.requires.hold c.column.ensures
 
-pub give_in-requires-clause-other : goal.give_in-requires-clause-other
-give_in-requires-clause-other g c =
+pub give_in-given-requires-clause-other : goal.give_in-given-requires-clause-other
+give_in-given-requires-clause-other g c =
     subst (λ (t : Tag). c.args.region ≢ t.region) (sym c.column.ensures.tagged) c.requires.other.0
 
-pub give_in-requires-clause-region : goal.give_in-requires-clause-region
-give_in-requires-clause-region g c =
+pub give_in-given-requires-clause-region : goal.give_in-given-requires-clause-region
+give_in-given-requires-clause-region g c =
     subst (λ (t : Tag). c.args.region < t.regions) (sym c.column.ensures.tagged) c.requires.other.1
+
+turn : (g : Over) (c : goal.After-behind g) → TurnOf c.args.self.now c.args.hold.now c.args.colour c.column.result.now
+    c.index_mut-pass.result.now c.give_in-given.new.pass
+turn g c = record {
+  hold = c.requires.hold;
+  inside = c.requires.colour;
+  column = c.column.ensures;
+  pass = c.index_mut-pass.ensures.value;
+}
 
 pub returns-clause-hold : goal.returns-clause-hold
 returns-clause-hold g c =
-    turned_hold c.args.self.now c.args.hold.now c.args.colour c.column.result.now c.index_mut-pass.result.now
-    c.give_in.new.pass c.requires.hold c.requires.colour c.column.ensures c.index_mut-pass.ensures.value
-    c.give_in.ensures.pass (or_looked c.args.hold.now.passes.number (seen c.index_mut-pass.result.now) (seen
-    c.give_in.new.pass)
+    turned_hold (turn g c) c.behind.new.desks
+    c.give_in-given.ensures.pass c.behind.ensures (or_looked c.args.hold.now.passes.number (seen
+    c.index_mut-pass.result.now) (seen
+    c.give_in-given.new.pass)
     (λ (x : At × Given). GivesAt (tag_in c.column.result.now) c.args.hold.now.passes.number c.args.region c.args.from
-    (seen c.index_mut-pass.result.now) (seen c.give_in.new.pass) x.0 x.1)
-    c.give_in.result (λ (x : At × Given). gave c.args.hold.now.passes.number (seen c.index_mut-pass.result.now) (seen
-    c.give_in.new.pass) (tag_in c.column.result.now) c.args.region c.args.from x.0 x.1)
-    c.give_in.ensures.ok c.give_in.ensures.err)
+    (seen c.index_mut-pass.result.now) (seen c.give_in-given.new.pass) x.0 x.1)
+    c.give_in-given.result (λ (x : At × Given). gave c.args.hold.now.passes.number (seen c.index_mut-pass.result.now)
+    (seen
+    c.give_in-given.new.pass) (tag_in c.column.result.now) c.args.region c.args.from x.0 x.1)
+    c.give_in-given.ensures.ok c.give_in-given.ensures.err)
 
 pub returns-clause-others : goal.returns-clause-others
 returns-clause-others g c =
-    turned_but c.args.self.now c.args.hold.now c.args.colour c.column.result.now c.index_mut-pass.result.now
-    c.give_in.new.pass c.requires.hold c.requires.colour c.column.ensures c.index_mut-pass.ensures.value
+    turned_but (turn g c) c.behind.new.desks
 
 pub returns-clause-ok : goal.returns-clause-ok
 returns-clause-ok g c =
-    ok_as c.give_in.result _ _
-    (λ (x : At × Given) y. of_turned c.args.self.now c.args.hold.now c.args.colour c.column.result.now
-    c.index_mut-pass.result.now
-    c.give_in.new.pass c.requires.hold c.requires.colour c.column.ensures c.index_mut-pass.ensures.value
+    ok_as c.give_in-given.result _ _
+    (λ (x : At × Given) y. of_turned (turn g c) c.behind.new.desks
     (λ (t : Tag) (old new : List Told). GivesAt t c.args.hold.now.passes.number c.args.region c.args.from old new x.0
     x.1)
-    y) c.give_in.ensures.ok
+    y) c.give_in-given.ensures.ok
 
 pub returns-clause-err : goal.returns-clause-err
 returns-clause-err g c =
-    of_turned c.args.self.now c.args.hold.now c.args.colour c.column.result.now c.index_mut-pass.result.now
-    c.give_in.new.pass c.requires.hold c.requires.colour c.column.ensures c.index_mut-pass.ensures.value
-    (λ (t : Tag) (old new : List Told). OnErr c.give_in.result (SeesMore c.args.hold.now.passes.number old new))
-    c.give_in.ensures.err
+    of_turned (turn g c) c.behind.new.desks
+    (λ (t : Tag) (old new : List Told). OnErr c.give_in-given.result (SeesMore c.args.hold.now.passes.number old new))
+    c.give_in-given.ensures.err

@@ -8,16 +8,17 @@ use Rattle.chain_store.proofs.region.Region.hear.Goals as goal
 pub returns-clause-hold : goal.returns-clause-hold
 returns-clause-hold c =
     let h = c.args.hold.now in
-    let g : Hold = record { passes = c.meet_all.new.passes; seat = c.hear.new.seat; next = h.next } in
+    let g : Hold = record { passes = c.meet_all.new.passes; seat = c.hear.new.seat; next = h.next; desks = h.desks } in
     let o = c.meet_all.ensures in
     hold_stays c.args.self.now h g c.requires.hold o.number
-    (subst (λ (cells : List ColumnCell). HasPasses cells h.passes.number g.passes.items.items) c.deref.ensures.value o.passes)
-    (made_heard h g c.args.note.passes.items o.number o.heard) refl c.hear.ensures.seat
+    (subst (λ (cells : List ColumnCell). HasPasses cells h.passes.number g.passes.items.items) c.deref.ensures.value
+    o.passes)
+    (made_heard h g c.args.note.passes.items o.number o.heard) refl refl c.hear.ensures.seat
 
 pub returns-clause-hears : goal.returns-clause-hears
 returns-clause-hears c =
     let h = c.args.hold.now in
-    let g : Hold = record { passes = c.meet_all.new.passes; seat = c.hear.new.seat; next = h.next } in
+    let g : Hold = record { passes = c.meet_all.new.passes; seat = c.hear.new.seat; next = h.next; desks = h.desks } in
     let o = c.meet_all.ensures in
     record {
       number = o.number;

@@ -1,42 +1,57 @@
-use Rattle.std.proofs.Common.{List, inl}
+use Rattle.std.proofs.Common.{Vec, Global, List, inl}
+use Rattle.std.specs.Vec.{with_item}
+use Rattle.chain_store.specs.declared.read_view.desk.Desk.{Desk}
 use Rattle.chain_store.specs.declared.told.Tag.{Tag}
 use Rattle.chain_store.specs.declared.told.Told.{Told}
 use Rattle.chain_store.specs.Passes.{SeesMore, ShowsHistory}
-use Rattle.chain_store.proofs.Holding.{holder}
+use Rattle.chain_store.proofs.Holding.{holder, desk_there, desks_set}
 use Rattle.chain_store.proofs.Passing.{ok_as}
-use Rattle.chain_store.proofs.ByColour.{turned_but, of_turned, turned_hold}
+use Rattle.chain_store.proofs.ByColour.{TurnOf, turned_but, of_turned, turned_hold}
+use Rattle.chain_store.proofs.region.Region.look.Given.{Over}
 use Rattle.chain_store.proofs.region.Region.look.Goals as goal
 
-pub look_in-requires : goal.look_in-requires
-look_in-requires g c =
-    record {
-      pass = holder c.args.self.now c.args.hold.now c.args.colour c.column.result.now c.index_mut-pass.result.now
-          c.requires.hold
-          c.requires.colour c.column.ensures c.index_mut-pass.ensures.value;
-    }
+pub look_shared-requires-clause-pass : goal.look_shared-requires-clause-pass
+look_shared-requires-clause-pass g c =
+    holder c.args.self.now c.args.hold.now c.args.colour c.column.result.now c.index_mut-pass.result.now c.requires.hold
+    c.requires.colour c.column.ensures c.index_mut-pass.ensures.value
+
+pub look_shared-requires-clause-desk : goal.look_shared-requires-clause-desk
+look_shared-requires-clause-desk g c =
+    desk_there c.args.self.now.shares.items c.args.hold.now.desks.items c.args.colour c.share.result.now
+    c.index_mut-desk.result.now c.requires.hold.desks c.share.ensures.there c.index_mut-desk.ensures.value
+
+turn : (g : Over) (c : goal.After-hold-2-1 g) → TurnOf c.args.self.now c.args.hold.now c.args.colour c.column.result.now
+    c.index_mut-pass.result.now c.look_shared.new.pass
+turn g c = record {
+  hold = c.requires.hold;
+  inside = c.requires.colour;
+  column = c.column.ensures;
+  pass = c.index_mut-pass.ensures.value;
+}
+
+abbrev desks : (g : Over) → goal.After-hold-2-1 g → Vec Desk Global
+desks g c = with_item c.args.hold.now.desks c.args.colour c.look_shared.new.desk
 
 pub returns-clause-hold : goal.returns-clause-hold
 returns-clause-hold g c =
-    turned_hold c.args.self.now c.args.hold.now c.args.colour c.column.result.now c.index_mut-pass.result.now
-    c.look_in.new.pass c.requires.hold c.requires.colour c.column.ensures c.index_mut-pass.ensures.value
-    c.look_in.ensures.pass.0 (inl c.look_in.ensures.pass.1)
+    turned_hold (turn g c) (desks g c)
+    c.look_shared.ensures.pass.0 (desks_set c.args.self.now.shares.items c.args.hold.now.desks.items c.args.colour
+    c.share.result.now c.look_shared.new.desk c.share.ensures.there c.look_shared.ensures.desk c.requires.hold.desks)
+    (inl c.look_shared.ensures.pass.1)
 
 pub returns-clause-others : goal.returns-clause-others
 returns-clause-others g c =
-    turned_but c.args.self.now c.args.hold.now c.args.colour c.column.result.now c.index_mut-pass.result.now
-    c.look_in.new.pass c.requires.hold c.requires.colour c.column.ensures c.index_mut-pass.ensures.value
+    turned_but (turn g c) (desks g c)
 
 pub returns-clause-sees : goal.returns-clause-sees
 returns-clause-sees g c =
-    of_turned c.args.self.now c.args.hold.now c.args.colour c.column.result.now c.index_mut-pass.result.now
-    c.look_in.new.pass c.requires.hold c.requires.colour c.column.ensures c.index_mut-pass.ensures.value
+    of_turned (turn g c) (desks g c)
     (λ (t : Tag) (old new : List Told). SeesMore c.args.hold.now.passes.number old new)
-    c.look_in.ensures.pass.1
+    c.look_shared.ensures.pass.1
 
 pub returns-clause-view : goal.returns-clause-view
 returns-clause-view g c =
-    ok_as c.look_in.result _ _
-    (λ view v. of_turned c.args.self.now c.args.hold.now c.args.colour c.column.result.now c.index_mut-pass.result.now
-    c.look_in.new.pass c.requires.hold c.requires.colour c.column.ensures c.index_mut-pass.ensures.value
+    ok_as c.look_shared.result _ _
+    (λ view v. of_turned (turn g c) (desks g c)
     (λ (t : Tag) (old new : List Told). ShowsHistory t new c.args.from view)
-    v) c.look_in.ensures.view
+    v) c.look_shared.ensures.view

@@ -8,7 +8,8 @@ use Rattle.chain_store.specs.declared.told.Told.{Told}
 use Rattle.chain_store.specs.Histories.{entries_in}
 use Rattle.chain_store.specs.Moves.{LooksAt}
 use Rattle.chain_store.proofs.Holding.{holder}
-use Rattle.chain_store.proofs.ByColour.{turned_but, of_turned, turned_hold}
+use Rattle.chain_store.proofs.ByColour.{TurnOf, turned_but, of_turned, turned_hold}
+use Rattle.chain_store.proofs.region.Region.place.Given.{Over}
 use Rattle.chain_store.proofs.region.Region.place.Goals as goal
 
 pub place_in-requires : goal.place_in-requires
@@ -19,28 +20,33 @@ place_in-requires g c =
           c.requires.colour c.column.ensures c.index_mut-pass.ensures.value;
     }
 
+turn : (g : Over) (c : goal.After-hold-1 g) → TurnOf c.args.self.now c.args.hold.now c.args.colour c.column.result.now
+    c.index_mut-pass.result.now c.place_in.new.pass
+turn g c = record {
+  hold = c.requires.hold;
+  inside = c.requires.colour;
+  column = c.column.ensures;
+  pass = c.index_mut-pass.ensures.value;
+}
+
 pub returns-clause-hold : goal.returns-clause-hold
 returns-clause-hold g c =
-    turned_hold c.args.self.now c.args.hold.now c.args.colour c.column.result.now c.index_mut-pass.result.now
-    c.place_in.new.pass c.requires.hold c.requires.colour c.column.ensures c.index_mut-pass.ensures.value
-    c.place_in.ensures.pass (inl c.place_in.ensures.look.0)
+    turned_hold (turn g c) c.args.hold.now.desks
+    c.place_in.ensures.pass c.requires.hold.desks (inl c.place_in.ensures.look.0)
 
 pub returns-clause-others : goal.returns-clause-others
 returns-clause-others g c =
-    turned_but c.args.self.now c.args.hold.now c.args.colour c.column.result.now c.index_mut-pass.result.now
-    c.place_in.new.pass c.requires.hold c.requires.colour c.column.ensures c.index_mut-pass.ensures.value
+    turned_but (turn g c) c.args.hold.now.desks
 
 pub returns-clause-look : goal.returns-clause-look
 returns-clause-look g c =
-    of_turned c.args.self.now c.args.hold.now c.args.colour c.column.result.now c.index_mut-pass.result.now
-    c.place_in.new.pass c.requires.hold c.requires.colour c.column.ensures c.index_mut-pass.ensures.value
+    of_turned (turn g c) c.args.hold.now.desks
     (λ (t : Tag) (old new : List Told). LooksAt c.args.hold.now.passes.number old new c.place_in.result.0)
     c.place_in.ensures.look
 
 pub returns-clause-place : goal.returns-clause-place
 returns-clause-place g c =
-    of_turned c.args.self.now c.args.hold.now c.args.colour c.column.result.now c.index_mut-pass.result.now
-    c.place_in.new.pass c.requires.hold c.requires.colour c.column.ensures c.index_mut-pass.ensures.value
+    of_turned (turn g c) c.args.hold.now.desks
     (λ (t : Tag) (old new : List Told). c.place_in.result.1 ≡ position (λ (k : Key). same_key k c.args.key) (line
     (entries_in new)))
     c.place_in.ensures.place

@@ -11,23 +11,24 @@ use Rattle.chain_store.specs.Columns.{told_single}
 use Rattle.chain_store.specs.Passes.{SeesMore, MakesOne, tag_in}
 use Rattle.chain_store.specs.Steps.{HasSingleCause}
 use Rattle.chain_store.proofs.Holding.{turned, holder, client_few, same_seat, single_of}
+use Rattle.chain_store.proofs.Passing.{ok_is, err_is, at_err}
 use Rattle.chain_store.proofs.ByColour.{client_tagged, but_there, of_turn, hold_moved}
 use Rattle.chain_store.proofs.region.Region.single.Goals as goal
 
-pub single_in-requires-clause-pass : goal.single_in-requires-clause-pass
-single_in-requires-clause-pass g c =
+pub single_in-entered-requires-clause-pass : goal.single_in-entered-requires-clause-pass
+single_in-entered-requires-clause-pass g c =
     holder c.args.self.now c.args.hold.now c.args.colour c.column.result.now c.index_mut-pass.result.now c.requires.hold
     c.requires.colour c.column.ensures c.index_mut-pass.ensures.value
 
-pub single_in-requires-clause-client : goal.single_in-requires-clause-client
-single_in-requires-clause-client g c = (
+pub single_in-entered-requires-clause-client : goal.single_in-entered-requires-clause-client
+single_in-entered-requires-clause-client g c = (
   (client_few c.args.self.now c.args.hold.now c.requires.hold).0,
   client_tagged c.args.self.now c.args.hold.now c.args.colour c.column.result.now c.requires.hold c.column.ensures,
   c.requires.id.0,
 )
 
-pub single_in-requires-clause-node : goal.single_in-requires-clause-node
-single_in-requires-clause-node g c =
+pub single_in-entered-requires-clause-node : goal.single_in-entered-requires-clause-node
+single_in-entered-requires-clause-node g c =
     subst (λ (t : Tag). FitsColumn t.region t.colour c.args.node.now.value) (sym c.column.ensures.tagged)
     c.requires.node
 
@@ -38,12 +39,14 @@ returns-in-Ok-clause-hold g c =
     let colour = (tag_in c.column.result.now).colour in
     let more = ap (λ (y : Node). y.id.count + 1) c.deref.ensures in
     hold_moved c.args.self.now c.args.hold.now _ c.args.colour c.column.result.now c.index_mut-pass.result.now
-    c.single_in.new.pass c.requires.hold c.requires.colour c.column.ensures c.index_mut-pass.ensures.value refl refl
-    c.single_in.ensures.pass (same_seat h.seat) (let n = c.requires.id.1 in omega (arith, n, more))
+    c.single_in-entered.new.pass c.requires.hold c.requires.colour c.column.ensures c.index_mut-pass.ensures.value
+    refl refl
+    c.single_in-entered.ensures.pass (same_seat h.seat) (let n = c.requires.id.1 in omega (arith, n, more))
+    c.behind.ensures
     (inr (
       told_single colour h.passes.number x c.in-Ok.answer.stamp,
       c.in-Ok.answer.at,
-      c.in-Ok.ensures.ok,
+      (ok_is c.single_in-entered.result _ _ c.in-Ok.is c.single_in-entered.ensures.ok),
       refl,
       single_of c.args.self.now h x c.requires.hold c.requires.id.1 (c.deref.result.now.id.count + 1) more colour,
     ))
@@ -51,52 +54,61 @@ returns-in-Ok-clause-hold g c =
 pub returns-in-Ok-clause-others : goal.returns-in-Ok-clause-others
 returns-in-Ok-clause-others g c =
     but_there c.args.self.now c.args.hold.now _ c.args.colour c.column.result.now c.index_mut-pass.result.now
-    c.single_in.new.pass c.requires.hold c.requires.colour c.column.ensures c.index_mut-pass.ensures.value refl refl
+    c.single_in-entered.new.pass c.requires.hold c.requires.colour c.column.ensures c.index_mut-pass.ensures.value
+    refl refl
 
 pub returns-in-Ok-clause-ok : goal.returns-in-Ok-clause-ok
 returns-in-Ok-clause-ok g c =
     let n = c.args.hold.now.passes.number in
     let a = c.in-Ok.answer in
-    of_turn c.args.self.now c.args.hold.now (turned c.args.hold.now c.args.colour c.single_in.new.pass
-    (c.deref.result.now.id.count + 1)) c.args.colour c.column.result.now c.index_mut-pass.result.now
-    c.single_in.new.pass c.requires.hold c.requires.colour c.column.ensures c.index_mut-pass.ensures.value refl refl
+    of_turn c.args.self.now c.args.hold.now (turned c.args.hold.now c.args.colour c.single_in-entered.new.pass
+    (c.deref.result.now.id.count + 1) c.behind.new.desks) c.args.colour c.column.result.now c.index_mut-pass.result.now
+    c.single_in-entered.new.pass c.requires.hold c.requires.colour c.column.ensures c.index_mut-pass.ensures.value
+    refl refl
     (λ (t : Tag) (old new : List Told). MakesOne n (told_single t.colour n c.args.node.now.value a.stamp) old new a.at)
-    c.in-Ok.ensures.ok
+    (ok_is c.single_in-entered.result _ _ c.in-Ok.is c.single_in-entered.ensures.ok)
 
 pub returns-in-Ok-clause-position : goal.returns-in-Ok-clause-position
 returns-in-Ok-clause-position g c =
     let a = c.in-Ok.answer in
-    of_turn c.args.self.now c.args.hold.now (turned c.args.hold.now c.args.colour c.single_in.new.pass
-    (c.deref.result.now.id.count + 1)) c.args.colour c.column.result.now c.index_mut-pass.result.now
-    c.single_in.new.pass c.requires.hold c.requires.colour c.column.ensures c.index_mut-pass.ensures.value refl refl
+    of_turn c.args.self.now c.args.hold.now (turned c.args.hold.now c.args.colour c.single_in-entered.new.pass
+    (c.deref.result.now.id.count + 1) c.behind.new.desks) c.args.colour c.column.result.now c.index_mut-pass.result.now
+    c.single_in-entered.new.pass c.requires.hold c.requires.colour c.column.ensures c.index_mut-pass.ensures.value
+    refl refl
     (λ (t : Tag) (old new : List Told). a.position
     ≡ position (λ (k : Key). same_key k (entry_key a.stamp c.args.node.now.value.id)) (line (entries_in new)))
-    c.in-Ok.ensures.position
+    (ok_is c.single_in-entered.result _ _ c.in-Ok.is c.single_in-entered.ensures.position)
 
 pub returns-in-Err-clause-hold : goal.returns-in-Err-clause-hold
 returns-in-Err-clause-hold g c =
     hold_moved c.args.self.now c.args.hold.now _ c.args.colour c.column.result.now c.index_mut-pass.result.now
-    c.single_in.new.pass c.requires.hold c.requires.colour c.column.ensures c.index_mut-pass.ensures.value refl refl
-    c.single_in.ensures.pass (same_seat c.args.hold.now.seat) (omega arith) (inl c.in-Err.ensures.err)
+    c.single_in-entered.new.pass c.requires.hold c.requires.colour c.column.ensures c.index_mut-pass.ensures.value
+    refl refl
+    c.single_in-entered.ensures.pass (same_seat c.args.hold.now.seat) (omega arith) c.behind.ensures (inl (at_err
+    c.single_in-entered.result _ c.in-Err.is c.single_in-entered.ensures.err))
 
 pub returns-in-Err-clause-others : goal.returns-in-Err-clause-others
 returns-in-Err-clause-others g c =
     but_there c.args.self.now c.args.hold.now _ c.args.colour c.column.result.now c.index_mut-pass.result.now
-    c.single_in.new.pass c.requires.hold c.requires.colour c.column.ensures c.index_mut-pass.ensures.value refl refl
+    c.single_in-entered.new.pass c.requires.hold c.requires.colour c.column.ensures c.index_mut-pass.ensures.value
+    refl refl
 
 pub returns-in-Err-clause-cause : goal.returns-in-Err-clause-cause
 returns-in-Err-clause-cause g c =
-    of_turn c.args.self.now c.args.hold.now (turned c.args.hold.now c.args.colour c.single_in.new.pass
-    c.args.hold.now.next) c.args.colour c.column.result.now c.index_mut-pass.result.now
-    c.single_in.new.pass c.requires.hold c.requires.colour c.column.ensures c.index_mut-pass.ensures.value refl refl
+    of_turn c.args.self.now c.args.hold.now (turned c.args.hold.now c.args.colour c.single_in-entered.new.pass
+    c.args.hold.now.next c.behind.new.desks) c.args.colour c.column.result.now c.index_mut-pass.result.now
+    c.single_in-entered.new.pass c.requires.hold c.requires.colour c.column.ensures c.index_mut-pass.ensures.value
+    refl refl
     (λ (t : Tag) (old new : List Told). HasSingleCause (entries_in new) c.args.node.now.value.floor c.in-Err.fault)
-    c.in-Err.ensures.cause
+    (err_is c.single_in-entered.result _ _ c.in-Err.is c.single_in-entered.ensures.cause)
 
 pub returns-in-Err-clause-err : goal.returns-in-Err-clause-err
 returns-in-Err-clause-err g c = (
-  of_turn c.args.self.now c.args.hold.now (turned c.args.hold.now c.args.colour c.single_in.new.pass
-      c.args.hold.now.next) c.args.colour c.column.result.now c.index_mut-pass.result.now
-      c.single_in.new.pass c.requires.hold c.requires.colour c.column.ensures c.index_mut-pass.ensures.value refl refl
-      (λ (t : Tag) (old new : List Told). SeesMore c.args.hold.now.passes.number old new) c.in-Err.ensures.err,
+  of_turn c.args.self.now c.args.hold.now (turned c.args.hold.now c.args.colour c.single_in-entered.new.pass
+      c.args.hold.now.next c.behind.new.desks) c.args.colour c.column.result.now c.index_mut-pass.result.now
+      c.single_in-entered.new.pass c.requires.hold c.requires.colour c.column.ensures c.index_mut-pass.ensures.value
+      refl refl
+      (λ (t : Tag) (old new : List Told). SeesMore c.args.hold.now.passes.number old new) (at_err
+      c.single_in-entered.result _ c.in-Err.is c.single_in-entered.ensures.err),
   refl,
 )

@@ -9,17 +9,25 @@ use Rattle.chain_store.proofs.region.Region.tell.Goals as goal
 pub returns-in_err-passes-clause-hold : goal.returns-in_err-passes-clause-hold
 returns-in_err-passes-clause-hold c =
     let h = c.args.hold.now in
-    let g : Hold = record { passes = c.split_all.new.passes; seat = h.seat; next = h.next } in
+    let g : Hold = record { passes = c.split_all.new.passes; seat = h.seat; next = h.next; desks = h.desks } in
     let o = c.split_all.ensures in
     hold_stays c.args.self.now h g c.requires o.number
-    (subst (λ (cells : List ColumnCell). HasPasses cells h.passes.number g.passes.items.items) c.deref.ensures.value o.passes)
-    (made_alike h g o.number o.same) refl (same_seat h.seat)
+    (subst (λ (cells : List ColumnCell). HasPasses cells h.passes.number g.passes.items.items) c.deref.ensures.value
+    o.passes)
+    (made_alike h g o.number o.same) refl refl (same_seat h.seat)
 
 pub returns-clause-hold : goal.returns-clause-hold
 returns-clause-hold c =
     let h = c.args.hold.now in
-    let g : Hold = record { passes = c.split_all.new.passes; seat = c.tell-seat.new.seat; next = h.next } in
+    let g : Hold = record {
+      passes = c.split_all.new.passes;
+      seat = c.tell-seat.new.seat;
+      next = h.next;
+      desks =
+          h.desks;
+    } in
     let o = c.split_all.ensures in
     hold_stays c.args.self.now h g c.requires o.number
-    (subst (λ (cells : List ColumnCell). HasPasses cells h.passes.number g.passes.items.items) c.deref.ensures.value o.passes)
-    (made_alike h g o.number o.same) refl c.tell-seat.ensures.seat.0
+    (subst (λ (cells : List ColumnCell). HasPasses cells h.passes.number g.passes.items.items) c.deref.ensures.value
+    o.passes)
+    (made_alike h g o.number o.same) refl refl c.tell-seat.ensures.seat.0

@@ -1,4 +1,5 @@
-use Rattle.std.proofs.Common.{◌∙◌, Some, ap, sym}
+use Rattle.std.proofs.Common.{◌∙◌, Some, ap, length, sym}
+use Rattle.script_meaning.proofs.CallerLemmas.{kind_colours}
 use Rattle.log_client.proofs.CallerLemmas.{rests_same}
 use Rattle.run_script.proofs.Slots.{given_opened, given_there, given_unopened, has_there, kept_there, opened_kept}
 use Rattle.run_script.proofs.serving.answers.slot_answer.Goals as goal
@@ -24,6 +25,11 @@ returns-in-Some-clause-gives g c = λ objects n asked at.
     given_there c.args.store.now objects c.args.client.now n c.args.what c.object_answer.new.client c.in-Some.opened
     c.object_answer.new.opened c.object_answer.result
     (c.object_answer.ensures.gives objects n asked (at ∙ ap Some (sym there.0))) c.args.slot.now c.in-Some.is
+
+pub open-requires : goal.open-requires
+open-requires g c =
+    (kind_colours (length c.args.store.now.regions) c.args.store.now.size.colours c.args.object.now.kind
+    c.requires.openable.1).few
 
 pub returns-in_default-clause-rests : goal.returns-in_default-clause-rests
 returns-in_default-clause-rests g c = rests_same c.args.store.now c.args.client.now c.requires.client

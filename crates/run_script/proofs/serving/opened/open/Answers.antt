@@ -1,4 +1,7 @@
-use Rattle.std.proofs.Common.{◌≡◌, refl, subst, sym, ◌∙◌}
+use Rattle.std.proofs.Common.{◌≡◌, ◌≤◌, ℕ, List, length, refl, subst, sym, ◌∙◌}
+use Rattle.log_node.specs.declared.limits.TheConstants.{MAX_COLOURS}
+use Rattle.script_text.specs.Apart.{colours_of}
+use Rattle.script_text.specs.declared.script.Kind.{Kind}
 use Rattle.log_client.specs.Objects.{HasColoursOf}
 use Rattle.run_script.proofs.ObjectFrames.{map_colours, one_colour}
 use Rattle.run_script.proofs.serving.opened.open.Goals as goal
@@ -49,3 +52,8 @@ returns-in_ok-copy-in-Tree-clause-unfolded c = (
       e.tree client (subst (HasColoursOf client) e.of.1
       (map_colours client regions c.open-tree.result.home c.open-tree.result.colours few within)),
 )
+
+pub open_parts-requires : goal.open_parts-requires
+open_parts-requires c =
+    subst (λ (l : List ℕ). length l ≤ MAX_COLOURS) (sym c.as_slice-in-Parts.ensures)
+    (subst (λ (k : Kind). length (colours_of k) ≤ MAX_COLOURS) c.in-Parts.is c.requires)
