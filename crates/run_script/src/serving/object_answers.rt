@@ -32,7 +32,7 @@ pub fn object_asked(what: &What) -> Option<u8>
 }
 
 /// What the client answers to what is asked of it and of one of its objects.
-#[tactic(auto, using(crate::proofs::ObjectFrames::gives_asked, script_meaning::proofs::CallerLemmas::key_is_word, script_meaning::proofs::CallerLemmas::pairs_are))]
+#[tactic(auto, using(crate::proofs::ObjectFrames::gives_asked, lawful_run::proofs::CallerLemmas::key_is_word, lawful_run::proofs::CallerLemmas::pairs_are))]
 pub fn object_answer<R: Wait, G: Gate>(
     rt: &R,
     alloc: Global,
