@@ -58,10 +58,10 @@ module _ (script : Script) (fits : IsFitting script) (n : ℕ) (log other : Log)
   module _ (x y : Colours) (t u : List ℕ) (m : members x ≡ members y)
       (below : (c : ℕ) → In c (members x) → c < script.shape.colours)
       (next : slice_get (log.nodes n) a.ids ≡ Some (node_of who a x t)) where
-    abbrev node : Node
+    abbrev pub node : Node
     node = node_of who a x t
 
-    abbrev mate : Node
+    abbrev pub mate : Node
     mate = node_of who b y u
 
     alike : AreNodesAlike node mate
@@ -83,7 +83,7 @@ module _ (script : Script) (fits : IsFitting script) (n : ℕ) (log other : Log)
         let is : q.0.node ≡ node = cc (same) in
         (q.0, record { begun = there; of_node = is }, q.2)
 
-    mark_same : (colour : ℕ) (mark : Mark) → HasMark other mate colour mark → HasMark log node colour mark
+    pub mark_same : (colour : ℕ) (mark : Mark) → HasMark other mate colour mark → HasMark log node colour mark
     mark_same colour mark h =
         let q = its_row h.0 h.1 in (
           q.0,
@@ -92,7 +92,7 @@ module _ (script : Script) (fits : IsFitting script) (n : ℕ) (log other : Log)
               (sym (ap (λ (k : RowReport). k.marks) q.2)) h.2,
         )
 
-    outcome_same : (outcome : Outcome) → HasOutcome other mate outcome → HasOutcome log node outcome
+    pub outcome_same : (outcome : Outcome) → HasOutcome other mate outcome → HasOutcome log node outcome
     outcome_same outcome h =
         let q = its_row h.0 h.1 in (q.0, q.1, ap (λ (k : RowReport). k.last) q.2 ∙ h.2)
 
@@ -170,7 +170,7 @@ module _ (script : Script) (fits : IsFitting script) (n : ℕ) (log other : Log)
         entered_by : Id → ℕ → Counts → Option Entry
         entered_by i f w = Some (record { by = n; event = Single i f w; stamp = stamp })
 
-    begins_same : (places ours : ℕ → List ℕ) → NamesSteps log who a ours
+    pub begins_same : (places ours : ℕ → List ℕ) → NamesSteps log who a ours
         → BeginsRow other (with_room who b) b mate places → BeginsRow log (with_room who a) a node ours
     begins_same places ours named g =
         let q = its_row g.row g.begun in record {
@@ -218,7 +218,7 @@ module _ (script : Script) (fits : IsFitting script) (n : ℕ) (log other : Log)
 
     -- STOPS
 
-    settled_same : (colour : ℕ) → colour < script.shape.colours → IsSettledIn other (with_room who b) mate colour
+    pub settled_same : (colour : ℕ) → colour < script.shape.colours → IsSettledIn other (with_room who b) mate colour
         → IsSettledIn log (with_room who a) node colour
     settled_same colour lt e =
         let h = histories who.own colour (home, lt) in (

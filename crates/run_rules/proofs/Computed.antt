@@ -1,21 +1,19 @@
 -- The account that is computed of a report keeps the first rules where some told account does.
-use Rattle.std.proofs.Common.{◌≡◌, ◌∙◌, refl, ap, sym, subst, ℕ, ◌<◌, ◌≤◌, List, [], ◌∷◌, map, Some, inl, inr, arith}
+use Rattle.std.proofs.Common.{◌≡◌, ◌∙◌, refl, ap, sym, subst, ℕ, suc, ◌<◌, ◌≤◌, List, [], ◌∷◌, map, Some, inl, inr, arith}
 use Rattle.std.specs.Prelude.{◌==◌, ◌&&◌, slice_get}
 use Rattle.std.specs.List.{All, AllZip, Contains, range_with_len}
-use Rattle.std.specs.List.Sorted.{IsNonDecreasing}
 use Rattle.std.proofs.lemmas.Bool.{eqb-true}
 use Rattle.std.proofs.lemmas.List.Elements.{All-nil, All-cons}
 use Rattle.log_node.specs.declared.node.Node.{Node}
+use Rattle.log_node.specs.declared.forms.Version.{Version}
 use Rattle.col_core.specs.declared.Entry.{Entry}
 use Rattle.col_core.specs.Log.{Log, places_of}
-use Rattle.col_core.specs.Rows.{BegunRow}
 use Rattle.col_core.specs.Keeping.{Kept, nothing_kept}
 use Rattle.col_core.proofs.CallerLemmas.{In, both, by_test, if_false, in_flat_map, in_map, in_map-back, in_range}
 use Rattle.script_text.specs.declared.script.Command.{Command}
 use Rattle.script_text.specs.declared.script.Script.{Script}
 use Rattle.script_text.specs.Fitting.{IsFitting}
 use Rattle.report_text.specs.declared.report.ReplyLine.{ReplyLine}
-use Rattle.report_text.specs.declared.report.RowReport.{RowReport}
 use Rattle.report_text.specs.declared.report.ColumnReport.{ColumnReport}
 use Rattle.report_text.specs.declared.report.ClientReport.{ClientReport}
 use Rattle.report_text.specs.declared.report.Report.{Report}
@@ -23,21 +21,22 @@ use Rattle.lawful_run.specs.Callers.{Caller, caller_of, commands_of}
 use Rattle.lawful_run.specs.Columns.{column_numbers, row_report}
 use Rattle.run_rules.specs.Told.{Step, Account, IsTold, kept_at, kept_past}
 use Rattle.run_rules.specs.Printed.{printed_all}
-use Rattle.run_rules.specs.Telling.{IsWellFormed, account_of, journal_among, no_nodes, places_shown, replies_in, replies_to, step_of, step_places, steps_of, last_of_steps}
+use Rattle.run_rules.specs.Telling.{IsWellFormed, journal_among, no_nodes, places_shown, replies_in, replies_to, FindKeys, account_with, step_finding, step_places, steps_finding, last_finding}
 use Rattle.run_rules.specs.Naming.{Names}
-use Rattle.run_rules.specs.Rules.{IsReplyTo, Rule1, Rule4}
-use Rattle.run_rules.specs.Keeping.{one, two, three, four}
+use Rattle.run_rules.specs.Rules.{Rule1, Rule3, Rule4}
+use Rattle.run_rules.specs.Keeping.{RulesTo, one, two, three, four}
 use Rattle.run_rules.specs.Agreeing.{HasColumn, KeepSame, AreStepsAlike, Agree}
-use Rattle.run_rules.specs.Laws.{ComputedAccountAgrees, ComputedAccountKeeps}
-use Rattle.run_rules.proofs.Lists.{map_map, zip_onto}
+use Rattle.run_rules.specs.Laws.{ComputedAccountAgrees, ComputedAccountKeeps, FindsKeep}
+use Rattle.run_rules.proofs.Lists.{zip_onto}
 use Rattle.run_rules.proofs.Numbers.{rule1, rule2, rule3, rule4}
 use Rattle.run_rules.proofs.Reached.{home_within}
 use Rattle.run_rules.proofs.SameKept.{before_same}
 use Rattle.run_rules.proofs.LeftOut.{Obeys, printed_by}
-use Rattle.run_rules.proofs.NamesAlike.{can_same, names_same}
+use Rattle.run_rules.proofs.NamesAlike.{names_same}
+use Rattle.run_rules.proofs.FirstAlike.{first_alike}
 use Rattle.run_rules.proofs.OneAccount.{histories_alike, rows_alike, obeys, step_with}
 use Rattle.run_rules.proofs.ComputedSteps.{computed_alike}
-use Rattle.run_rules.proofs.ReportsTell.{reports_tell}
+use Rattle.run_rules.proofs.ReportsTell.{finds_tell, unnamed_account, unnamed_by, unnamed_keys}
 use Rattle.run_rules.proofs.RowsTold.{third}
 
 -- BEYOND THE SHAPE
@@ -72,20 +71,21 @@ HasNoneBeyond script step = (c : ℕ) → script.shape.colours ≤ c → step.un
 
 none_beyond : (script : Script) (log : Log) (caller : Caller) (shown : ℕ → ℕ → List ℕ)
     → ((c : ℕ) → script.shape.colours ≤ c → log.histories caller.own c ≡ [])
-    → (kept : Kept) (cs : List Command) (rs : List ReplyLine)
-    → All (HasNoneBeyond script) (steps_of log caller shown kept cs rs)
-none_beyond script log caller shown empty kept [] rs = All-nil (HasNoneBeyond script)
-none_beyond script log caller shown empty kept (c ∷ cs) [] = All-nil (HasNoneBeyond script)
-none_beyond script log caller shown empty kept (c ∷ cs) (r ∷ rs) =
-    let step = step_of log caller shown kept c r in
-    All-cons (HasNoneBeyond script) step (steps_of log caller shown (kept_past log caller step) cs rs)
+    → (found : ℕ → List Version) (kept : Kept) (cs : List Command) (rs : List ReplyLine)
+    → All (HasNoneBeyond script) (steps_finding log caller shown found kept cs rs)
+none_beyond script log caller shown empty found kept [] rs = All-nil (HasNoneBeyond script)
+none_beyond script log caller shown empty found kept (c ∷ cs) [] = All-nil (HasNoneBeyond script)
+none_beyond script log caller shown empty found kept (c ∷ cs) (r ∷ rs) =
+    let step = step_finding log caller shown (found 0) kept c r in
+    All-cons (HasNoneBeyond script) step
+    (steps_finding log caller shown (λ k. found (suc k)) (kept_past log caller step) cs rs)
     (λ colour le. ap (step_places caller.client (record { client = caller.client; count = (kept_at step).ids })
     (shown caller.own colour)) (empty colour le))
-    (none_beyond script log caller shown empty (kept_past log caller step) cs rs)
+    (none_beyond script log caller shown empty (λ k. found (suc k)) (kept_past log caller step) cs rs)
 
 -- STEPS
 
--- what rules 1 and 4 say of a step is so of one that is alike
+-- what rule 4 says of a step is so of one that is alike
 module _ (script : Script) (fits : IsFitting script) (n : ℕ) (one two : Log)
     (histories : (r c : ℕ) → HasColumn script r c → one.histories r c ≡ two.histories r c)
     (home : (caller_of script n).own < script.shape.regions)
@@ -93,16 +93,6 @@ module _ (script : Script) (fits : IsFitting script) (n : ℕ) (one two : Log)
     ≡ map (row_report (caller_of script n).own) (two.rows (caller_of script n).own)) where
   abbrev who : Caller
   who = caller_of script n
-
-  step_replies : (x y : Step) → AreStepsAlike script who x y → IsReplyTo who x → IsReplyTo who y
-  step_replies x y r reply =
-      let z : Step = record { command = x.command; reply = x.reply; kept = y.kept; untold = y.untold } in
-      subst (IsReplyTo who) (sym (step_with y x.command x.reply r.command r.reply)) (record {
-        line = reply.line;
-        word = reply.word;
-        answer = can_same script who x.command.what x.reply.nodes (before_same script r.kept x.command.what) x.reply.answer
-            reply.answer;
-      })
 
   abbrev NamesAt : Log → Step → Type 0
   NamesAt log s = Names log s.untold who (kept_at s) s.command.what s.reply.answer
@@ -116,14 +106,15 @@ module _ (script : Script) (fits : IsFitting script) (n : ℕ) (one two : Log)
 
 -- ACCOUNTS
 
-module _ (script : Script) (report : Report) (nodes : ℕ → List Node) (a : Account) (fits : IsFitting script)
-    (well : IsWellFormed script report) (ta : IsTold script report a) (a1 : Rule1 script report a)
-    (a4 : Rule4 script report a) where
+module _ (script : Script) (report : Report) (nodes : ℕ → List Node) (found : ℕ → ℕ → List Version) (a : Account)
+    (fits : IsFitting script) (well : IsWellFormed script report)
+    (keys : (n : ℕ) (c : ClientReport) → slice_get report.clients n ≡ Some c → FindKeys (found n) c.replies)
+    (ta : IsTold script report a) (a1 : Rule1 script report a) (a4 : Rule4 script report a) where
   abbrev b : Account
-  b = account_of script report nodes
+  b = account_with script report nodes found
 
   tb : IsTold script report b
-  tb = reports_tell script report nodes well
+  tb = finds_tell script report nodes found well keys
 
   alike : (r c : ℕ) → HasColumn script r c → a.log.histories r c ≡ b.log.histories r c
   alike = histories_alike script report a b ta tb a1
@@ -146,9 +137,9 @@ module _ (script : Script) (report : Report) (nodes : ℕ → List Node) (a : Ac
     abbrev ends : List Command → List ReplyLine → Type 0
     ends cs rs =
         AllZip (AreStepsAlike script (caller_of script n)) (a.steps n)
-        (steps_of b.log (caller_of script n) (places_shown script report n) nothing_kept cs rs)
+        (steps_finding b.log (caller_of script n) (places_shown script report n) (found n) nothing_kept cs rs)
         × KeepSame script (a.last n)
-        (last_of_steps b.log (caller_of script n) (places_shown script report n) nothing_kept cs rs)
+        (last_finding b.log (caller_of script n) (places_shown script report n) (found n) nothing_kept cs rs)
 
     client_alike : ends (commands_of script n) (replies_to report n)
     client_alike =
@@ -171,21 +162,15 @@ module _ (script : Script) (report : Report) (nodes : ℕ → List Node) (a : Ac
         (λ r k p has. (
           λ i. subst (In p) (shown_is r k) i,
           λ i. inr (subst (In p) (sym (shown_is r k)) i),
-        ))))
+        ))
+        (found n) (subst (FindKeys (found n)) (sym (ta.clients n c there).replied) (keys n c there))))
 
     beyond : All (HasNoneBeyond script) (b.steps n)
     beyond =
         none_beyond script b.log (caller_of script n) (places_shown script report n)
         (λ k le. journal_none report.columns (caller_of script n).own k (λ d i e.
         let l = column_within script report a1.columns d i in let f : ⊥ = omega (arith, l, le, e) in f))
-        nothing_kept (commands_of script n) (replies_to report n)
-
-    replies : All (IsReplyTo (caller_of script n)) (b.steps n)
-    replies =
-        zip_onto {R = AreStepsAlike script (caller_of script n)} {P = IsReplyTo (caller_of script n)}
-        {Q = HasNoneBeyond script} {S = IsReplyTo (caller_of script n)} (a.steps n) (b.steps n) client_alike.0
-        (a1.replies n c there) beyond
-        (λ x y r p q. step_replies script fits n a.log b.log alike own (its_rows (caller_of script n).own own) x y r p)
+        (found n) nothing_kept (commands_of script n) (replies_to report n)
 
     named : All (λ (s : Step). Names b.log s.untold (caller_of script n) (kept_at s) s.command.what s.reply.answer) (b.steps n)
     named =
@@ -203,22 +188,8 @@ module _ (script : Script) (report : Report) (nodes : ℕ → List Node) (a : Ac
     last = λ n c there. (client_alike n c there).1;
   }
 
-  clients_shown : (region : ℕ) (rows : List BegunRow) → map (λ (q : RowReport). q.row.client) (map (row_report region) rows)
-      ≡ map (λ (r : BegunRow). r.row.client) rows
-  clients_shown region rows = map_map (λ (q : RowReport). q.row.client) (row_report region) rows
-
   first : Rule1 script report b
-  first = record {
-    version = a1.version;
-    names = a1.names;
-    replies = replies;
-    columns = a1.columns;
-    named = a1.named;
-    by_client = λ region lt. subst IsNonDecreasing
-        (sym (clients_shown region (a.log.rows region))
-        ∙ (ap (map (λ (q : RowReport). q.row.client)) (its_rows region lt) ∙ clients_shown region (b.log.rows region)))
-        (a1.by_client region lt);
-  }
+  first = first_alike script report a b ta tb a1
 
   fourth : Rule4 script report b
   fourth = record {
@@ -230,16 +201,23 @@ module _ (script : Script) (report : Report) (nodes : ℕ → List Node) (a : Ac
         a4.helpers r k e lr lk (subst (λ (h : List Entry). Contains h e) (sym (alike r k (lr, lk))) among) help;
   }
 
-pub computed_account_agrees : ComputedAccountAgrees
-computed_account_agrees script report nodes account fits well told rules =
+pub finds_agree_too : FindsKeep
+finds_agree_too script report nodes found account fits well keys told rules =
     let a1 = rule1 rules.0.0.0.1 in
     let a4 = rule4 rules.1 in (
-      computed_agrees script report nodes account fits well told a1 a4,
+      computed_agrees script report nodes found account fits well keys told a1 a4,
       λ third. (
-        (((tt, one (first script report nodes account fits well told a1 a4)), two (rule2 rules.0.0.1)), three third),
-        four (fourth script report nodes account fits well told a1 a4),
+        (((tt, one (first script report nodes found account fits well keys told a1 a4)), two (rule2 rules.0.0.1)), three third),
+        four (fourth script report nodes found account fits well keys told a1 a4),
       ),
     )
+
+pub computed_account_agrees : ComputedAccountAgrees
+computed_account_agrees script report nodes account fits well told rules =
+    subst (λ (b : Account). Agree script report account b × (Rule3 script b → RulesTo script report b 4))
+    (unnamed_account script report nodes)
+    (finds_agree_too script report nodes (λ n. unnamed_by (replies_to report n)) account fits well (λ n c there.
+    subst (FindKeys (unnamed_by (replies_to report n))) (ap replies_in there) (unnamed_keys (replies_to report n))) told rules)
 
 pub computed_account_keeps : ComputedAccountKeeps
 computed_account_keeps script report account fits well told rules =

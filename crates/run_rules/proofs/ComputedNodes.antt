@@ -6,6 +6,7 @@ use Rattle.std.proofs.lemmas.List.{length-map}
 use Rattle.std.proofs.lemmas.List.Elements.{All-contains}
 use Rattle.log_node.specs.declared.ids.Id.{Id}
 use Rattle.log_node.specs.declared.node.Node.{Node}
+use Rattle.log_node.specs.declared.forms.Version.{Version}
 use Rattle.log_node.specs.declared.ids.Counts.{Counts}
 use Rattle.log_node.specs.Order.{same_id}
 use Rattle.log_node.specs.Sets.{members}
@@ -31,14 +32,14 @@ use Rattle.lawful_run.specs.Callers.{Caller, caller_of}
 use Rattle.lawful_run.specs.Columns.{IsClientIn, row_report}
 use Rattle.lawful_run.specs.Reads.{events_until}
 use Rattle.run_rules.specs.Told.{Step, Account, IsTold, OfEachStep, colours_asked, kept_at}
-use Rattle.run_rules.specs.Telling.{IsWellFormed, account_of, node_or}
+use Rattle.run_rules.specs.Telling.{FindKeys, IsWellFormed, account_with, node_or, replies_in, replies_to}
 use Rattle.run_rules.specs.Answering.{HasPoints, CanHave, CanEnd}
 use Rattle.run_rules.specs.Rules.{EntersAsNode, HasOwnNodes, Rule1, Rule3, Rule4, Rule5, UsesEnd, UsesNode}
 use Rattle.run_rules.specs.Nodes.{HasItsNode, HasItsNodes, HasNodeAtEnd}
 use Rattle.run_rules.specs.Keeping.{RulesTo, five}
 use Rattle.run_rules.specs.Agreeing.{HasColumn, KeepSame, AreStepsAlike, AreNodesAlike, Agree}
-use Rattle.run_rules.specs.Laws.{ComputedAccountDecides}
-use Rattle.run_rules.proofs.Lists.{zip_onto}
+use Rattle.run_rules.specs.Laws.{ComputedAccountDecides, FindsDecide}
+use Rattle.run_rules.proofs.Lists.{zip_at, zip_onto}
 use Rattle.run_rules.proofs.Numbers.{rule1, rule3, rule4, rule5, rules_fewer}
 use Rattle.run_rules.proofs.Reached.{home_within}
 use Rattle.run_rules.proofs.SameKept.{before_same}
@@ -48,9 +49,9 @@ use Rattle.run_rules.proofs.OneAccount.{obeys, step_with}
 use Rattle.run_rules.proofs.NodesAlike.{Uses, nodes_agree}
 use Rattle.run_rules.proofs.MarksWithin.{shown_client}
 use Rattle.run_rules.proofs.RowsTold.{IsRowBeside, filter_mapped, row_with, rows_are, third_beside, told_of}
-use Rattle.run_rules.proofs.ReportsTell.{reports_tell}
+use Rattle.run_rules.proofs.ReportsTell.{finds_tell, unnamed_account, unnamed_by, unnamed_keys}
 use Rattle.run_rules.proofs.RulesAlike.{one_account_decides}
-use Rattle.run_rules.proofs.Computed.{computed_account_agrees}
+use Rattle.run_rules.proofs.Computed.{finds_agree_too}
 
 -- STEPS
 
@@ -123,23 +124,16 @@ module _ (script : Script) (fits : IsFitting script) (n : ℕ) (one two : Log)
 
 -- NODES
 
--- what stands beside an item
-zip_at : {A : Type 0} (R : A → A → Type 0) (xs ys : List A) → AllZip R xs ys → (i : ℕ) (x : A) → slice_get xs i ≡ Some x
-    → (y : A) × (slice_get ys i ≡ Some y) × R x y
-zip_at R [] ys r i x e = absurd (let f : ⊥ = cc (e) in f)
-zip_at R (z ∷ zs) [] r i x e = absurd r
-zip_at {A} R (z ∷ zs) (y ∷ ys) r zero x e =
-    let same : z ≡ x = cc (e) in (y, refl, subst (λ (v : A). R v y) same r.0)
-zip_at R (z ∷ zs) (y ∷ ys) r (suc i) x e = zip_at R zs ys r.1 i x e
-
-module _ (script : Script) (report : Report) (nodes : ℕ → List Node) (a : Account) (fits : IsFitting script)
-    (well : IsWellFormed script report) (ta : IsTold script report a) (rules : RulesTo script report a 5)
-    (its : HasItsNodes script report (account_of script report nodes)) where
+module _ (script : Script) (report : Report) (nodes : ℕ → List Node) (finds : ℕ → ℕ → List Version) (a : Account)
+    (fits : IsFitting script) (well : IsWellFormed script report)
+    (keys : (n : ℕ) (c : ClientReport) → slice_get report.clients n ≡ Some c → FindKeys (finds n) c.replies)
+    (ta : IsTold script report a) (rules : RulesTo script report a 5)
+    (its : HasItsNodes script report (account_with script report nodes finds)) where
   abbrev b : Account
-  b = account_of script report nodes
+  b = account_with script report nodes finds
 
   tb : IsTold script report b
-  tb = reports_tell script report nodes well
+  tb = finds_tell script report nodes finds well keys
 
   a1 : Rule1 script report a
   a1 = rule1 rules.0.0.0.0.1
@@ -154,7 +148,7 @@ module _ (script : Script) (report : Report) (nodes : ℕ → List Node) (a : Ac
   a5 = rule5 rules.1
 
   agree : Agree script report a b
-  agree = (computed_account_agrees script report nodes a fits well ta rules.0).0
+  agree = (finds_agree_too script report nodes finds a fits well keys ta rules.0).0
 
   own : (n : ℕ) (c : ClientReport) → slice_get report.clients n ≡ Some c → (caller_of script n).own < script.shape.regions
   own = home_within script report fits a1.names
@@ -250,14 +244,30 @@ module _ (script : Script) (report : Report) (nodes : ℕ → List Node) (a : Ac
             (there_now region lt m.0 m.1));
       }
 
+  third : Rule3 script b
+  third = let r = third_beside script report nodes a well ta a1 a3 beside in record {
+    of_clients = r.of_clients;
+    lawful = r.lawful;
+    marked = r.marked;
+    copies = r.copies;
+  }
+
   to_five : RulesTo script report b 5
   to_five = (
-    (computed_account_agrees script report nodes a fits well ta rules.0).1
-        (third_beside script report nodes a well ta a1 a3 beside),
+    (finds_agree_too script report nodes finds a fits well keys ta rules.0).1 third,
     five (record { used = used; own = own_nodes }),
   )
 
+pub finds_decide : FindsDecide
+finds_decide script report nodes finds fits well keys its n least most keeps =
+    one_account_decides script report (account_with script report nodes finds) fits
+    (finds_tell script report nodes finds well keys)
+    (to_five script report nodes finds keeps.0 fits well keys keeps.1 (rules_fewer script report keeps.0 n 5 least keeps.2) its)
+    n most keeps
+
 pub computed_account_decides : ComputedAccountDecides
 computed_account_decides script report nodes fits well its n least most keeps =
-    one_account_decides script report (account_of script report nodes) fits (reports_tell script report nodes well)
-    (to_five script report nodes keeps.0 fits well keeps.1 (rules_fewer script report keeps.0 n 5 least keeps.2) its) n most keeps
+    subst (λ (b : Account). RulesTo script report b n) (unnamed_account script report nodes)
+    (finds_decide script report nodes (λ m. unnamed_by (replies_to report m)) fits well (λ m c there.
+    subst (FindKeys (unnamed_by (replies_to report m))) (ap replies_in there) (unnamed_keys (replies_to report m)))
+    (subst (HasItsNodes script report) (sym (unnamed_account script report nodes)) its) n least most keeps)

@@ -1,9 +1,10 @@
 -- The steps that are computed of a report are those of each account at which the first rules hold.
-use Rattle.std.proofs.Common.{◌≡◌, ◌∙◌, refl, ap, sym, subst, Bool, true, false, ℕ, ◌+◌, ◌<◌, ◌≤◌, List, [], ◌∷◌, ◌++◌, map, Option, Some, None, ◌⊎◌, inl, inr, arith, append_assoc}
+use Rattle.std.proofs.Common.{◌≡◌, ◌∙◌, refl, ap, sym, subst, Bool, true, false, ℕ, suc, ◌+◌, ◌<◌, ◌≤◌, List, [], ◌∷◌, ◌++◌, map, Option, Some, None, ◌⊎◌, inl, inr, arith, append_assoc}
 use Rattle.std.specs.Prelude.{◌==◌, ◌&&◌, not, nat_le, nat_lt, IsTrue, slice_get}
 use Rattle.std.specs.List.{All, AllZip, filter}
 use Rattle.std.proofs.lemmas.Bool.{and_from, and_left, and_right, eqb-true, eq-eqb, false_from_ne_true, not_from_true, not_from_false, lt-ltb, le-leb, le-ltb, lt-leb, or_cases}
 use Rattle.std.proofs.lemmas.List.Elements.{All-head, All-tail}
+use Rattle.log_node.specs.declared.forms.Version.{Version}
 use Rattle.log_node.specs.declared.ids.Id.{Id}
 use Rattle.log_node.specs.Order.{same_id}
 use Rattle.col_core.specs.declared.Event as events
@@ -23,9 +24,9 @@ use Rattle.lawful_run.specs.Callers.{Caller, caller_of}
 use Rattle.lawful_run.specs.Columns.{row_report}
 use Rattle.lawful_run.specs.Reads.{events_until}
 use Rattle.lawful_run.proofs.CallerLemmas.{before_is}
-use Rattle.run_rules.specs.Told.{Untold, Step, Follow, is_several, kept_at, kept_past}
+use Rattle.run_rules.specs.Told.{AreKeysFound, Untold, Step, Follow, is_several, kept_at, kept_past}
 use Rattle.run_rules.specs.Printed.{only_at, printed, printed_at}
-use Rattle.run_rules.specs.Telling.{is_step_of, is_step_at, is_among, step_places, low_told, step_of, steps_of, last_of_steps}
+use Rattle.run_rules.specs.Telling.{is_step_of, is_step_at, is_among, step_places, low_told, FindKeys, step_finding, steps_finding, last_finding}
 use Rattle.run_rules.specs.Naming.{GivesTo}
 use Rattle.run_rules.specs.Shown.{begins_row}
 use Rattle.run_rules.specs.Agreeing.{HasColumn, KeepSame, AreStepsAlike, IsPulled, began_row}
@@ -35,7 +36,6 @@ use Rattle.run_rules.proofs.Growing.{row_part, low_part, step_part, steps_part, 
 use Rattle.run_rules.proofs.SameKept.{before_same}
 use Rattle.run_rules.proofs.SameKept.{behind_same as behind_kept}
 use Rattle.run_rules.proofs.ToldAlike.{told_same}
-use Rattle.run_rules.proofs.ReportsTell.{keys_unnamed}
 use Rattle.run_rules.proofs.OneAccount.{pull_asked, pulled_part}
 use Rattle.run_rules.proofs.LeftOut.{IsLeftOut, Obeys, StandsLeftOut, by_parts, ids_at, in_row, low_gives, no_give, no_low, not_later, one_id, own_part, parts_in, printed_by, row_step, same_entry}
 
@@ -354,9 +354,9 @@ module _ (script : Script) (fits : IsFitting script) (n : ℕ)
           ∙ filter_stretch its (kept.made who.own c) (x.untold.places c) behind_row before here behind
 
     -- the step that is computed, of a client that keeps the same
-    module _ (l : Kept) (same : KeepSame script kept l) where
+    module _ (l : Kept) (same : KeepSame script kept l) (f : List Version) (f_keys : AreKeysFound f x.reply.answer) where
       abbrev y : Step
-      y = step_of two who shown l x.command x.reply
+      y = step_finding two who shown f l x.command x.reply
 
       start : KeepSame script x.kept l
       start = subst (λ (k : Kept). KeepSame script k l) (sym follow.0) same
@@ -409,20 +409,24 @@ module _ (script : Script) (fits : IsFitting script) (n : ℕ)
       past_same =
           behind_kept script (told_same script fits n one two histories home rows x.command.what o.within x.untold y.untold
           (kept_at x) (kept_at y) at_both x.reply.nodes x.reply.answer o.can (λ t c has. places_same t c has.1) lows_same
-          o.keys (keys_unnamed x.reply.answer)) x.command.what
+          o.keys f_keys) x.command.what
 
   -- steps one after another
   pub computed_alike : (xs : List Step) (kept l : Kept) → All (Obeys script one who) xs → Follow one who kept xs last
       → KeepSame script kept l → MadeBefore kept → AreShown kept xs
+      → (found : ℕ → List Version) → FindKeys found (map (λ (s : Step). s.reply) xs)
       → AllZip (AreStepsAlike script who) xs
-      (steps_of two who shown l (map (λ (s : Step). s.command) xs) (map (λ (s : Step). s.reply) xs))
+      (steps_finding two who shown found l (map (λ (s : Step). s.command) xs) (map (λ (s : Step). s.reply) xs))
       × KeepSame script last
-      (last_of_steps two who shown l (map (λ (s : Step). s.command) xs) (map (λ (s : Step). s.reply) xs))
-  computed_alike [] kept l o follow same made are = (tt, subst (λ (k : Kept). KeepSame script k l) (sym follow) same)
-  computed_alike (x ∷ xs) kept l o follow same made are =
+      (last_finding two who shown found l (map (λ (s : Step). s.command) xs) (map (λ (s : Step). s.reply) xs))
+  computed_alike [] kept l o follow same made are found keys =
+      (tt, subst (λ (k : Kept). KeepSame script k l) (sym follow) same)
+  computed_alike (x ∷ xs) kept l o follow same made are found keys =
       let head = All-head (Obeys script one who) x xs o in
       let tail = All-tail (Obeys script one who) x xs o in
-      let rest = computed_alike xs (kept_past one who x) (kept_past two who (step_of two who shown l x.command x.reply)) tail
-      follow.1 (past_same x xs kept head tail follow made are l same) (past_before x xs kept head tail follow made are)
-      (past_shown x xs kept head tail follow made are) in
-      ((steps_same x xs kept head tail follow made are l same, rest.0), rest.1)
+      let rest = computed_alike xs (kept_past one who x)
+      (kept_past two who (step_finding two who shown (found 0) l x.command x.reply)) tail
+      follow.1 (past_same x xs kept head tail follow made are l same (found 0) keys.0)
+      (past_before x xs kept head tail follow made are)
+      (past_shown x xs kept head tail follow made are) (λ k. found (suc k)) keys.1 in
+      ((steps_same x xs kept head tail follow made are l same (found 0) keys.0, rest.0), rest.1)

@@ -55,7 +55,7 @@ in_if : (b : Bool) (xs : List ℕ) (p : ℕ) → In p (cond b xs []) → (b ≡ 
 in_if true xs p i = (refl, i)
 in_if false xs p i = absurd i
 
-in_only : (region colour : ℕ) (xs : List ℕ) (r c p : ℕ) → In p (only_at region colour xs r c)
+pub in_only : (region colour : ℕ) (xs : List ℕ) (r c p : ℕ) → In p (only_at region colour xs r c)
     → (r ≡ region) × (c ≡ colour) × In p xs
 in_only region colour xs r c p i =
     let x = in_choice (r == region) (updated (nowhere 0) colour xs) c p i in

@@ -1,5 +1,5 @@
 -- Facts on lists.
-use Rattle.std.proofs.Common.{◌≡◌, ℕ, suc, Bool, true, false, List, [], ◌∷◌, ◌++◌, map, Some, None, refl, ap, sym, ◌∙◌, ◌⊎◌, inl, inr, arith, append-nil, cond}
+use Rattle.std.proofs.Common.{◌≡◌, ℕ, zero, suc, Bool, true, false, List, [], ◌∷◌, ◌++◌, map, Some, None, refl, ap, sym, ◌∙◌, ◌⊎◌, inl, inr, arith, append-nil, cond, subst}
 use Rattle.std.specs.Prelude.{◌≢◌, slice_get}
 use Rattle.std.specs.List.{All, AllPairs, AllZip, filter, find}
 use Rattle.std.proofs.lemmas.List.Elements.{All-nil, All-cons, All-head, All-tail, All-contains}
@@ -101,3 +101,12 @@ all_mapped P f (x ∷ xs) all =
 -- what holds of each item holds of one at a place
 pub all_at : {A : Type 0} (P : A → Type 0) (xs : List A) (k : ℕ) (x : A) → slice_get xs k ≡ Some x → All P xs → P x
 all_at P xs k x e all = All-contains P xs x all (contains_in xs x (slice_in xs k x e))
+
+-- what stands beside an item
+pub zip_at : {A : Type 0} (R : A → A → Type 0) (xs ys : List A) → AllZip R xs ys → (i : ℕ) (x : A) → slice_get xs i ≡ Some x
+    → (y : A) × (slice_get ys i ≡ Some y) × R x y
+zip_at R [] ys r i x e = absurd (let f : ⊥ = cc (e) in f)
+zip_at R (z ∷ zs) [] r i x e = absurd r
+zip_at {A} R (z ∷ zs) (y ∷ ys) r zero x e =
+    let same : z ≡ x = cc (e) in (y, refl, subst (λ (v : A). R v y) same r.0)
+zip_at R (z ∷ zs) (y ∷ ys) r (suc i) x e = zip_at R zs ys r.1 i x e

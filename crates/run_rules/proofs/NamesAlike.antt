@@ -1,6 +1,6 @@
 -- Of two clients that keep the same the one's answer can be the other's, and names what is there where the other's does.
 use Rattle.std.proofs.Common.{◌≡◌, ◌∙◌, refl, ap, sym, subst, ℕ, zero, suc, ◌<◌, ◌≤◌, List, [], ◌∷◌, length, map, take, Option, Some, None, ◌⊎◌, inl, inr}
-use Rattle.std.specs.Prelude.{IsTrue, slice_get}
+use Rattle.std.specs.Prelude.{IsTrue, nat_lt, slice_get}
 use Rattle.std.specs.List.{All, Contains}
 use Rattle.std.proofs.lemmas.Bool.{cases_lt}
 use Rattle.std.proofs.lemmas.List.Elements.{All-nil, All-contains}
@@ -37,25 +37,27 @@ use Rattle.run_rules.specs.Shown.{is_row, begins_row}
 use Rattle.run_rules.specs.Agreeing.{HasColumn, KeepSame, IsPulled}
 use Rattle.run_rules.proofs.Reached.{Below, kind_within, synced_within}
 use Rattle.run_rules.proofs.SameKept.{place_same, piece_same}
-use Rattle.run_rules.proofs.ToldAlike.{asked_same, several_same, mapped_below, points_below, one_below, got_below, decide_below, behind_same, deciding_same}
+use Rattle.run_rules.proofs.ToldAlike.{several_same, mapped_below, points_below, one_below, got_below, decide_below, behind_same, deciding_same}
 
--- an answer that a command can have it can have too where its client keeps the same
-pub can_same : (script : Script) (caller : Caller) (what : What) (nodes : List PlacedNode) {a b : Kept} → KeepSame script a b
+-- an answer that a command can have it can have too where its client appends on the same colours
+pub can_alike : (caller : Caller) (what : What) (nodes : List PlacedNode) (a b : Kept)
+    → colours_asked caller a what ≡ colours_asked caller b what
     → (answer : Answer) → CanHave caller a what nodes answer → CanHave caller b what nodes answer
-can_same script caller what nodes s (answers.Stood stamp row points) can =
-    (can.0, can.1, subst (λ (cs : List ℕ). HasPoints cs row points) (asked_same script caller what s) can.2)
-can_same script caller what nodes s (answers.StampEnd colour) can =
-    (can.0, subst (λ (cs : List ℕ). Contains cs colour) (asked_same script caller what s) can.1)
-can_same script caller what nodes s (answers.Full used) can = (can.0, sym (several_same script caller what s) ∙ can.1)
-can_same script caller what nodes s (answers.Ruled conflict stamp row points read_stamp raises syncs) can =
-    (can.0, can.1, subst (λ (cs : List ℕ). HasPoints cs row points) (asked_same script caller what s) can.2, can.3)
-can_same script caller what nodes s (answers.Changed failed stamp row points read_stamp raises syncs) can =
-    (can.0, can.1, subst (λ (cs : List ℕ). HasPoints cs row points) (asked_same script caller what s) can.2, can.3)
-can_same script caller what nodes s (answers.Decided commits stamp sync read_stamp raises syncs ended) can =
-    (can.0, can.1, can.2, can.3, subst (λ (cs : List ℕ). CanEnd cs ended) (asked_same script caller what s) can.4)
-can_same script caller what nodes s (answers.Took value point sync) can =
-    (can.0, can.1, subst (λ (cs : List ℕ). HasPoints cs None (point ∷ [])) (asked_same script caller what s) can.2, can.3)
-can_same script caller what nodes s _ can = can
+can_alike caller what nodes a b s (answers.Stood stamp row points) can =
+    (can.0, can.1, subst (λ (cs : List ℕ). HasPoints cs row points) s can.2)
+can_alike caller what nodes a b s (answers.StampEnd colour) can =
+    (can.0, subst (λ (cs : List ℕ). Contains cs colour) s can.1)
+can_alike caller what nodes a b s (answers.Full used) can =
+    (can.0, sym (ap (λ (cs : List ℕ). nat_lt 1 (length cs)) s) ∙ can.1)
+can_alike caller what nodes a b s (answers.Ruled conflict stamp row points read_stamp raises syncs) can =
+    (can.0, can.1, subst (λ (cs : List ℕ). HasPoints cs row points) s can.2, can.3)
+can_alike caller what nodes a b s (answers.Changed failed stamp row points read_stamp raises syncs) can =
+    (can.0, can.1, subst (λ (cs : List ℕ). HasPoints cs row points) s can.2, can.3)
+can_alike caller what nodes a b s (answers.Decided commits stamp sync read_stamp raises syncs ended) can =
+    (can.0, can.1, can.2, can.3, subst (λ (cs : List ℕ). CanEnd cs ended) s can.4)
+can_alike caller what nodes a b s (answers.Took value point sync) can =
+    (can.0, can.1, subst (λ (cs : List ℕ). HasPoints cs None (point ∷ [])) s can.2, can.3)
+can_alike caller what nodes a b s _ can = can
 
 -- WHAT IS NAMED
 

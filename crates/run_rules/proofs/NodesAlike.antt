@@ -56,13 +56,13 @@ place_ids : (kept : Kept) (region colour : ℕ) (at : At) → (kept_after_place 
 place_ids kept region colour (Event place) = refl
 place_ids kept region colour (Look events) = refl
 
-raises_ids : (caller : Caller) (kept : Kept) (raises : List RaisePiece)
+pub raises_ids : (caller : Caller) (kept : Kept) (raises : List RaisePiece)
     → (kept_after_raises caller kept raises).ids ≡ kept.ids
 raises_ids caller kept [] = refl
 raises_ids caller kept (x ∷ xs) =
     raises_ids caller (kept_after_place kept caller.own x.colour x.at) xs ∙ place_ids kept caller.own x.colour x.at
 
-read_ids : (log : Log) (caller : Caller) (kept : Kept) (stamp : ℕ) (raises : List RaisePiece) (syncs : List SyncPiece)
+pub read_ids : (log : Log) (caller : Caller) (kept : Kept) (stamp : ℕ) (raises : List RaisePiece) (syncs : List SyncPiece)
     → (kept_after_read log caller kept stamp raises syncs).ids ≡ kept.ids
 read_ids log caller kept stamp raises syncs =
     (syncs_keep log caller (kept_after_raises caller kept raises) syncs).0 ∙ raises_ids caller kept raises
@@ -97,16 +97,16 @@ module _ (log : Log) (untold : Untold) (caller : Caller) (kept : Kept) (what : W
   where_uses true n = inr (refl, n refl)
   where_uses false n = inl refl
 
-  pulled_ids : (w : What) (give carry : At) → (kept_pulled untold caller kept w give carry).ids ≡ kept.ids
+  pub pulled_ids : (w : What) (give carry : At) → (kept_pulled untold caller kept w give carry).ids ≡ kept.ids
   pulled_ids (whats.Pull region colour) give (Event place) = refl
   pulled_ids (whats.Pull region colour) give (Look events) = refl
   pulled_ids _ give carry = refl
 
-  trimmed_ids : (w : What) (given : At) → (kept_trimmed caller kept w given).ids ≡ kept.ids
+  pub trimmed_ids : (w : What) (given : At) → (kept_trimmed caller kept w given).ids ≡ kept.ids
   trimmed_ids (whats.Trim colour) given = refl
   trimmed_ids _ given = refl
 
-  found_ids : (u : Use) (found : List Version) (after : Kept) → (with_found u found after).ids ≡ after.ids
+  pub found_ids : (u : Use) (found : List Version) (after : Kept) → (with_found u found after).ids ≡ after.ids
   found_ids (OfObject object Takes) found after = refl
   found_ids _ found after = refl
 
@@ -179,21 +179,20 @@ wants_same f g e (c ∷ cs) =
     ap (λ (x : Counts). x ∷ map f cs) (e c) ∙ ap (λ (xs : List Counts). g c ∷ xs) (wants_same f g e cs)
 
 -- nodes with one place in two lists
-abbrev AlikeAt : List Node → List Node → ℕ → Type 0
-AlikeAt xs ys i =
-    (p : Node) × (q : Node) × (slice_get xs i ≡ Some p) × (slice_get ys i ≡ Some q) × AreNodesAlike p q
+abbrev pub NodesAt : (Node → Node → Type 0) → List Node → List Node → ℕ → Type 0
+NodesAt Q xs ys i = (p : Node) × (q : Node) × (slice_get xs i ≡ Some p) × (slice_get ys i ≡ Some q) × Q p q
 
-all_alike : (xs ys : List Node) → length xs ≡ length ys → ((i : ℕ) → i < length xs → AlikeAt xs ys i)
-    → AllZip AreNodesAlike xs ys
-all_alike [] [] e f = tt
-all_alike [] (y ∷ ys) e f = absurd (let g : ⊥ = omega (arith, e) in g)
-all_alike (x ∷ xs) [] e f = absurd (let g : ⊥ = omega (arith, e) in g)
-all_alike (x ∷ xs) (y ∷ ys) e f =
+pub all_at_places : (Q : Node → Node → Type 0) (xs ys : List Node) → length xs ≡ length ys
+    → ((i : ℕ) → i < length xs → NodesAt Q xs ys i) → AllZip Q xs ys
+all_at_places Q [] [] e f = tt
+all_at_places Q [] (y ∷ ys) e f = absurd (let g : ⊥ = omega (arith, e) in g)
+all_at_places Q (x ∷ xs) [] e f = absurd (let g : ⊥ = omega (arith, e) in g)
+all_at_places Q (x ∷ xs) (y ∷ ys) e f =
     let a = f 0 (omega arith) in
     let p : a.0 ≡ x = let s = a.2 in cc (s) in
     let q : a.1 ≡ y = let s = a.3 in cc (s) in (
-      subst (λ (n : Node). AreNodesAlike n y) p (subst (AreNodesAlike a.0) q a.4),
-      all_alike xs ys (omega (arith, e)) (λ i lt. f (suc i) (omega (arith, lt))),
+      subst (λ (n : Node). Q n y) p (subst (Q a.0) q a.4),
+      all_at_places Q xs ys (omega (arith, e)) (λ i lt. f (suc i) (omega (arith, lt))),
     )
 
 -- nodes of one command, of clients that keep the same
@@ -208,39 +207,30 @@ of_command script caller {a} {b} s x y t u colours = record {
   row = ap (λ (k : ℕ). row_taken caller.client k (members x)) s.rows ∙ ap (row_taken caller.client b.rows) colours;
 }
 
-module _ (script : Script) (caller : Caller) (one two : Log)
-    (over_alike : (x y : Step) → AreStepsAlike script caller x y → Obeys script one caller x
-    → KeepSame script (over one caller x) (over two caller y)) where
-  node_alike : (what : What) {a b : Kept} → KeepSame script a b → HasNode one caller a what → HasNode two caller b what
-      → AlikeAt (one.nodes caller.client) (two.nodes caller.client) a.ids
-  node_alike what {a} {b} s x y =
-      let p = node_of caller a x.0 x.1 in
-      let q = node_of caller b y.0 y.1 in
-      let colours : members x.0 ≡ members y.0 =
-      asked_colours caller a what x.0 x.1 x.2
-      ∙ (asked_same script caller what s ∙ sym (asked_colours caller b what y.0 y.1 y.2)) in (
-        p,
-        q,
-        x.3,
-        ap (slice_get (two.nodes caller.client)) s.ids ∙ y.3,
-        of_command script caller s x.0 y.0 x.1 y.1 colours,
-      )
+-- the nodes that steps use, of steps that are alike
+module _ (script : Script) (caller : Caller) (one two : Log) (Q : Node → Node → Type 0) (R : Step → Step → Type 0)
+    (alike : (x y : Step) → R x y → AreStepsAlike script caller x y)
+    (its_node : (x y : Step) → R x y → Obeys script one caller x → HasNode one caller (over one caller x) x.command.what
+    → HasNode two caller (over two caller y) x.command.what
+    → NodesAt Q (one.nodes caller.client) (two.nodes caller.client) (over one caller x).ids) where
+  abbrev ThereAt : ℕ → Type 0
+  ThereAt i = NodesAt Q (one.nodes caller.client) (two.nodes caller.client) i
 
   -- behind a step as many ids are used by both
-  past_ids : (xs ys : List Step) (k l last latest : Kept) → AllZip (AreStepsAlike script caller) xs ys
+  past_ids : (xs ys : List Step) (k l last latest : Kept) → AllZip R xs ys
       → Follow one caller k xs last → Follow two caller l ys latest → KeepSame script last latest → k.ids ≡ l.ids
   past_ids [] [] k l last latest all fx fy s =
       ap (λ (z : Kept). z.ids) (sym fx) ∙ (s.ids ∙ ap (λ (z : Kept). z.ids) fy)
   past_ids [] (y ∷ ys) k l last latest all fx fy s = absurd all
   past_ids (x ∷ xs) [] k l last latest all fx fy s = absurd all
   past_ids (x ∷ xs) (y ∷ ys) k l last latest all fx fy s =
-      ap (λ (z : Kept). z.ids) (sym fx.0) ∙ (all.0.kept.ids ∙ ap (λ (z : Kept). z.ids) fy.0)
+      ap (λ (z : Kept). z.ids) (sym fx.0) ∙ ((alike x y all.0).kept.ids ∙ ap (λ (z : Kept). z.ids) fy.0)
 
   -- what the steps from here on use
-  nodes_from : (xs ys : List Step) (k l last latest : Kept) → AllZip (AreStepsAlike script caller) xs ys
+  pub nodes_from : (xs ys : List Step) (k l last latest : Kept) → AllZip R xs ys
       → All (Obeys script one caller) xs → All (Uses one caller) xs → All (Uses two caller) ys
       → Follow one caller k xs last → Follow two caller l ys latest → KeepSame script last latest
-      → (i : ℕ) → k.ids ≤ i → i < last.ids → AlikeAt (one.nodes caller.client) (two.nodes caller.client) i
+      → (i : ℕ) → k.ids ≤ i → i < last.ids → ThereAt i
   nodes_from [] ys k l last latest all ox ux uy fx fy s i le lt =
       let e = ap (λ (z : Kept). z.ids) fx in absurd (let g : ⊥ = omega (arith, e, le, lt) in g)
   nodes_from (x ∷ xs) [] k l last latest all ox ux uy fx fy s i le lt = absurd all
@@ -255,19 +245,19 @@ module _ (script : Script) (caller : Caller) (one two : Log)
         ids_of step =
             before_is (λ (z : Kept). z.ids ≡ step.kept.ids) step.command.what step.kept refl (λ object. refl)
 
-        before : KeepSame script (kept_at x) (kept_at y)
-        before = subst (λ (c : Command). KeepSame script (kept_at x) (kept_before c.what y.kept)) all.0.command
-            (before_same script all.0.kept x.command.what)
+        its : AreStepsAlike script caller x y
+        its = alike x y all.0
 
-        alike : KeepSame script (over one caller x) (over two caller y)
-        alike = over_alike x y all.0 (All-head (Obeys script one caller) x xs ox)
+        before : KeepSame script (kept_at x) (kept_at y)
+        before = subst (λ (c : Command). KeepSame script (kept_at x) (kept_before c.what y.kept)) its.command
+            (before_same script its.kept x.command.what)
 
         turn : MayUse one caller (kept_at x) (over one caller x) x.command.what (kept_past one caller x)
             → MayUse two caller (kept_at y) (over two caller y) y.command.what (kept_past two caller y)
             → (kept_past one caller x).ids ≡ (kept_past two caller y).ids
-            → ((kept_past one caller x).ids ≤ i → AlikeAt (one.nodes caller.client) (two.nodes caller.client) i)
+            → ((kept_past one caller x).ids ≤ i → ThereAt i)
             → ((kept_at x).ids < i) ⊎ (i ≤ (kept_at x).ids)
-            → AlikeAt (one.nodes caller.client) (two.nodes caller.client) i
+            → ThereAt i
         turn (inl e) q same more c =
             let f = ids_of x in let g = ap (λ (z : Kept). z.ids) fx.0 in more (omega (arith, e, f, g, le))
         turn (inr e) q same more (inl less) = let f = e.0 in more (omega (arith, f, less))
@@ -278,12 +268,12 @@ module _ (script : Script) (caller : Caller) (one two : Log)
             let h = ap (λ (z : Kept). z.ids) fx.0 in
             let o = over_ids one caller (kept_at x) x.reply.answer in
             let is : (over one caller x).ids ≡ i = omega (arith, g, h, o, le, most) in
-            subst (AlikeAt (one.nodes caller.client) (two.nodes caller.client)) is
-            (node_alike x.command.what alike e.1
-            (subst (λ (c : Command). HasNode two caller (over two caller y) c.what) (sym all.0.command) f.1))
+            subst ThereAt is
+            (its_node x y all.0 (All-head (Obeys script one caller) x xs ox) e.1
+            (subst (λ (c : Command). HasNode two caller (over two caller y) c.what) (sym its.command) f.1))
 
 -- what is kept when a step's node is appended is the same by both
-over_same : (script : Script) (fits : IsFitting script) (n : ℕ) (one two : Log)
+pub over_same : (script : Script) (fits : IsFitting script) (n : ℕ) (one two : Log)
     → ((r c : ℕ) → HasColumn script r c → one.histories r c ≡ two.histories r c)
     → (caller_of script n).own < script.shape.regions
     → map (row_report (caller_of script n).own) (one.rows (caller_of script n).own)
@@ -299,6 +289,23 @@ over_same script fits n one two histories home rows x y alike obeys =
     (appending_same script fits n one two histories home rows x.command.what obeys.within x.untold y.untold (kept_at x)
     (kept_at y) before x.reply.nodes x.reply.answer obeys.can)
 
+-- nodes of one command, of clients that keep the same, are alike
+node_alike : (script : Script) (caller : Caller) (one two : Log) (what : What) {a b : Kept} → KeepSame script a b
+    → HasNode one caller a what → HasNode two caller b what
+    → NodesAt AreNodesAlike (one.nodes caller.client) (two.nodes caller.client) a.ids
+node_alike script caller one two what {a} {b} s x y =
+    let p = node_of caller a x.0 x.1 in
+    let q = node_of caller b y.0 y.1 in
+    let colours : members x.0 ≡ members y.0 =
+    asked_colours caller a what x.0 x.1 x.2
+    ∙ (asked_same script caller what s ∙ sym (asked_colours caller b what y.0 y.1 y.2)) in (
+      p,
+      q,
+      x.3,
+      ap (slice_get (two.nodes caller.client)) s.ids ∙ y.3,
+      of_command script caller s x.0 y.0 x.1 y.1 colours,
+    )
+
 -- accounts that agree have nodes that do, where these are of commands
 pub nodes_agree : (script : Script) (report : Report) (a b : Account) → IsFitting script → IsTold script report a
     → IsTold script report b → Rule1 script report a → Rule4 script report a → Agree script report a b
@@ -310,10 +317,11 @@ nodes_agree script report a b fits ta tb a1 a4 agree uses_a uses_b n c there of_
     let last = agree.last n c there in
     let same = last.ids in
     let home = home_within script report fits a1.names n c there in
-    all_alike (a.log.nodes n) (b.log.nodes n) (of_a ∙ (same ∙ sym of_b))
-    (λ i lt. nodes_from script caller a.log b.log
-    (over_same script fits n a.log b.log agree.histories home (agree.rows caller.own home)) (a.steps n) (b.steps n) _ _
-    (a.last n) (b.last n)
+    all_at_places AreNodesAlike (a.log.nodes n) (b.log.nodes n) (of_a ∙ (same ∙ sym of_b))
+    (λ i lt. nodes_from script caller a.log b.log AreNodesAlike (AreStepsAlike script caller) (λ x y s. s)
+    (λ x y s o p q. node_alike script caller a.log b.log x.command.what
+    (over_same script fits n a.log b.log agree.histories home (agree.rows caller.own home) x y s o) p q)
+    (a.steps n) (b.steps n) _ _ (a.last n) (b.last n)
     (agree.steps n c there) (obeys script fits report a ta a1 a4 n c there) (uses_a n c there)
     (uses_b n c there) (ta.clients n c there).follow
     (tb.clients n c there).follow last i (omega arith) (omega (arith, lt, of_a)))

@@ -97,7 +97,7 @@ module _ (script : Script) (report : Report) where
       (subst (In (region, colour)) (sym columns) i) in
       (m.0, m.1, ap (λ (p : ℕ × ℕ). p.0) m.2, ap (λ (p : ℕ × ℕ). p.1) m.2)
 
-  history_is : (account : Account) → IsTold script report account → (c : ColumnReport) → In c report.columns
+  pub history_is : (account : Account) → IsTold script report account → (c : ColumnReport) → In c report.columns
       → (region colour : ℕ) → c.region ≡ region → c.colour ≡ colour → c.journal ≡ account.log.histories region colour
   history_is account told c i region colour er ec =
       All-contains (λ (x : ColumnReport). x.journal ≡ account.log.histories x.region x.colour) report.columns c

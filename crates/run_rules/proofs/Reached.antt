@@ -191,6 +191,13 @@ module _ (script : Script) (fits : IsFitting script) (n : ℕ) where
     by (OfLog stops) = λ c i. absurd i
     by (OfObject object read) = own_below (kind_of_object it object) (kind_within object)
 
+  -- and so is the shard of a key of an object
+  pub shards_within : (object : ℕ) (key : List ℕ) → shard_of (object_colours (kind_of_object it object)) key < colours
+  shards_within object key =
+      let own = object_colours (kind_of_object it object) in
+      index_below colours fits.shape.a_colour own (sum key % length own)
+      (own_below (kind_of_object it object) (kind_within object))
+
   pub synced_within : (what : What) → IsWithin script.shape.regions colours what → Below colours (colours_synced it what)
   synced_within what w =
       reached_below colours fits.shape.a_colour (object_colours (kind_asked it what)) (asked_below what) (deed_of what).syncs

@@ -1,5 +1,5 @@
 -- A report that is well formed tells an account.
-use Rattle.std.proofs.Common.{◌≡◌, ◌∙◌, ℕ, suc, true, List, [], ◌∷◌, length, map, Option, Some, None, refl, ap, sym, ◌⊎◌, inl, inr, arith, ◌++◌}
+use Rattle.std.proofs.Common.{◌≡◌, ◌∙◌, ℕ, zero, suc, subst, true, List, [], ◌∷◌, length, map, Option, Some, None, refl, ap, sym, ◌⊎◌, inl, inr, arith, ◌++◌}
 use Rattle.std.specs.Prelude.{◌≢◌, ◌==◌, ◌&&◌, slice_get}
 use Rattle.std.specs.List.{All, AllPairs, filter, flat_map, range_with_len}
 use Rattle.std.proofs.lemmas.Bool.{eqb-true, eq-eqb}
@@ -18,11 +18,13 @@ use Rattle.report_text.specs.declared.report.Answer.TheVariants as answers
 use Rattle.report_text.specs.declared.report.ReplyLine.{ReplyLine}
 use Rattle.report_text.specs.declared.report.RowReport.{RowReport}
 use Rattle.report_text.specs.declared.report.ColumnReport.{ColumnReport}
+use Rattle.script_text.specs.declared.script.Script.{Script}
+use Rattle.report_text.specs.declared.report.Report.{Report}
 use Rattle.lawful_run.specs.Callers.{Caller, caller_of, commands_of}
 use Rattle.lawful_run.specs.Columns.{row_report}
-use Rattle.run_rules.specs.Told.{Step, Follow, AreKeysFound, kept_past}
-use Rattle.run_rules.specs.Telling.{journal_among, unnamed, step_of, steps_of, last_of_steps, bare_node, node_or, row_of, is_in, log_of, replies_in, replies_to, places_shown}
-use Rattle.run_rules.specs.Laws.{ReportsTell}
+use Rattle.run_rules.specs.Told.{Step, Follow, AreKeysFound, IsTold, kept_past}
+use Rattle.run_rules.specs.Telling.{FindKeys, account_of, account_with, step_finding, steps_finding, last_finding, journal_among, unnamed, step_of, steps_of, last_of_steps, bare_node, node_or, row_of, is_in, log_of, replies_in, replies_to, places_shown}
+use Rattle.run_rules.specs.Laws.{FindsTell, ReportsTell}
 use Rattle.run_rules.proofs.Lists.{map_map}
 
 -- COLUMNS
@@ -125,42 +127,83 @@ keys_unnamed (answers.Trimmed colour base) = tt
 keys_unnamed (answers.NotHome home) = tt
 keys_unnamed answers.NoMemory = tt
 
+-- what is unnamed
+abbrev pub unnamed_by : List ReplyLine → ℕ → List Version
+unnamed_by [] k = []
+unnamed_by (r ∷ rs) zero = unnamed r.answer
+unnamed_by (r ∷ rs) (suc k) = unnamed_by rs k
+
+pub unnamed_keys : (rs : List ReplyLine) → FindKeys (unnamed_by rs) rs
+unnamed_keys [] = tt
+unnamed_keys (r ∷ rs) = (keys_unnamed r.answer, unnamed_keys rs)
+
+module _ (log : Log) (caller : Caller) (shown : ℕ → ℕ → List ℕ) where
+  pub unnamed_steps : (kept : Kept) (cs : List Command) (rs : List ReplyLine)
+      → steps_finding log caller shown (unnamed_by rs) kept cs rs ≡ steps_of log caller shown kept cs rs
+  unnamed_steps kept [] rs = refl
+  unnamed_steps kept (c ∷ cs) [] = refl
+  unnamed_steps kept (c ∷ cs) (r ∷ rs) =
+      ap (λ (l : List Step). step_of log caller shown kept c r ∷ l)
+      (unnamed_steps (kept_past log caller (step_of log caller shown kept c r)) cs rs)
+
+  pub unnamed_last : (kept : Kept) (cs : List Command) (rs : List ReplyLine)
+      → last_finding log caller shown (unnamed_by rs) kept cs rs ≡ last_of_steps log caller shown kept cs rs
+  unnamed_last kept [] rs = refl
+  unnamed_last kept (c ∷ cs) [] = refl
+  unnamed_last kept (c ∷ cs) (r ∷ rs) = unnamed_last (kept_past log caller (step_of log caller shown kept c r)) cs rs
+
+-- the account with no writers named is the one that is told
+pub unnamed_account : (script : Script) (report : Report) (nodes : ℕ → List Node)
+    → account_with script report nodes (λ n. unnamed_by (replies_to report n)) ≡ account_of script report nodes
+unnamed_account script report nodes = λ i. record {
+  log = log_of report nodes;
+  steps = λ n. unnamed_steps (log_of report nodes) (caller_of script n) (places_shown script report n) nothing_kept
+      (commands_of script n) (replies_to report n) i;
+  last = λ n. unnamed_last (log_of report nodes) (caller_of script n) (places_shown script report n) nothing_kept
+      (commands_of script n) (replies_to report n) i;
+}
+
 module _ (log : Log) (caller : Caller) (shown : ℕ → ℕ → List ℕ) where
   abbrev KeysAt : Step → Type 0
   KeysAt s = AreKeysFound s.untold.found s.reply.answer
 
-  steps_asked : (kept : Kept) (cs : List Command) (rs : List ReplyLine) → length cs ≡ length rs
-      → map (λ (s : Step). s.command) (steps_of log caller shown kept cs rs) ≡ cs
-  steps_asked kept [] rs e = refl
-  steps_asked kept (c ∷ cs) [] e = absurd (let f : ⊥ = omega (arith, e) in f)
-  steps_asked kept (c ∷ cs) (r ∷ rs) e =
-      ap (λ (l : List Command). c ∷ l) (steps_asked (kept_past log caller (step_of log caller shown kept c r)) cs rs (omega (arith, e)))
+  steps_asked : (found : ℕ → List Version) (kept : Kept) (cs : List Command) (rs : List ReplyLine) → length cs ≡ length rs
+      → map (λ (s : Step). s.command) (steps_finding log caller shown found kept cs rs) ≡ cs
+  steps_asked found kept [] rs e = refl
+  steps_asked found kept (c ∷ cs) [] e = absurd (let f : ⊥ = omega (arith, e) in f)
+  steps_asked found kept (c ∷ cs) (r ∷ rs) e =
+      ap (λ (l : List Command). c ∷ l)
+      (steps_asked (λ k. found (suc k)) (kept_past log caller (step_finding log caller shown (found 0) kept c r)) cs rs
+      (omega (arith, e)))
 
-  steps_replied : (kept : Kept) (cs : List Command) (rs : List ReplyLine) → length cs ≡ length rs
-      → map (λ (s : Step). s.reply) (steps_of log caller shown kept cs rs) ≡ rs
-  steps_replied kept [] [] e = refl
-  steps_replied kept [] (r ∷ rs) e = absurd (let f : ⊥ = omega (arith, e) in f)
-  steps_replied kept (c ∷ cs) [] e = refl
-  steps_replied kept (c ∷ cs) (r ∷ rs) e =
+  steps_replied : (found : ℕ → List Version) (kept : Kept) (cs : List Command) (rs : List ReplyLine) → length cs ≡ length rs
+      → map (λ (s : Step). s.reply) (steps_finding log caller shown found kept cs rs) ≡ rs
+  steps_replied found kept [] [] e = refl
+  steps_replied found kept [] (r ∷ rs) e = absurd (let f : ⊥ = omega (arith, e) in f)
+  steps_replied found kept (c ∷ cs) [] e = refl
+  steps_replied found kept (c ∷ cs) (r ∷ rs) e =
       ap (λ (l : List ReplyLine). r ∷ l)
-      (steps_replied (kept_past log caller (step_of log caller shown kept c r)) cs rs (omega (arith, e)))
+      (steps_replied (λ k. found (suc k)) (kept_past log caller (step_finding log caller shown (found 0) kept c r)) cs rs
+      (omega (arith, e)))
 
-  steps_follow : (kept : Kept) (cs : List Command) (rs : List ReplyLine)
-      → Follow log caller kept (steps_of log caller shown kept cs rs) (last_of_steps log caller shown kept cs rs)
-  steps_follow kept [] rs = refl
-  steps_follow kept (c ∷ cs) [] = refl
-  steps_follow kept (c ∷ cs) (r ∷ rs) = (refl, steps_follow (kept_past log caller (step_of log caller shown kept c r)) cs rs)
+  steps_follow : (found : ℕ → List Version) (kept : Kept) (cs : List Command) (rs : List ReplyLine)
+      → Follow log caller kept (steps_finding log caller shown found kept cs rs) (last_finding log caller shown found kept cs rs)
+  steps_follow found kept [] rs = refl
+  steps_follow found kept (c ∷ cs) [] = refl
+  steps_follow found kept (c ∷ cs) (r ∷ rs) =
+      (refl, steps_follow (λ k. found (suc k)) (kept_past log caller (step_finding log caller shown (found 0) kept c r)) cs rs)
 
-  steps_keys : (kept : Kept) (cs : List Command) (rs : List ReplyLine) → All KeysAt (steps_of log caller shown kept cs rs)
-  steps_keys kept [] rs = All-nil KeysAt
-  steps_keys kept (c ∷ cs) [] = All-nil KeysAt
-  steps_keys kept (c ∷ cs) (r ∷ rs) =
-      All-cons KeysAt (step_of log caller shown kept c r)
-      (steps_of log caller shown (kept_past log caller (step_of log caller shown kept c r)) cs rs) (keys_unnamed r.answer)
-      (steps_keys (kept_past log caller (step_of log caller shown kept c r)) cs rs)
+  steps_keys : (found : ℕ → List Version) (kept : Kept) (cs : List Command) (rs : List ReplyLine) → FindKeys found rs
+      → All KeysAt (steps_finding log caller shown found kept cs rs)
+  steps_keys found kept [] rs f = All-nil KeysAt
+  steps_keys found kept (c ∷ cs) [] f = All-nil KeysAt
+  steps_keys found kept (c ∷ cs) (r ∷ rs) f =
+      let step = step_finding log caller shown (found 0) kept c r in
+      All-cons KeysAt step (steps_finding log caller shown (λ k. found (suc k)) (kept_past log caller step) cs rs) f.0
+      (steps_keys (λ k. found (suc k)) (kept_past log caller step) cs rs f.1)
 
-pub reports_tell : ReportsTell
-reports_tell script report nodes well = record {
+pub finds_tell : FindsTell
+finds_tell script report nodes found well keys = record {
   histories = all_in (λ (c : ColumnReport). c.journal ≡ journal_among report.columns c.region c.colour) report.columns
       (journal_at report.columns well.apart);
   rows = well.rows ∙ sym (all_rows (journal_among report.columns) nodes (range_with_len 0 script.shape.regions) report.rows);
@@ -170,9 +213,16 @@ reports_tell script report nodes well = record {
       let places = places_shown script report n in
       let shown : replies_to report n ≡ c.replies = ap replies_in there in
       let long = well.replied n c there ∙ ap length (sym shown) in record {
-        commands = steps_asked log caller places nothing_kept (commands_of script n) (replies_to report n) long;
-        replied = steps_replied log caller places nothing_kept (commands_of script n) (replies_to report n) long ∙ shown;
-        follow = steps_follow log caller places nothing_kept (commands_of script n) (replies_to report n);
-        keys = steps_keys log caller places nothing_kept (commands_of script n) (replies_to report n);
+        commands = steps_asked log caller places (found n) nothing_kept (commands_of script n) (replies_to report n) long;
+        replied = steps_replied log caller places (found n) nothing_kept (commands_of script n) (replies_to report n) long ∙ shown;
+        follow = steps_follow log caller places (found n) nothing_kept (commands_of script n) (replies_to report n);
+        keys = steps_keys log caller places (found n) nothing_kept (commands_of script n) (replies_to report n)
+            (subst (FindKeys (found n)) (sym shown) (keys n c there));
       };
 }
+
+pub reports_tell : ReportsTell
+reports_tell script report nodes well =
+    subst (IsTold script report) (unnamed_account script report nodes)
+    (finds_tell script report nodes (λ n. unnamed_by (replies_to report n)) well (λ n c there.
+    subst (FindKeys (unnamed_by (replies_to report n))) (ap replies_in there) (unnamed_keys (replies_to report n))))

@@ -28,6 +28,7 @@ use Rattle.col_core.specs.Rows.{Proposes, BegunRow, AreLawfulRows, FitsRow, Fits
 use Rattle.col_core.proofs.CallerLemmas.{In, all_in, any_in, by_test, contains_in, if_true, if_false, in_filter, in_filter-back, in_map, same_id-refl, same_id-true, slice_in}
 use Rattle.script_text.specs.declared.script.Script.{Script}
 use Rattle.report_text.specs.declared.report.Report.{Report}
+use Rattle.lawful_run.specs.Asks.{colours_where}
 use Rattle.lawful_run.specs.Columns.{IsClientIn, row_report}
 use Rattle.run_rules.specs.Told.{Account, IsTold}
 use Rattle.run_rules.specs.Telling.{IsWellFormed, account_of, floor_or, floor_told, is_among, journal_among, marked_colours, no_nodes, proposal_in, proposal_or, row_of, wants_or}
@@ -74,18 +75,22 @@ filter_like p q (x ∷ xs) same =
     ap (λ (b : Bool). cond b (x ∷ filter p xs) (filter p xs)) (same x (inl refl))
     ∙ ap (λ (l : List ℕ). cond (q x) (x ∷ l) l) (filter_like p q xs (λ y i. same y (inr i)))
 
--- the set of a set's members has just these
-members_again : (set : Colours) → members (set_of (members set)) ≡ members set
-members_again set =
-    members-set_of (members set)
-    ∙ filter_like (λ c. is_among c (members set)) (has set) (range_with_len 0 MAX_COLOURS) (λ c i.
-    by_test _ (has set c)
-    (λ t. any_in (λ m. m == c) (members set) c (in_filter-back (has set) c (range_with_len 0 MAX_COLOURS) i t) (eq-eqb c c refl)
+-- the set of the colours for which a test holds has just these
+pub where_again : (test : ℕ → Bool) → members (set_of (colours_where test)) ≡ colours_where test
+where_again test =
+    members-set_of (colours_where test)
+    ∙ filter_like (λ c. is_among c (colours_where test)) test (range_with_len 0 MAX_COLOURS) (λ c i.
+    by_test _ (test c)
+    (λ t. any_in (λ m. m == c) (colours_where test) c (in_filter-back test c (range_with_len 0 MAX_COLOURS) i t) (eq-eqb c c refl)
     ∙ sym t)
-    (λ f. false_from_ne_true (is_among c (members set)) (λ t. none c f
-    (in_filter (has set) c (range_with_len 0 MAX_COLOURS) (among_in c (members set) t)).1) ∙ sym f)) where
-      none : (c : ℕ) → has set c ≡ false → has set c ≡ true → ⊥
+    (λ f. false_from_ne_true (is_among c (colours_where test)) (λ t. none c f
+    (in_filter test c (range_with_len 0 MAX_COLOURS) (among_in c (colours_where test) t)).1) ∙ sym f)) where
+      none : (c : ℕ) → test c ≡ false → test c ≡ true → ⊥
       none c f t = let h : ⊥ = cc (f, t) in h
+
+-- and so that of a set's members
+members_again : (set : Colours) → members (set_of (members set)) ≡ members set
+members_again set = where_again (has set)
 
 -- PROPOSALS
 

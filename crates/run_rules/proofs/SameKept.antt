@@ -235,13 +235,13 @@ module _ (script : Script) where
   points_same own [] s = s
   points_same own (p ∷ ps) s = points_same own ps (point_same s own p.colour p.at p.position)
 
-  raises_same : (caller : Caller) (raises : List RaisePiece) {a b : Kept} → KeepSame script a b
+  pub raises_same : (caller : Caller) (raises : List RaisePiece) {a b : Kept} → KeepSame script a b
       → KeepSame script (kept_after_raises caller a raises) (kept_after_raises caller b raises)
   raises_same caller [] s = s
   raises_same caller (x ∷ xs) s = raises_same caller xs (place_same s caller.own x.colour x.at)
 
 -- the last outcome of an id's row
-last_same : (region : ℕ) (id : Id) (xs ys : List BegunRow) → map (row_report region) xs ≡ map (row_report region) ys
+pub last_same : (region : ℕ) (id : Id) (xs ys : List BegunRow) → map (row_report region) xs ≡ map (row_report region) ys
     → last_of (find (λ (r : BegunRow). same_id id r.node.id) xs) ≡ last_of (find (λ (r : BegunRow). same_id id r.node.id) ys)
 last_same region id [] [] e = refl
 last_same region id [] (y ∷ ys) e = absurd (let f : ⊥ = cc (e) in f)
@@ -282,7 +282,7 @@ module _ (script : Script) (caller : Caller) (log other : Log)
       (greatest_played other caller b sync.colour sync.events sync.counts)
       (played_same s sync.colour sync.events sync.counts lt)
 
-  syncs_same : (syncs : List SyncPiece) → ((x : SyncPiece) → In x syncs → x.colour < script.shape.colours)
+  pub syncs_same : (syncs : List SyncPiece) → ((x : SyncPiece) → In x syncs → x.colour < script.shape.colours)
       → {a b : Kept} → KeepSame script a b
       → KeepSame script (kept_after_syncs log caller a syncs) (kept_after_syncs other caller b syncs)
   syncs_same [] lt s = s

@@ -48,14 +48,19 @@ said_same own kind (whats.Commit object pairs) (Some x) (Some y) e =
     ap (λ (keys : List (List ℕ)). shards own (keys ++ keys_of_pairs pairs)) k
 said_same own kind _ x y e = refl
 
-pub asked_same : (script : Script) (caller : Caller) (what : What) {a b : Kept} → KeepSame script a b
+pub asked_alike : (caller : Caller) (what : What) (a b : Kept)
+    → ((object : ℕ) → keys_found (a.reads object) ≡ keys_found (b.reads object))
     → colours_asked caller a what ≡ colours_asked caller b what
-asked_same script caller what {a} {b} s =
+asked_alike caller what a b reads =
     said_same (object_colours (kind_asked caller what)) (kind_asked caller what) what (found_by (use_of what) a)
     (found_by (use_of what) b) (by (use_of what)) where
       by : (u : Use) → keys_found (found_by u a) ≡ keys_found (found_by u b)
-      by (OfObject object UsesUp) = s.reads object
+      by (OfObject object UsesUp) = reads object
       by _ = refl
+
+pub asked_same : (script : Script) (caller : Caller) (what : What) {a b : Kept} → KeepSame script a b
+    → colours_asked caller a what ≡ colours_asked caller b what
+asked_same script caller what {a} {b} s = asked_alike caller what a b s.reads
 
 -- and so the command appends on several by both, or by neither
 pub several_same : (script : Script) (caller : Caller) (what : What) {a b : Kept} → KeepSame script a b
@@ -81,7 +86,7 @@ module _ (script : Script) (fits : IsFitting script) (n : ℕ) (log other : Log)
   abbrev who : Caller
   who = caller_of script n
 
-  syncs_below : (raises : List RaisePiece) (syncs : List SyncPiece) → HasReads (colours_synced who what) raises syncs
+  pub syncs_below : (raises : List RaisePiece) (syncs : List SyncPiece) → HasReads (colours_synced who what) raises syncs
       → (x : SyncPiece) → In x syncs → x.colour < script.shape.colours
   syncs_below raises syncs h x i =
       mapped_below script.shape.colours (λ (p : SyncPiece). p.colour) syncs (colours_synced who what) h.1

@@ -6,6 +6,7 @@ pub mod Answering
 pub mod Rules
 pub mod Nodes
 pub mod Shown
+pub mod Finding
 pub mod Keeping
 pub mod Agreeing
 pub mod Laws

@@ -1,5 +1,5 @@
 -- The account that a report tells, computed; what it leaves free are the nodes and what reads found.
-use Rattle.std.specs.Prelude.{◌≡◌, ◌≢◌, Bool, false, ℕ, ◌==◌, ◌&&◌, not, nat_le, nat_lt, List, [], ◌∷◌, length, map, Option, Some, None, slice_get, if◌then◌else◌}
+use Rattle.std.specs.Prelude.{◌≡◌, ◌≢◌, Bool, false, ℕ, suc, ◌==◌, ◌&&◌, not, nat_le, nat_lt, List, [], ◌∷◌, length, map, Option, Some, None, slice_get, if◌then◌else◌}
 use Rattle.std.specs.List.{AllPairs, filter, flat_map, list_any, range_with_len}
 use Rattle.log_node.specs.declared.ids.Counts.{Counts}
 use Rattle.log_node.specs.declared.ids.Id.{Id}
@@ -30,7 +30,7 @@ use Rattle.report_text.specs.declared.report.ColumnReport.{ColumnReport}
 use Rattle.report_text.specs.declared.report.Report.{Report}
 use Rattle.lawful_run.specs.Callers.{Caller, caller_of, commands_of}
 use Rattle.lawful_run.specs.Reads.{events_until}
-use Rattle.run_rules.specs.Told.{Untold, Step, Account, kept_past}
+use Rattle.run_rules.specs.Told.{Untold, Step, Account, AreKeysFound, kept_past}
 use Rattle.run_rules.specs.Printed.{printed_all}
 use Rattle.lawful_run.specs.Refusals.{kept_before}
 
@@ -198,6 +198,50 @@ account_of script report nodes = record {
   last = λ n. last_of_steps (log_of report nodes) (caller_of script n) (places_shown script report n) nothing_kept
       (commands_of script n) (replies_to report n);
 }
+
+-- WITH WHAT READS FOUND
+
+-- a step by which a read found this
+abbrev pub step_finding : Log → Caller → (ℕ → ℕ → List ℕ) → List Version → Kept → Command → ReplyLine → Step
+step_finding log caller shown found kept command reply = record {
+  command = command;
+  reply = reply;
+  kept = kept;
+  untold = record (untold_told log caller shown (kept_before command.what kept) command.what reply.answer) { found = found };
+}
+
+-- the steps of commands with their replies, where the reads of these, by their number, found this
+abbrev pub steps_finding : Log → Caller → (ℕ → ℕ → List ℕ) → (ℕ → List Version) → Kept → List Command → List ReplyLine
+    → List Step
+steps_finding log caller shown found kept [] replies = []
+steps_finding log caller shown found kept (c ∷ cs) [] = []
+steps_finding log caller shown found kept (c ∷ cs) (r ∷ rs) =
+    let step = step_finding log caller shown (found 0) kept c r in
+    step ∷ steps_finding log caller shown (λ k. found (suc k)) (kept_past log caller step) cs rs
+
+-- what is kept behind them
+abbrev pub last_finding : Log → Caller → (ℕ → ℕ → List ℕ) → (ℕ → List Version) → Kept → List Command → List ReplyLine → Kept
+last_finding log caller shown found kept [] replies = kept
+last_finding log caller shown found kept (c ∷ cs) [] = kept
+last_finding log caller shown found kept (c ∷ cs) (r ∷ rs) =
+    last_finding log caller shown (λ k. found (suc k))
+    (kept_past log caller (step_finding log caller shown (found 0) kept c r)) cs rs
+
+-- The account that script and report tell, where clients appended these nodes, and reads found this, by the client and the
+-- number of its command.
+abbrev pub account_with : Script → Report → (ℕ → List Node) → (ℕ → ℕ → List Version) → Account
+account_with script report nodes found = record {
+  log = log_of report nodes;
+  steps = λ n. steps_finding (log_of report nodes) (caller_of script n) (places_shown script report n) (found n) nothing_kept
+      (commands_of script n) (replies_to report n);
+  last = λ n. last_finding (log_of report nodes) (caller_of script n) (places_shown script report n) (found n) nothing_kept
+      (commands_of script n) (replies_to report n);
+}
+
+-- what these replies show of keys is what their reads found, whoever wrote there
+abbrev pub FindKeys : (ℕ → List Version) → List ReplyLine → Type 0
+FindKeys found [] = Unit {0}
+FindKeys found (r ∷ rs) = AreKeysFound (found 0) r.answer × FindKeys (λ k. found (suc k)) rs
 
 -- Each command has a reply, no two columns have the same numbers, and rows stand by region.
 pub record IsWellFormed (script : Script) (report : Report) : Type 0 where

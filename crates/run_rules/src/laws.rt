@@ -1,5 +1,8 @@
 // Laws of the rules. Each function does nothing, and its contract is the law.
-ghost use Rattle.run_rules.specs.Laws.{BrokenIsUnlawful, ComputedAccountAgrees, ComputedAccountDecides, ComputedAccountKeeps, LawfulRunsKeepRules, LeastIsOne, OneAccountDecides, ReportsTell, RuleOneForms, RulesMakeLawful, ToldAccountsAgree, ToldNodesAgree};
+ghost use Rattle.run_rules.specs.Laws.{BrokenIsUnlawful, ComputedAccountAgrees, ComputedAccountDecides, ComputedAccountKeeps, FindsAreRight, FindsDecide, FindsKeep, FindsTell, FirstRulesDecided, FoundAccountDecides, FoundAccountKeeps, LaterRulesDecided, LawfulRunsKeepRules, LeastIsOne, NodesAreFound, NodesAreTold, NodesChangeNoStep, OneAccountDecides, ReportsTell, RightFindsDecide, RuleOneForms, RulesMakeLawful, SameFindsDecide, ToldAccountsAgree, ToldFindsAgree, ToldNodesAgree};
+
+use col_core::region_order_is_unique;
+use part_fold::decisions_are_plain;
 
 /// A report that hides nothing keeps all rules where it is that of a lawful run.
 pub fn lawful_runs_keep_rules()
@@ -46,6 +49,46 @@ pub fn computed_account_decides()
     ensures { ComputedAccountDecides }
 {}
 
+/// An account that is computed with what reads found is told.
+pub fn finds_tell()
+    ensures { FindsTell }
+{}
+
+/// It agrees with each of which the first four rules hold.
+pub fn finds_keep()
+    ensures { FindsKeep }
+{}
+
+/// With the nodes of its commands it decides the rules from the fifth to the eighth.
+pub fn finds_decide()
+    ensures { FindsDecide }
+{}
+
+/// What clients keep does not rest on the nodes with which an account is computed.
+pub fn nodes_change_no_step()
+    ensures { NodesChangeNoStep }
+{}
+
+/// Computed with the nodes that script and report tell it has the nodes of its commands.
+pub fn nodes_are_told()
+    ensures { NodesAreTold }
+{}
+
+/// So it has where the texts are by what reads found.
+pub fn nodes_are_found()
+    ensures { NodesAreFound }
+{}
+
+/// With no nodes given it decides the first four rules.
+pub fn first_rules_decided()
+    ensures { FirstRulesDecided }
+{}
+
+/// With the nodes that script and report tell it decides the fifth to the eighth.
+pub fn later_rules_decided()
+    ensures { LaterRulesDecided }
+{}
+
 /// Two accounts of one report at which the first four rules hold agree.
 pub fn told_accounts_agree()
     ensures { ToldAccountsAgree }
@@ -55,6 +98,45 @@ pub fn told_accounts_agree()
 pub fn told_nodes_agree()
     ensures { ToldNodesAgree }
 {}
+
+/// Where the tenth rule holds, reads found what they had to find.
+pub fn finds_are_right()
+    ensures { FindsAreRight }
+{}
+
+/// Of two accounts whose reads found what they had to, these finds are the same.
+pub fn told_finds_agree()
+    ensures { ToldFindsAgree }
+{
+    region_order_is_unique();
+    decisions_are_plain();
+}
+
+/// Of two accounts with the same texts and finds the one keeps the rules where the other does.
+pub fn same_finds_decide()
+    ensures { SameFindsDecide }
+{}
+
+/// One whose reads found what they had to decides the rules from the tenth on, with the texts of decisions.
+pub fn right_finds_decide()
+    ensures { RightFindsDecide }
+{
+    region_order_is_unique();
+    decisions_are_plain();
+}
+
+/// The account that is computed with what reads found decides the rules from the fifth to the eighth.
+pub fn found_account_decides()
+    ensures { FoundAccountDecides }
+{}
+
+/// Where that is what they had to find, it decides the later ones, with the texts of decisions.
+pub fn found_account_keeps()
+    ensures { FoundAccountKeeps }
+{
+    region_order_is_unique();
+    decisions_are_plain();
+}
 
 /// One such account decides the rules up to the eighth.
 pub fn one_account_decides()

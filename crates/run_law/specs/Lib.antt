@@ -1,0 +1,13 @@
+pub mod Answered
+pub mod Asking
+pub mod Columns
+pub mod Journals
+pub mod Keepings
+pub mod LeftOpen
+pub mod Listed
+pub mod Lists
+pub mod Proposals
+pub mod RowsBeside
+pub mod Subjects
+pub mod Tables
+pub mod Third

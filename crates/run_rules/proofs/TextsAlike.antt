@@ -1,0 +1,39 @@
+-- Logs whose nodes have the same texts, and the ids of which this is known.
+use Rattle.std.proofs.Common.{ℕ, ◌<◌, List, [], ◌∷◌, take, inl, inr, refl}
+use Rattle.std.specs.List.{AllZip}
+use Rattle.log_node.specs.declared.ids.Id.{Id}
+use Rattle.log_node.specs.declared.ids.Key.{Key}
+use Rattle.log_node.specs.declared.node.Head.{Head}
+use Rattle.object_fold.specs.Nodes.{ObjectNode}
+use Rattle.col_core.specs.Computed.{dated}
+use Rattle.col_core.specs.Cuts.{chain}
+use Rattle.col_core.specs.History.{line}
+use Rattle.col_core.specs.Log.{Log, HasText}
+use Rattle.col_core.specs.PlayOrder.{Place, Stands}
+use Rattle.col_core.proofs.CallerLemmas.{In}
+use Rattle.script_text.specs.declared.script.Script.{Script}
+use Rattle.lawful_run.specs.Callers.{caller_of}
+use Rattle.lawful_run.specs.Objects.{IsObjectNode}
+use Rattle.run_rules.proofs.BareObjects.{AreAlike}
+
+-- Of the ids that are known, which are those in own lines and chains and those of the client itself, nodes have the same
+-- texts by both logs.
+pub record TextsAlike (script : Script) (n : ℕ) (one two : Log) (Known : Id → Type 0) : Type 0 where
+  pub text : (id : Id) → Known id → (text : List ℕ) → HasText one id text → HasText two id text
+  pub object : (key : Key) → Known key.id → (x : ObjectNode) → IsObjectNode one key x
+      → (y : ObjectNode) × IsObjectNode two key y × AreAlike x y
+  pub of_line : (colour : ℕ) → colour < script.shape.colours → (events : ℕ) (key : Key)
+      → In key (line (take events (one.histories (caller_of script n).own colour))) → Known key.id
+  pub of_chain : (colour : ℕ) → colour < script.shape.colours → (events : ℕ) (place : Place) (head : Head)
+      → Stands (chain (caller_of script n).own
+      (dated (caller_of script n).own (take events (one.histories (caller_of script n).own colour)))) place head
+      → Known head.key.id
+  pub of_own : (count : ℕ) → Known (record { client = n; count = count })
+
+-- items beside one another, of which more is known
+pub zip_mapped : {A B : Type 0} (R S : A → B → Type 0) (xs : List A) (ys : List B)
+    → ((x : A) (y : B) → In x xs → R x y → S x y) → AllZip R xs ys → AllZip S xs ys
+zip_mapped R S [] [] f r = tt
+zip_mapped R S [] (y ∷ ys) f r = absurd r
+zip_mapped R S (x ∷ xs) [] f r = absurd r
+zip_mapped R S (x ∷ xs) (y ∷ ys) f r = (f x y (inl refl) r.0, zip_mapped R S xs ys (λ z w i. f z w (inr i)) r.1)
