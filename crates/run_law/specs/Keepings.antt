@@ -1,27 +1,18 @@
 -- What a client keeps, as a judge counts it up from reply to reply.
-use Rattle.std.specs.Prelude.{◌≡◌, ℕ, ◌<◌, List, [], map, Option, Some, None, slice_get, slice_index, slice_index_or}
-use Rattle.std.specs.List.{Contains, fold}
+use Rattle.std.specs.Prelude.{◌≡◌, ℕ, ◌+◌, ◌*◌, ◌<◌, List, [], map, Option, Some, None, slice_get, slice_index, slice_index_or}
+use Rattle.std.specs.List.{fold}
 use Rattle.log_node.specs.declared.ids.Counts.{Counts}
+use Rattle.log_node.specs.declared.limits.TheConstants.{MAX_COLOURS, MAX_REGIONS}
 use Rattle.log_node.specs.declared.forms.Version.{Version}
-use Rattle.log_node.specs.declared.node.Node.{Node}
 use Rattle.log_node.specs.Vectors.{zeros}
 use Rattle.col_core.specs.Keeping.{Kept}
-use Rattle.col_core.specs.Log.{Log}
-use Rattle.log_node.specs.declared.node.At.{At}
 use Rattle.script_text.specs.declared.commands.What.{What}
-use Rattle.script_text.specs.declared.commands.What.TheVariants as whats
-use Rattle.script_text.specs.declared.script.Command.{Command}
 use Rattle.report_text.specs.declared.report.Answer.{Answer}
 use Rattle.report_text.specs.declared.report.Answer.TheVariants as answers
 use Rattle.report_text.specs.declared.report.KeyAnswer.{KeyAnswer}
 use Rattle.report_text.specs.declared.report.RaisePiece.{RaisePiece}
 use Rattle.report_text.specs.declared.report.ReplyLine.{ReplyLine}
-use Rattle.lawful_run.specs.Callers.{Caller}
-use Rattle.lawful_run.specs.Reads.{events_until, kept_after_place}
-use Rattle.lawful_run.specs.Refusals.{kept_before}
-use Rattle.run_rules.specs.Told.{Account, Untold}
-use Rattle.run_rules.specs.Telling.{account_of, made_between, replies_to}
-use Rattle.run_law.specs.Subjects.{Judged, IsCell, cell, step_in, steps_in}
+use Rattle.lawful_run.specs.Reads.{kept_after_place}
 
 -- What is counted up, in tables of all colours, columns and objects that there can be; of a read the place of its reply among
 -- the client's.
@@ -34,6 +25,14 @@ pub record Counted : Type 0 where
   pub ids : ℕ
   pub rows : ℕ
   pub reads : List (Option ℕ)
+
+-- the place of a column in a table of all that a log can have
+abbrev pub cell : ℕ → ℕ → ℕ
+cell region colour = MAX_COLOURS * region + colour
+
+-- the numbers are such as a log can have
+abbrev pub IsCell : ℕ → ℕ → Type 0
+IsCell region colour = (region < MAX_REGIONS) × (colour < MAX_COLOURS)
 
 -- the snapshot of the last sync of a colour
 abbrev pub start_at : Counted → ℕ → Counts
@@ -84,37 +83,6 @@ pub record KeepsCount (old new : Counted) : Type 0 where
   pub ids : new.ids ≡ old.ids
   pub rows : new.rows ≡ old.rows
 
--- what is left out has the client's own steps of its next id
-abbrev pub HasOwnSteps : Judged → ℕ → Kept → Untold → Type 0
-HasOwnSteps judged client kept untold = untold.places ≡ (λ colour. steps_in judged client colour kept.ids)
-
--- of a pull it has what was made before its give
-abbrev pub HasLow : Log → Caller → Kept → What → At → Untold → Type 0
-HasLow log caller kept (whats.Pull region colour) give untold =
-    untold.too_low ≡ made_between log caller kept region colour (events_until give)
-HasLow log caller kept _ give untold = Unit {0}
-
 -- behind raises in the columns of a region
 abbrev pub kept_raised : ℕ → Kept → List RaisePiece → Kept
 kept_raised own kept raises = fold (λ k (r : RaisePiece). kept_after_place k own r.colour r.at) kept raises
-
--- the replies of a client
-abbrev pub replies_in : Judged → ℕ → List ReplyLine
-replies_in judged client = replies_to judged.report client
-
--- the account, where clients appended these nodes
-abbrev pub account_in : Judged → (ℕ → List Node) → Account
-account_in judged nodes = account_of judged.script judged.report nodes
-
--- What a check of a step is given: the client keeps this before the command's reply, as is counted, and the command with the
--- reply is a step of the account.
-pub record IsStepHere (judged : Judged) (nodes : ℕ → List Node) (client : ℕ) (counted : Counted) (command : Command)
-    (reply : ReplyLine) (kept : Kept) : Type 0 where
-  pub counts : IsCounted (replies_in judged client) (kept_before command.what kept) counted
-  pub among : Contains ((account_in judged nodes).steps client) (step_in judged nodes client kept command reply)
-
--- the same before the command began
-pub record IsNext (judged : Judged) (nodes : ℕ → List Node) (client : ℕ) (counted : Counted) (command : Command)
-    (reply : ReplyLine) (kept : Kept) : Type 0 where
-  pub counts : IsCounted (replies_in judged client) kept counted
-  pub among : Contains ((account_in judged nodes).steps client) (step_in judged nodes client kept command reply)

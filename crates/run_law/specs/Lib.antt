@@ -8,6 +8,5 @@ pub mod Listed
 pub mod Lists
 pub mod Proposals
 pub mod RowsBeside
-pub mod Subjects
 pub mod Tables
 pub mod Third

@@ -1,8 +1,6 @@
 // What a client keeps goes on from reply to reply.
-ghost use Rattle.std.specs.List.{filter};
-ghost use Rattle.std.specs.Prelude.{◌≡◌, ◌+◌, ◌<◌, ◌≤◌, ◌^◌, ◌&&◌, nat_le, nat_lt, ℕ, List, [], ◌∷◌, IfOk, OnOk, Some, None, Option, length, slice_get};
+ghost use Rattle.std.specs.Prelude.{◌≡◌, ◌+◌, ◌<◌, ◌≤◌, ◌^◌, List, OnOk, Some, None};
 ghost use Rattle.log_node.specs.declared.forms.Version.{Version};
-ghost use Rattle.log_node.specs.Outcomes.{final_number};
 ghost use Rattle.col_core.specs.Keeping.{Kept, kept_after_event, kept_after_point, kept_after_single, seen_after};
 ghost use Rattle.report_text.specs.declared.report.ReplyLine.{ReplyLine};
 ghost use Rattle.lawful_run.specs.Appends.{kept_after_points};
@@ -11,16 +9,15 @@ ghost use Rattle.script_text.specs.Commands.{use_of};
 ghost use Rattle.lawful_run.specs.Callers.{Caller};
 ghost use Rattle.lawful_run.specs.Reads.{events_until, kept_after_place};
 ghost use Rattle.lawful_run.specs.Refusals.{kept_before, kept_behind};
-ghost use Rattle.run_rules.specs.Told.{Untold, kept_after_end, kept_trimmed, stamp_of, with_found};
+ghost use Rattle.run_rules.specs.Told.{Untold, kept_after_end, kept_trimmed, with_found};
 ghost use Rattle.run_law.specs.Keepings.{IsCounted, IsFoundAt, KeepsCount, kept_raised};
 
 use crate::keeping::Keeping;
 use crate::made::seen_past;
-use col_core::Entry;
-use log_node::{At, MAX_COLOURS, MAX_REGIONS, Outcome};
+use log_node::{At, MAX_COLOURS, MAX_REGIONS};
 use report_text::{Ended, PointPiece, RaisePiece};
 use script_text::{ReadUse, Use, What};
-use std::alloc::{AllocError, Global};
+use std::alloc::AllocError;
 
 // The events before a place, and those of a look.
 fn events_until(at: At) -> u64
@@ -40,39 +37,6 @@ fn seen_after(at: At) -> u128
         At::Event(place) => place as u128 + 1,
         At::Look(events) => events as u128,
     }
-}
-
-// The stamp of the event at a place.
-fn stamp_at(journal: &[Entry], place: u64) -> u64
-    ensures { result ≡ stamp_of (slice_get journal.now place) }
-{
-    match journal.get(place as usize) {
-        Some(entry) => entry.stamp,
-        None => 0,
-    }
-}
-
-// The number of an outcome; 0 where it has none.
-fn final_number(outcome: Outcome) -> u64
-    ensures { result ≡ final_number outcome }
-{
-    match outcome {
-        Outcome::Final(number) => number,
-        Outcome::Open | Outcome::Gone(_) => 0,
-    }
-}
-
-// The places from one number up to another.
-fn between(alloc: Global, places: &[u64], from: u128, until: u64) -> Result<Vec<u64>, AllocError>
-    ensures { IfOk result (λ low. low.items ≡ filter (λ p. nat_le from p && nat_lt p until) places.now) }
-{
-    let mut low = Vec::new(alloc);
-    for place in places {
-        if from <= *place as u128 && *place < until {
-            low.push(*place)?;
-        }
-    }
-    Ok(low)
 }
 
 impl Keeping {

@@ -3,8 +3,7 @@ ghost use Rattle.std.specs.Prelude.{◌≡◌, ◌+◌, ◌<◌, ◌^◌, ◌++�
 ghost use Rattle.log_node.specs.declared.forms.Version.{Version};
 ghost use Rattle.col_core.specs.Keeping.{Kept, kept_after_look, nothing_kept, seen_past, updated, updated_at, with_floor, with_read};
 ghost use Rattle.report_text.specs.declared.report.ReplyLine.{ReplyLine};
-ghost use Rattle.run_law.specs.Keepings.{IsCounted, IsFoundAt, KeepsCount, start_at, seen_at, known_at, made_at, read_at};
-ghost use Rattle.run_law.specs.Subjects.{IsCell, cell};
+ghost use Rattle.run_law.specs.Keepings.{IsCell, IsCounted, IsFoundAt, KeepsCount, cell, known_at, made_at, read_at, seen_at, start_at};
 
 use crate::made::Made;
 use log_node::{Counts, MAX_COLOURS, MAX_REGIONS};
