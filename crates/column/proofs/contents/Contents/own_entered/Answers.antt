@@ -55,13 +55,17 @@ old_of c =
 abbrev key_of : goal.After-index-things-place → Key
 key_of c = slice_index_or c.line-keys.result.now c.args.place (record { stamp = 0; id = record { client = 0; count = 0 } })
 
-stands : (c : goal.After-index-things-place) → slice_get (line_of (old_of c).queue.entries) c.args.place ≡ Some (key_of c)
-stands c =
+in_line : (c : goal.After-index-things-place) → c.args.place < length (line_of (old_of c).queue.entries)
+in_line c =
     let e = subst (λ (q : ColumnState). c.args.place < length (line q.journal)) (sym c.self.view_is) c.requires.end in
     let f = ap length (line_is (old_of c) c.self.invariant.column_is) in
+    omega (arith, e, f)
+
+stands : (c : goal.After-index-things-place) → slice_get (line_of (old_of c).queue.entries) c.args.place ≡ Some (key_of c)
+stands c =
     let g = ap length c.line-keys.ensures in
     ap (λ (ks : List Key). slice_get ks c.args.place) (sym c.line-keys.ensures)
-    ∙ slice_get-get_or c.line-keys.result.now c.args.place _ (omega (arith, e, f, g))
+    ∙ slice_get-get_or c.line-keys.result.now c.args.place _ (let h = in_line c in omega (arith, g, h))
 
 entry : (c : goal.After-index-things-place) → HasStored (old_of c) (key_of c) c.index-things-place.result.node
     × (slice_get (chains_of (old_of c) (old_of c).region) c.args.place
@@ -73,14 +77,20 @@ entry c =
     let b = c.self.invariant.column_is.dropped in
     let d = subst (λ (q : ColumnState). at (base_of q) q.region ≤ c.args.place) (sym c.self.view_is) c.requires.base in
     omega (arith, a, b, d) in
+    let inside : k < length c.kept-base.result.1.now =
+    let a = kept_length (old_of c) c.self.invariant.column_is c.kept-base.ensures.keys in
+    let b = ap length c.kept-base.ensures.things in
+    let d = in_line c in omega (arith, a, b, d, here) in
     own_entry (old_of c) c.self.invariant.column_is c.kept-base.ensures.keys c.args.place k (key_of c)
     c.index-things-place.result here (stands c)
-    (ap (λ (ts : List EnteredNode). slice_get ts k) (sym c.kept-base.ensures.things) ∙ c.index-things-place.is)
+    (ap (λ (ts : List EnteredNode). slice_get ts k) (sym c.kept-base.ensures.things)
+    ∙ (slice_get-get_or c.kept-base.result.1.now k c.index-things-place.result inside
+    ∙ ap (λ (thing : EnteredNode). Some thing) (sym c.index-things-place.is)))
 
 pub returns-clause-key : goal.returns-clause-key
 returns-clause-key c =
     subst (λ (q : ColumnState). slice_get (line q.journal) c.args.place ≡ Some (key_of c)) c.self.view_is
-    (ap (λ (ks : List Key). slice_get ks c.args.place) (sym (line_is (old_of c) c.self.invariant.column_is)) ∙ stands c)
+    (ap (λ (ks : List Key). slice_get ks c.args.place) ((line_is (old_of c) c.self.invariant.column_is)) ∙ stands c)
 
 pub returns-clause-node : goal.returns-clause-node
 returns-clause-node c =
