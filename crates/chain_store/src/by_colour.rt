@@ -26,7 +26,7 @@ ghost use Rattle.chain_store.specs.Passes.{dated_in};
 ghost use Rattle.chain_store.specs.Regions.{tag_at};
 ghost use Rattle.chain_store.specs.Holds.{IsHold, KnowsAppend, SameBut, seen_in, entries_seen, view_of};
 ghost use Rattle.chain_store.specs.Holds.{SeesMoreIn, MakesOneIn, LooksIn, RaisesIn, GivesIn, CarriesIn, TrimsIn};
-ghost use Rattle.chain_store.specs.Givens.{OfTheirHeads};
+ghost use Rattle.ring_ends.specs.Givens.{OfTheirHeads};
 
 use crate::calls::{Single, single_in};
 use crate::changes::{carry_in, give_in, raise_in, trim_in};

@@ -1,7 +1,7 @@
 // Calls on one column that raise, give, carry and trim, each under one turn.
 ghost use Rattle.std.specs.Prelude.{◌≡◌, ◌≢◌, ◌<◌, ◌≤◌, IfOk, OnErr};
 ghost use Rattle.turn_cell.specs.Cells.{seen};
-ghost use Rattle.chain_store.specs.Givens.{OfTheirHeads};
+ghost use Rattle.ring_ends.specs.Givens.{OfTheirHeads};
 ghost use Rattle.chain_store.specs.Moves.{RaisesAt, GivesAt, CarriesAt, TrimsAt};
 ghost use Rattle.chain_store.specs.Passes.{IsHolder, SeesMore, tag_in};
 

@@ -5,7 +5,7 @@ ghost use Rattle.col_core.specs.declared.Event.TheVariants.{Raise, Give, Trim};
 ghost use Rattle.col_core.specs.History.{clock, line};
 ghost use Rattle.column.specs.Columns.{base_of, held_of, new_items, IsGiven};
 ghost use Rattle.stamp_board.specs.Seats.{column_seen};
-ghost use Rattle.chain_store.specs.Givens.{OfTheirHeads};
+ghost use Rattle.ring_ends.specs.Givens.{OfTheirHeads};
 ghost use Rattle.chain_store.specs.Columns.{Gains, Stays, told_event, told_carry, tag_of};
 
 use crate::seated::Seated;
