@@ -1,1 +1,5 @@
 mod Givens
+mod Lists
+mod Making
+mod Joining
+mod Dealing
