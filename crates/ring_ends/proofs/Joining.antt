@@ -10,14 +10,14 @@ use Rattle.ring_ends.specs.NewRings.{AreUnused, IsJoined}
 use Rattle.ring_ends.specs.Making.{JoinsAt, Grows, AreJoined}
 use Rattle.ring_ends.proofs.Lists.{one_more, get_old, get_new}
 
-place_before : (own other : ℕ) → other < own → ring_place own other ≡ other
+pub place_before : (own other : ℕ) → other < own → ring_place own other ≡ other
 place_before own other lt = grind (arith, lt)
 
-place_behind : (own other : ℕ) → own < other → ring_place own other ≡ other - 1
+pub place_behind : (own other : ℕ) → own < other → ring_place own other ≡ other - 1
 place_behind own other lt = grind (arith, lt)
 
 -- a place among the other regions of one of k regions
-place_within : (k own other : ℕ) → own < k → other < k → own ≢ other → ring_place own other < k - 1
+pub place_within : (k own other : ℕ) → own < k → other < k → own ≢ other → ring_place own other < k - 1
 place_within k own other lt lu ne = grind (arith, lt, lu, ne)
 
 of_names : (k : ℕ) (x : Rings) → length (names_of x).sends ≡ k → length (names_of x).receives ≡ k

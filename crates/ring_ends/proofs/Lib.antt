@@ -1,3 +1,4 @@
+pub mod CallerLemmas
 mod Givens
 mod Lists
 mod Making
