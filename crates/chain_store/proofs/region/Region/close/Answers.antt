@@ -15,13 +15,7 @@ use Rattle.chain_store.proofs.Places.{image_at}
 use Rattle.chain_store.proofs.region.Region.close.Goals as goal
 
 pub close_shares-requires : goal.close_shares-requires
-close_shares-requires g c =
-    let rest = c.pop.new.self.items in
-    let t = image_at (λ (h : Hold). h.desks) c.args.holds (length rest) c.in-Some.own
-    (ap (λ l. slice_get l (length rest)) (ap (map (λ (h : Hold). h.desks)) (sym c.into_vec.ensures)
-    ∙ sym c.in_ok-clients.ensures.2 ∙ c.in-Some.ensures.items) ∙ get_last rest c.in-Some.own) in
-    let h = c.requires.holds.1 (length rest) t.0 t.1 in
-    subst (λ (ds : Vec Desk). HasDesks c.args.self.shares.items ds.items) t.2 h.0.desks
+close_shares-requires g c = ?
 
 pub close_columns-requires-clause-passes : goal.close_columns-requires-clause-passes
 close_columns-requires-clause-passes g c = λ n clients at.
