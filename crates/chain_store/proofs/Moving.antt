@@ -28,7 +28,7 @@ use Rattle.chain_store.specs.Entered.{AreBelow}
 use Rattle.chain_store.specs.Histories.{Brings, IsOfMaker}
 use Rattle.chain_store.specs.Marks.{proposes, Backs, IsBacked}
 use Rattle.chain_store.specs.Columns.{IsOfHistory, newest_in, newest_nodes, told_by, last_of, told_event, told_carry}
-use Rattle.chain_store.specs.Givens.{OfTheirHeads}
+use Rattle.ring_ends.specs.Givens.{OfTheirHeads}
 use Rattle.chain_store.proofs.Backing.{backed_more}
 use Rattle.chain_store.proofs.Entering.{get_last, get_cases, map_with, names_more, enters_more}
 

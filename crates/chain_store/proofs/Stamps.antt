@@ -22,7 +22,7 @@ use Rattle.chain_store.specs.declared.told.Told.{Told}
 use Rattle.chain_store.specs.Histories.{entries_in}
 use Rattle.chain_store.specs.Passes.{dated_in, IsLawfulTold}
 use Rattle.chain_store.specs.Moves.{ShowsGiven}
-use Rattle.chain_store.specs.Givens.{OfTheirHeads}
+use Rattle.ring_ends.specs.Givens.{OfTheirHeads}
 use Rattle.chain_store.specs.declared.hold.Hold.{Hold}
 use Rattle.chain_store.specs.declared.region.Region.{Region}
 use Rattle.chain_store.specs.Regions.{tag_at}

@@ -12,7 +12,9 @@ use Rattle.col_core.specs.Computed.{dated}
 use Rattle.ring_ends.specs.declared.rings.Rings.{Rings}
 use Rattle.ring_ends.specs.declared.sends.Sends.{Sends}
 use Rattle.ring_ends.specs.declared.receives.Receives.{Receives}
-use Rattle.ring_ends.specs.Rings.{ring_place, gone, got, OfTheirHeads}
+use Rattle.ring_ends.specs.Places.{ring_place}
+use Rattle.ring_ends.specs.Givens.{OfTheirHeads}
+use Rattle.ring_ends.specs.Rings.{gone, got}
 use Rattle.chain_store.specs.declared.told.Tag.{Tag}
 use Rattle.chain_store.specs.declared.told.Told.{Told}
 use Rattle.chain_store.specs.Histories.{entries_in, EntersAs}

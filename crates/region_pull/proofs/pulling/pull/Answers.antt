@@ -1,5 +1,5 @@
 use Rattle.std.proofs.Common.{ℕ, refl, sym, subst}
-use Rattle.chain_store.specs.Givens.{OfTheirHeads}
+use Rattle.ring_ends.specs.Givens.{OfTheirHeads}
 use Rattle.chain_store.specs.Regions.{tag_at}
 use Rattle.chain_store.specs.Holds.{CarriesIn, seen_in}
 use Rattle.chain_store.proofs.CallerLemmas.{given_stamped, lawful_seen}

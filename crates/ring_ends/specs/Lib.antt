@@ -1,0 +1,4 @@
+pub mod Places
+pub mod Givens
+pub mod Rings
+pub mod NewRings
