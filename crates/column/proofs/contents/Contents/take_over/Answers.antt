@@ -2,10 +2,10 @@ use Rattle.std.proofs.Common.{subst}
 use Rattle.column.specs.Columns.{ColumnState}
 use Rattle.column.specs.Inside.{IsStillReached}
 use Rattle.column.proofs.Steps.{reached_yet}
-use Rattle.column.proofs.contents.Contents.carry.Goals as goal
+use Rattle.column.proofs.contents.Contents.take_over.Goals as goal
 
-pub returns-then-count-eq0-clause-cut : goal.returns-then-count-eq0-clause-cut
-returns-then-count-eq0-clause-cut c =
+pub returns-then-is_empty-clause-cut : goal.returns-then-is_empty-clause-cut
+returns-then-is_empty-clause-cut c =
     let i = c.self.inside in
     let old : ColumnState = record {
       region = i.region;
