@@ -1,9 +1,10 @@
 -- A column with one entry more by which no node enters.
-use Rattle.std.proofs.Common.{Result, Ok, Err, ◌≡◌, ℕ, zero, suc, ◌+◌, ◌-◌, ◌<◌, ◌≤◌, true, false, List, [], ◌∷◌, ◌++◌, length, map, drop, Some, refl, ap, sym, subst, ◌∙◌, arith, min, inl, inr, ◌⊎◌, length-append}
-use Rattle.std.specs.Prelude.{OnOk, OnErr, if◌then◌else◌, nat_lt, slice_get, slice_set, slice_index, slice_index_or}
-use Rattle.std.specs.List.{Contains}
+use Rattle.std.proofs.Common.{Result, Ok, Err, ◌≡◌, ℕ, zero, suc, ◌+◌, ◌-◌, ◌<◌, ◌≤◌, ◌≢◌, eq-eqb, true, false, List, [], ◌∷◌, ◌++◌, length, map, drop, Some, refl, ap, sym, subst, ◌∙◌, arith, min, inl, inr, ◌⊎◌, length-append}
+use Rattle.std.specs.Prelude.{◌==◌, OnOk, OnErr, if◌then◌else◌, nat_lt, slice_get, slice_set, slice_index, slice_index_or}
+use Rattle.std.specs.List.{Contains, flat_map}
 use Rattle.std.specs.Option.{option_map}
-use Rattle.std.proofs.lemmas.Bool.{cases_eq, ltb-true, ltb-false}
+use Rattle.std.proofs.lemmas.Bool.{cases_eq, ltb-true, ltb-false, ne_eqb}
+use Rattle.std.proofs.lemmas.Grind.{flat_map-append}
 use Rattle.std.proofs.lemmas.List.{get_or-set_same, get_or-set_other}
 use Rattle.std.proofs.lemmas.Option.{slice_get_within, slice_get-map, get_or_from_slice_get}
 use Rattle.log_node.specs.declared.limits.TheConstants.{MAX_STAMP}
@@ -18,7 +19,9 @@ use Rattle.col_core.specs.declared.Entry.{Entry}
 use Rattle.col_core.specs.declared.Event.{Event}
 use Rattle.col_core.specs.declared.Event.TheVariants.{Raise, Give, Carry, Trim}
 use Rattle.col_core.specs.History.{clock, enters, event_number, last_stamp, line}
-use Rattle.col_core.proofs.CallerLemmas.{by_test, if_true, if_false}
+use Rattle.col_core.specs.Cuts.{Dated, chain, carried}
+use Rattle.col_core.specs.Computed.{cut, dated}
+use Rattle.col_core.proofs.CallerLemmas.{if_true, if_false, dated-append}
 use Rattle.column.specs.Columns.{ColumnState, after_raise, after_give, after_trim, with_items, copy_of, held_of, base_after, HasStored, HasCarried}
 use Rattle.atomic_table.specs.Seated.{TableId}
 use Rattle.stamp_board.specs.declared.view.Size.{Size}
@@ -418,3 +421,51 @@ carried_below (Err e) column new by region items numbers ok err below = (
   subst (λ (c : ColumnState). AreBelow c.journal numbers) (sym err) below,
   ap (λ (c : ColumnState). c.regions) err,
 )
+
+-- nodes that were taken over leave what never changes of a column
+pub items_keep : (column new : ColumnState) (by region : ℕ) (items : List PlacedNode) → new ≡ with_items column by region items
+    → (new.region ≡ column.region) × (new.colour ≡ column.colour) × (new.regions ≡ column.regions)
+items_keep column new by region [] is =
+    (ap (λ (c : ColumnState). c.region) is, ap (λ (c : ColumnState). c.colour) is, ap (λ (c : ColumnState). c.regions) is)
+items_keep column new by region (first ∷ rest) is =
+    (ap (λ (c : ColumnState). c.region) is, ap (λ (c : ColumnState). c.colour) is, ap (λ (c : ColumnState). c.regions) is)
+
+-- and its region's chain is longer by them
+pub items_held : (column new : ColumnState) (by region : ℕ) (items : List PlacedNode) → new ≡ with_items column by region items
+    → region ≢ column.region → held_of new region ≡ held_of column region + length items
+items_held column new by region [] is other =
+    let e = ap (λ (c : ColumnState). held_of c region) is in omega (arith, e)
+items_held column new by region (first ∷ rest) is other =
+    let own = column.region in
+    let items : List PlacedNode = first ∷ rest in
+    let e = (told_carry by region (held_of column region) items).entry in
+    let ds = dated own column.journal in
+    let d : Dated = record { entry = e; cut_before = cut own ds } in
+    let f : Dated → List Head = λ d. carried region d.entry.event in
+    let no = ne_eqb region own other in
+    let heads : List Head = map (λ (i : PlacedNode). i.head) items in
+    let now : held_of new region ≡ length (chain own (dated own (column.journal ++ e ∷ [])) region) =
+    ap (λ (c : ColumnState). held_of c region) is in
+    let long : length (chain own (dated own (column.journal ++ e ∷ [])) region) ≡ length (chain own (ds ++ d ∷ []) region) =
+    ap (λ (l : List Dated). length (chain own l region)) (dated-append own column.journal e) in
+    let one : chain own (ds ++ d ∷ []) region ≡ flat_map f (ds ++ d ∷ []) =
+    if_false (region == own) _ (flat_map f (ds ++ d ∷ [])) no in
+    let two : chain own ds region ≡ flat_map f ds = if_false (region == own) _ (flat_map f ds) no in
+    let three : flat_map f (ds ++ d ∷ []) ≡ flat_map f ds ++ flat_map f (d ∷ []) = flat_map-append f ds (d ∷ []) in
+    let four : flat_map f (d ∷ []) ≡ heads ++ [] =
+    ap (λ (l : List Head). l ++ []) (if_true (region == region) heads [] (eq-eqb region region refl)) in
+    omega (
+      arith,
+      now,
+      long,
+      ap length one,
+      ap length two,
+      ap length three,
+      ap length four,
+      length-append (flat_map f ds) (flat_map f (d ∷ [])),
+      length-append heads [],
+      length_map items,
+    ) where
+      length_map : (l : List PlacedNode) → length (map (λ (i : PlacedNode). i.head) l) ≡ length l
+      length_map [] = refl
+      length_map (x ∷ xs) = ap (λ (n : ℕ). suc n) (length_map xs)

@@ -14,7 +14,9 @@ use Rattle.col_core.specs.Cuts.{Dated, carried, chain}
 use Rattle.col_core.specs.Computed.{dated}
 use Rattle.col_core.specs.Legal.{IsColumnHistory}
 use Rattle.col_core.proofs.CallerLemmas.{by_test, if_true, if_false, chains_grow, dates_longer, later}
-use Rattle.column.specs.Columns.{ColumnState}
+use Rattle.log_node.specs.declared.ids.Key.{Key}
+use Rattle.column.specs.Entering.{EnteredNode}
+use Rattle.column.specs.Columns.{ColumnState, chains_of, placed, HasStored}
 use Rattle.atomic_table.specs.Seated.{TableId}
 use Rattle.stamp_board.specs.declared.view.Size.{Size}
 use Rattle.ring_ends.specs.declared.rings.Rings.{Rings}
@@ -30,7 +32,7 @@ use Rattle.chain_store.specs.Histories.{entries_in, EntersAs}
 use Rattle.stamp_board.specs.Seats.{column_seen}
 use Rattle.chain_store.specs.declared.seated.Seated.{Seated}
 use Rattle.chain_store.specs.Marks.{IsBacked}
-use Rattle.chain_store.specs.Columns.{IsOfHistory, Stands, tag_of, told_carry, waiting_in, waiting_of}
+use Rattle.chain_store.specs.Columns.{IsOfHistory, Stands, tag_of, told_carry, waiting_in}
 use Rattle.chain_store.specs.Rings.{under, carried_from, AreNextOwn, AreSent, AreReceived, RingsFit}
 use Rattle.chain_store.proofs.Entering.{enters_more}
 
@@ -288,6 +290,29 @@ sent_on column t clients log items more region of next a = record {
   split_at (z ∷ xs) ys zero y e = inl e
   split_at (z ∷ xs) ys (suc n) y e = split_at xs ys n y e
 
+-- one more that comes next
+pub next_more : (column : ColumnState) (start place : ℕ) (more : List PlacedNode) (key : Key) (e : EnteredNode) (i : PlacedNode)
+    → place ≡ start + length more
+    → slice_get (chains_of column column.region) place ≡ Some (record { key = key; needs = e.needs })
+    → HasStored column key e.node → i ≡ placed key e → AreNextOwn column start more
+    → AreNextOwn column start (more ++ i ∷ [])
+next_more column start place more key e i is there stored of next n x at = elim (last_or more i n x at) [
+  | inl old ↦ next n x old
+  | inr new ↦
+      subst (λ (y : PlacedNode). (slice_get (chains_of column column.region) (start + n) ≡ Some y.head)
+      × HasStored column y.head.key y.node) (sym of ∙ new.0)
+      (ap (slice_get (chains_of column column.region)) (let m = new.1 in omega (arith, is, m)) ∙ there, stored)
+] where
+  last_or : (xs : List PlacedNode) (x : PlacedNode) (n : ℕ) (y : PlacedNode) → slice_get (xs ++ x ∷ []) n ≡ Some y
+      → (slice_get xs n ≡ Some y) ⊎ ((x ≡ y) × (n ≡ length xs))
+  last_or [] x zero y e = inr ((let f : x ≡ y = cc (e) in f), refl)
+  last_or [] x (suc n) y e = absurd (let f : ⊥ = cc (e) in f)
+  last_or (z ∷ xs) x zero y e = inl e
+  last_or (z ∷ xs) x (suc n) y e = elim (last_or xs x n y e) [
+    | inl old ↦ inl old
+    | inr new ↦ inr (new.0, ap suc new.1)
+  ]
+
 -- rings of which one end has sent more
 pub fit_fed : (t : Tag) (old new : Rings) (log : List Told) (k : ℕ) (s : Sends)
     → new.sends.items ≡ slice_set old.sends.items k s → new.receives.items ≡ old.receives.items
@@ -327,6 +352,22 @@ names_received old new k q r at sends receives same =
     ∙ ap (λ (l : List Sends). names (map ring_sent l) (map ring_received old.receives.items)) sends where
       names : List RingName → List RingName → RingNames
       names xs ys = record { sends = xs; receives = ys }
+
+-- what waits of a region at its end
+pub waits_at : (xs : List Receives) (k own region : ℕ) (q : Receives) → k ≡ ring_place own region → slice_get xs k ≡ Some q
+    → waiting_in (slice_get xs (ring_place own region)) ≡ q.waiting.items
+waits_at xs k own region q place at =
+    ap (λ (n : ℕ). waiting_in (slice_get xs n)) (sym place) ∙ ap waiting_in at
+
+-- what waits of a region at the end that was set
+pub waits_now : (xs : List Receives) (k own region : ℕ) (q r : Receives) → k ≡ ring_place own region → slice_get xs k ≡ Some q
+    → waiting_in (slice_get (slice_set xs k r) (ring_place own region)) ≡ r.waiting.items
+waits_now xs k own region q r place at =
+    ap (λ (n : ℕ). waiting_in (slice_get (slice_set xs k r) n)) (sym place) ∙ ap waiting_in (set_got xs k r q at) where
+      set_got : (ys : List Receives) (n : ℕ) (x y : Receives) → slice_get ys n ≡ Some y → slice_get (slice_set ys n x) n ≡ Some x
+      set_got [] n x y e = absurd (let f : ⊥ = cc (e) in f)
+      set_got (z ∷ ys) zero x y e = refl
+      set_got (z ∷ ys) (suc n) x y e = set_got ys n x y e
 
 -- What a column beside its seat and its rings stands for, where nodes have gone through one of the rings.
 
@@ -370,9 +411,6 @@ module _ (s : Seated) (after : Rings) (k : ℕ) where
 
     set : after.receives.items ≡ slice_set s.rings.receives.items (ring_place s.column.region region) r
     set = receives ∙ ap (λ (n : ℕ). slice_set s.rings.receives.items n r) place
-
-    pub waits : waiting_of s region ≡ q.waiting.items
-    waits = ap waiting_in there
 
     -- nodes were received
     pub drained : (more : List PlacedNode) → got r ≡ got q ++ more → r.waiting.items ≡ q.waiting.items ++ more

@@ -104,6 +104,7 @@ fn split_columns(
             column,
             seat,
             entered: _,
+            rings: _,
         } = seated;
         columns.push(column)?;
         seats.push(seat)?;

@@ -33,6 +33,7 @@ pub fn open_column(
     let column = Column::open(alloc, region, colour, shape)?;
     let seated = Seated {
         column,
+        rings: ring_ends::Rings { sends: Vec::new(alloc), receives: Vec::new(alloc) },
         seat,
         entered: [0; CLIENTS],
     };

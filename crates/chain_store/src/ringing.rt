@@ -22,10 +22,10 @@ fn send_line(column: &Column, sends: &mut Sends)
 {
     column.agrees();
     let base = column.base().of_region(column.region());
-    let end = column.line().len() as u64;
+    let lined = column.line().len() as u64;
     for _ in 0..sends.room() {
         let place = sends.sent();
-        if place < base || place >= end {
+        if place < base || place >= lined {
             break;
         }
         let (key, entered) = column.own_entered(place);
