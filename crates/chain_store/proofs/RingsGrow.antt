@@ -243,6 +243,14 @@ own_grows t log whole p lawful =
     (chains_grow own t.regions (dated own old) (later own (dated own old) more)
     (subst (IsColumnHistory own t.regions) dates lawful) own)
 
+-- a place of a column's own chain is so in the history for which it stands
+own_place : (column : ColumnState) (t : Tag) (clients : ℕ) (log : List Told) (n : ℕ) (h : Head) → column.region ≡ t.region
+    → IsOfHistory column clients log → slice_get (chains_of column column.region) n ≡ Some h
+    → slice_get (chain t.region (dated t.region (entries_in log)) t.region) n ≡ Some h
+own_place column t clients log n h region of at =
+    subst (λ (k : ℕ). slice_get (chain k (dated k (entries_in log)) k) n ≡ Some h) region
+    (subst (λ (l : List Entry). slice_get (chain column.region (dated column.region l) column.region) n ≡ Some h) of.same at)
+
 -- more own nodes were sent, the next ones
 pub sent_on : (column : ColumnState) (t : Tag) (clients : ℕ) (log : List Told) (items more : List PlacedNode)
     → column.region ≡ t.region → IsOfHistory column clients log → AreNextOwn column (length items) more
@@ -256,10 +264,7 @@ sent_on column t clients log items more region of next a = record {
       (a.begins whole grows lawful)
       (λ n m h is at.
       let w = mapped more n h at in
-      let there : slice_get (chain t.region (dated t.region (entries_in log)) t.region) (length items + n) ≡ Some w.0.head =
-      subst (λ (k : ℕ). slice_get (chain k (dated k (entries_in log)) k) (length items + n) ≡ Some w.0.head) region
-      (ap (λ (l : List Entry). slice_get (chain column.region (dated column.region l) column.region) (length items + n))
-      (sym of.same) ∙ (next n w.0 w.1).0) in
+      let there = own_place column t clients log (length items + n) w.0.head region of (next n w.0 w.1).0 in
       ap (slice_get long) (is ∙ ap (λ (k : ℕ). k + n) (length_map items))
       ∙ subst (λ (l : List Head). slice_get l (length items + n) ≡ Some h) g.1
       (get_front (chain t.region (dated t.region (entries_in log)) t.region) g.0 (length items + n) h
