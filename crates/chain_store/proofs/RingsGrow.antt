@@ -257,18 +257,8 @@ pub sent_on : (column : ColumnState) (t : Tag) (clients : ℕ) (log : List Told)
     → AreSent t log items → AreSent t log (items ++ more)
 sent_on column t clients log items more region of next a = record {
   begins = λ whole grows lawful.
-      let long = chain t.region (dated t.region (entries_in whole)) t.region in
-      let g = own_grows t log whole grows lawful in
-      subst (λ (l : List Head). IsPrefix l long) (sym (map-append (λ (i : PlacedNode). i.head) items more))
-      (prefix_on (map (λ (i : PlacedNode). i.head) items) (map (λ (i : PlacedNode). i.head) more) long
-      (a.begins whole grows lawful)
-      (λ n m h is at.
-      let w = mapped more n h at in
-      let there = own_place column t clients log (length items + n) w.0.head region of (next n w.0 w.1).0 in
-      ap (slice_get long) (is ∙ ap (λ (k : ℕ). k + n) (length_map items))
-      ∙ subst (λ (l : List Head). slice_get l (length items + n) ≡ Some h) g.1
-      (get_front (chain t.region (dated t.region (entries_in log)) t.region) g.0 (length items + n) h
-      (there ∙ ap (λ (x : Head). Some x) w.2))));
+      longer (chain t.region (dated t.region (entries_in whole)) t.region) (own_grows t log whole grows lawful)
+      (a.begins whole grows lawful);
   entered = λ n i at. elim (split_at items more n i at) [
     | inl old ↦ a.entered n i old
     | inr new ↦ of.stored i.head.key i.node (next new.0 i new.1).1
@@ -294,6 +284,22 @@ sent_on column t clients log items more region of next a = record {
   split_at [] ys n y e = inr (n, e)
   split_at (z ∷ xs) ys zero y e = inl e
   split_at (z ∷ xs) ys (suc n) y e = split_at xs ys n y e
+
+  longer : (long : List Head) → IsPrefix (chain t.region (dated t.region (entries_in log)) t.region) long
+      → IsPrefix (map (λ (i : PlacedNode). i.head) items) long
+      → IsPrefix (map (λ (i : PlacedNode). i.head) (items ++ more)) long
+  longer long g front =
+      subst (λ (l : List Head). IsPrefix l long) (sym (map-append (λ (i : PlacedNode). i.head) items more))
+      (prefix_on (map (λ (i : PlacedNode). i.head) items) (map (λ (i : PlacedNode). i.head) more) long front
+      (λ n m h is at.
+      let w = mapped more n h at in
+      let there = own_place column t clients log (length items + n) w.0.head region of (next n w.0 w.1).0 in
+      let place : m ≡ length items + n = (let e = length_map items in omega (arith, is, e)) in
+      subst (λ (k : ℕ). slice_get long k ≡ Some h) (sym place)
+      (subst (λ (l : List Head). slice_get l (length items + n) ≡ Some h) g.1
+      (get_front (chain t.region (dated t.region (entries_in log)) t.region) g.0 (length items + n) h
+      (subst (λ (x : Head). slice_get (chain t.region (dated t.region (entries_in log)) t.region) (length items + n) ≡ Some x)
+      w.2 there)))))
 
 -- one more that comes next
 pub next_more : (column : ColumnState) (start place : ℕ) (more : List PlacedNode) (key : Key) (e : EnteredNode) (i : PlacedNode)
@@ -359,15 +365,15 @@ names_received old new k q r at sends receives same =
       names xs ys = record { sends = xs; receives = ys }
 
 -- what waits of a region at its end
-pub waits_at : (xs : List Receives) (k own region : ℕ) (q : Receives) → k ≡ ring_place own region → slice_get xs k ≡ Some q
+pub waiting_at : (xs : List Receives) (k own region : ℕ) (q : Receives) → k ≡ ring_place own region → slice_get xs k ≡ Some q
     → waiting_in (slice_get xs (ring_place own region)) ≡ q.waiting.items
-waits_at xs k own region q place at =
+waiting_at xs k own region q place at =
     ap (λ (n : ℕ). waiting_in (slice_get xs n)) (sym place) ∙ ap waiting_in at
 
 -- what waits of a region at the end that was set
-pub waits_now : (xs : List Receives) (k own region : ℕ) (q r : Receives) → k ≡ ring_place own region → slice_get xs k ≡ Some q
+pub waiting_now : (xs : List Receives) (k own region : ℕ) (q r : Receives) → k ≡ ring_place own region → slice_get xs k ≡ Some q
     → waiting_in (slice_get (slice_set xs k r) (ring_place own region)) ≡ r.waiting.items
-waits_now xs k own region q r place at =
+waiting_now xs k own region q r place at =
     ap (λ (n : ℕ). waiting_in (slice_get (slice_set xs k r) n)) (sym place) ∙ ap waiting_in (set_got xs k r q at) where
       set_got : (ys : List Receives) (n : ℕ) (x y : Receives) → slice_get ys n ≡ Some y → slice_get (slice_set ys n x) n ≡ Some x
       set_got [] n x y e = absurd (let f : ⊥ = cc (e) in f)

@@ -1,4 +1,4 @@
-use Rattle.std.proofs.Common.{◌≡◌, ◌<◌, ◌≢◌, ℕ, List, false, Ok, Option, Some, refl, ap, sym, subst, ◌∙◌, arith}
+use Rattle.std.proofs.Common.{◌≡◌, ◌<◌, ◌≤◌, length, ◌≢◌, ℕ, List, false, Ok, Option, Some, refl, ap, sym, subst, ◌∙◌, arith}
 use Rattle.std.specs.Prelude.{nat_lt, IfSome}
 use Rattle.std.proofs.lemmas.Bool.{ltb-true, ltb-false}
 use Rattle.turn_cell.specs.Cells.{seen}
@@ -65,8 +65,8 @@ returns-in-Ok-Some-clause-ok g c =
     let is = tagged z x (tag_in cell) c.deref_mut.ensures.value t.tag in
     let e = told_carry c.args.by region (held_of x.column region) (waiting_of x region) in
     carries_at (tag_in cell) x y c.args.by region c.args.least (waiting_of x region) p q r c.end.result count stands is
-    c.end.ensures.value (c.carry.ensures.tag ∙ is) (some_is _ c.in-Ok-Some.field-0-is c.in-Ok-Some.ensures.count)
-    (some_is _ c.in-Ok-Some.field-0-is c.in-Ok-Some.ensures.covers)
+    c.end.ensures.value (c.carry.ensures.tag ∙ is) (some_is (λ (n : ℕ). n ≡ length (waiting_of x region)) c.in-Ok-Some.field-0-is c.in-Ok-Some.ensures.count)
+    (some_is (λ (_ : ℕ). c.args.least ≤ held_of y.column region) c.in-Ok-Some.field-0-is c.in-Ok-Some.ensures.covers)
     (moved_at cell c.args.by p q r c.end.result t.turn.0 t.more x y e stands refl c.end.ensures.look c.end.ensures.event
     (nat_lt 0 count) (λ yes. c.in-Ok-Some.ensures.carried count (ap Ok c.in-Ok-Some.field-0-is) (ltb-true 0 count yes))
     (λ none. c.in-Ok-Some.ensures.nothing

@@ -1,4 +1,4 @@
-use Rattle.std.proofs.Common.{◌≡◌, ◌≢◌, ◌<◌, ◌≤◌, ◌+◌, ◌++◌, ◌∷◌, [], ◌∙◌, ℕ, List, ap, sym, subst, refl, length, Some, None, Ok, Err, Result, arith}
+use Rattle.std.proofs.Common.{◌≡◌, ◌<◌, ◌≤◌, ◌+◌, ◌++◌, ◌∷◌, [], ◌∙◌, ℕ, List, ap, sym, subst, refl, length, Some, Ok, Err, Result, arith}
 use Rattle.std.specs.Prelude.{OnErr, slice_get}
 use Rattle.std.proofs.lemmas.Option.{slice_get_read}
 use Rattle.log_node.specs.Seen.{PlacedNode}
@@ -10,17 +10,14 @@ use Rattle.stamp_board.specs.Seats.{column_seen}
 use Rattle.std.specs.Vec.{with_item}
 use Rattle.ring_ends.specs.declared.rings.Rings.{Rings}
 use Rattle.ring_ends.specs.declared.receives.Receives.{Receives}
-use Rattle.ring_ends.specs.Rings.{names_of}
 use Rattle.ring_ends.specs.Places.{ring_place}
 use Rattle.ring_ends.specs.Givens.{OfTheirHeads}
-use Rattle.chain_store.specs.declared.told.Tag.{Tag}
-use Rattle.chain_store.specs.declared.told.Told.{Told}
 use Rattle.chain_store.specs.declared.seated.Seated.{Seated}
 use Rattle.chain_store.specs.Tags.{tag}
 use Rattle.chain_store.specs.Columns.{told_carry, waiting_of}
 use Rattle.chain_store.specs.Rings.{RingsFit}
 use Rattle.chain_store.proofs.Moving.{StandsIn, carry_gains, items_keep, items_held}
-use Rattle.chain_store.proofs.RingsGrow.{emptied, undrained, names_received, waits_at}
+use Rattle.chain_store.proofs.RingsGrow.{emptied, undrained, names_received, waiting_at}
 use Rattle.chain_store.proofs.seated.Seated.carry.Goals as goal
 
 empty : {A : Type 0} (xs : List A) → length xs ≡ 0 → xs ≡ []
@@ -31,7 +28,7 @@ empty (x ∷ xs) e = absurd (let f : ⊥ = omega (arith, e) in f)
 counts : (s : Seated) (k region count : ℕ) (q : Receives) → k ≡ ring_place s.column.region region
     → slice_get s.rings.receives.items k ≡ Some q → count ≡ length q.waiting.items → count ≡ length (waiting_of s region)
 counts s k region count q place at long =
-    let w = ap length (waits_at s.rings.receives.items k s.column.region region q place at) in omega (arith, long, w)
+    let w = ap length (waiting_at s.rings.receives.items k s.column.region region q place at) in omega (arith, long, w)
 
 on_err : {T E : Type 0} (r : Result T E) (P : Type 0) → P → OnErr r P
 on_err (Ok x) P p = tt
@@ -117,7 +114,7 @@ returns-clause-carried c = λ count is some.
     let r : Receives = record { consumer = q.consumer; waiting = c.take_over.new.items } in
     let after : Rings = record { sends = s.rings.sends; receives = with_item s.rings.receives c.place_of-place.result r } in
     let waits : waiting_of s c.args.region ≡ q.waiting.items =
-    waits_at s.rings.receives.items c.place_of-place.result s.column.region c.args.region q place at in
+    waiting_at s.rings.receives.items c.place_of-place.result s.column.region c.args.region q place at in
     let seen = c.index.result.now in
     let counted : c.len-count.result ≡ length (waiting_of s c.args.region) =
     counts s c.place_of-place.result c.args.region c.len-count.result seen place
@@ -150,7 +147,7 @@ returns-clause-covers c =
     let r : Receives = record { consumer = q.consumer; waiting = c.take_over.new.items } in
     let after : Rings = record { sends = s.rings.sends; receives = with_item s.rings.receives c.place_of-place.result r } in
     let waits : waiting_of s c.args.region ≡ q.waiting.items =
-    waits_at s.rings.receives.items c.place_of-place.result s.column.region c.args.region q place at in
+    waiting_at s.rings.receives.items c.place_of-place.result s.column.region c.args.region q place at in
     let seen = c.index.result.now in
     let counted : c.len-count.result ≡ length (waiting_of s c.args.region) =
     counts s c.place_of-place.result c.args.region c.len-count.result seen place
@@ -181,7 +178,7 @@ returns-clause-nothing c = λ is log st.
     let r : Receives = record { consumer = q.consumer; waiting = c.take_over.new.items } in
     let after : Rings = record { sends = s.rings.sends; receives = with_item s.rings.receives c.place_of-place.result r } in
     let waits : waiting_of s c.args.region ≡ q.waiting.items =
-    waits_at s.rings.receives.items c.place_of-place.result s.column.region c.args.region q place at in
+    waiting_at s.rings.receives.items c.place_of-place.result s.column.region c.args.region q place at in
     let seen = c.index.result.now in
     let counted : c.len-count.result ≡ length (waiting_of s c.args.region) =
     counts s c.place_of-place.result c.args.region c.len-count.result seen place

@@ -1,11 +1,10 @@
-use Rattle.std.proofs.Common.{◌≡◌, ◌≢◌, ◌<◌, ◌∙◌, ap, sym, refl, length, Some, arith}
-use Rattle.std.specs.Prelude.{slice_get}
+use Rattle.std.proofs.Common.{◌≡◌, ◌<◌, ◌∙◌, ap, refl, length, arith}
 use Rattle.std.proofs.lemmas.Option.{slice_get_read}
 use Rattle.log_node.specs.Vectors.{at}
 use Rattle.log_node.proofs.CallerLemmas.{at-vector}
 use Rattle.column.specs.Columns.{held_of}
 use Rattle.ring_ends.specs.Places.{ring_place}
-use Rattle.chain_store.proofs.RingsGrow.{drained, undrained, waits_now}
+use Rattle.chain_store.proofs.RingsGrow.{drained, undrained, waiting_now}
 use Rattle.chain_store.proofs.seated.Seated.drain.Goals as goal
 
 pub returns-in_err-receive-clause-stays : goal.returns-in_err-receive-clause-stays
@@ -40,7 +39,7 @@ returns-clause-count c =
     let few : region < 4 = omega (arith, c.agrees.ensures.few_regions, c.requires.region) in
     let held : c.of_region-held.result ≡ held_of s.column region =
     c.of_region-held.ensures ∙ ap (λ v. at v region) c.held.ensures ∙ at-vector (λ r. held_of s.column r) region few in
-    let waits = waits_now s.rings.receives.items k s.column.region region q c.receive.new.self
+    let waits = waiting_now s.rings.receives.items k s.column.region region q c.receive.new.self
     (c.place_of-place.ensures ∙ ap (λ r. ring_place r region) c.region.ensures)
     (slice_get_read s.rings.receives.items c.len.result k q (let l = c.len.ensures in omega (arith, l))
     (let f = c.if-place-len.false in omega (arith, f)) c.index_mut-receives.ensures.value) in
