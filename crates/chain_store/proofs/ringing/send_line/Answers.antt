@@ -1,4 +1,4 @@
-use Rattle.std.proofs.Common.{◌≡◌, ◌+◌, ◌++◌, [], ◌∷◌, ◌∙◌, ap, sym, length, append_assoc, length-append, arith, rules}
+use Rattle.std.proofs.Common.{◌++◌, [], ◌∷◌, ◌∙◌, ap, length, append_assoc, length-append, arith, rules}
 use Rattle.ring_ends.specs.Rings.{gone}
 use Rattle.chain_store.proofs.RingsGrow.{next_more}
 use Rattle.chain_store.proofs.ringing.send_line.Goals as goal
