@@ -82,8 +82,7 @@ returns-clause-few c =
     let enough : c.args.least ≤ held_of s.column c.args.region + length (waiting_of s c.args.region) =
     (let sum = c.saturating_add.ensures in
     let f = c.if-saturating_add-least.false in
-    let small = c.ranges.least.fits in omega (arith, held, counted, sum, f, small)) in
-    (
+    let small = c.ranges.least.fits in omega (arith, held, counted, sum, f, small)) in (
       (λ is. absurd (let f : ⊥ = cc (is) in f)),
       (λ less. absurd (let f : ⊥ = omega (arith, enough, less) in f)),
     )
