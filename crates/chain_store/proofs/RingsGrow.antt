@@ -284,6 +284,12 @@ sent_on column t clients log items more region of next a = record {
   split_at (z ∷ xs) ys zero y e = inl e
   split_at (z ∷ xs) ys (suc n) y e = split_at xs ys n y e
 
+  head_at : (i : PlacedNode) (n : ℕ) (h : Head) → slice_get more n ≡ Some i → i.head ≡ h
+      → slice_get (chain t.region (dated t.region (entries_in log)) t.region) (length items + n) ≡ Some h
+  head_at i n h at is =
+      subst (λ (x : Head). slice_get (chain t.region (dated t.region (entries_in log)) t.region) (length items + n) ≡ Some x)
+      is (own_place column t clients log (length items + n) i.head region of (next n i at).0)
+
   longer : (long : List Head) → IsPrefix (chain t.region (dated t.region (entries_in log)) t.region) long
       → IsPrefix (map (λ (i : PlacedNode). i.head) items) long
       → IsPrefix (map (λ (i : PlacedNode). i.head) (items ++ more)) long
@@ -292,13 +298,11 @@ sent_on column t clients log items more region of next a = record {
       (prefix_on (map (λ (i : PlacedNode). i.head) items) (map (λ (i : PlacedNode). i.head) more) long front
       (λ n m h is at.
       let w = mapped more n h at in
-      let there = own_place column t clients log (length items + n) w.0.head region of (next n w.0 w.1).0 in
       let place : m ≡ length items + n = (let e = length_map items in omega (arith, is, e)) in
       subst (λ (k : ℕ). slice_get long k ≡ Some h) (sym place)
       (subst (λ (l : List Head). slice_get l (length items + n) ≡ Some h) g.1
       (get_front (chain t.region (dated t.region (entries_in log)) t.region) g.0 (length items + n) h
-      (subst (λ (x : Head). slice_get (chain t.region (dated t.region (entries_in log)) t.region) (length items + n) ≡ Some x)
-      w.2 there)))))
+      (head_at w.0 n h w.1 w.2))))
 
 -- one more that comes next
 pub next_more : (column : ColumnState) (start place : ℕ) (more : List PlacedNode) (key : Key) (e : EnteredNode) (i : PlacedNode)
