@@ -302,7 +302,7 @@ sent_on column t clients log items more region of next a = record {
       subst (λ (k : ℕ). slice_get long k ≡ Some h) (sym place)
       (subst (λ (l : List Head). slice_get l (length items + n) ≡ Some h) g.1
       (get_front (chain t.region (dated t.region (entries_in log)) t.region) g.0 (length items + n) h
-      (head_at w.0 n h w.1 w.2))))
+      (head_at w.0 n h w.1 w.2)))))
 
 -- one more that comes next
 pub next_more : (column : ColumnState) (start place : ℕ) (more : List PlacedNode) (key : Key) (e : EnteredNode) (i : PlacedNode)
