@@ -13,6 +13,7 @@ use Rattle.run_rules.specs.Telling.{FindKeys, IsWellFormed, account_of, account_
 use Rattle.run_rules.specs.Rules.{Rule1, Rule3}
 use Rattle.run_rules.specs.Nodes.{HasItsNodes, nodes_told, nodes_with}
 use Rattle.run_rules.specs.Finding.{HasItsFinds, AgreeOnFinds, DecisionsSame, FindSame}
+use Rattle.run_rules.specs.Computing.{account_finding, finds_of}
 use Rattle.run_rules.specs.Keeping.{Keeps, RulesTo, IsLeastBroken, HidesNothing, rule_count}
 use Rattle.run_rules.specs.Agreeing.{Agree, AgreeOnNodes}
 
@@ -189,3 +190,9 @@ abbrev pub OneAccountDecides : Type 0
 OneAccountDecides = (script : Script) (report : Report) (account : Account) → IsFitting script
     → IsTold script report account → RulesTo script report account 5 → (n : ℕ) → n ≤ 8
     → Keeps script report n → RulesTo script report account n
+
+-- What reads found is computed: where a report keeps the rules up to the ninth, the reads of the account that is computed with it
+-- found what they had to, whatever decisions say.
+abbrev pub ComputedFindsAreRight : Type 0
+ComputedFindsAreRight = (script : Script) (report : Report) (decided : ℕ → ℕ → Decision) → IsFitting script
+    → Keeps script report 9 → HasItsFinds script report (account_finding script report (finds_of script report) decided)

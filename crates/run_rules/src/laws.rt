@@ -1,8 +1,9 @@
 // Laws of the rules. Each function does nothing, and its contract is the law.
-ghost use Rattle.run_rules.specs.Laws.{BrokenIsUnlawful, ComputedAccountAgrees, ComputedAccountDecides, ComputedAccountKeeps, FindsAreRight, FindsDecide, FindsKeep, FindsTell, FirstRulesDecided, FoundAccountDecides, FoundAccountKeeps, LaterRulesDecided, LawfulRunsKeepRules, LeastIsOne, NodesAreFound, NodesAreTold, NodesChangeNoStep, OneAccountDecides, ReportsTell, RightFindsDecide, RuleOneForms, RulesMakeLawful, SameFindsDecide, ToldAccountsAgree, ToldFindsAgree, ToldNodesAgree};
+ghost use Rattle.run_rules.specs.Laws.{BrokenIsUnlawful, ComputedAccountAgrees, ComputedAccountDecides, ComputedAccountKeeps, ComputedFindsAreRight, FindsAreRight, FindsDecide, FindsKeep, FindsTell, FirstRulesDecided, FoundAccountDecides, FoundAccountKeeps, LaterRulesDecided, LawfulRunsKeepRules, LeastIsOne, NodesAreFound, NodesAreTold, NodesChangeNoStep, OneAccountDecides, ReportsTell, RightFindsDecide, RuleOneForms, RulesMakeLawful, SameFindsDecide, ToldAccountsAgree, ToldFindsAgree, ToldNodesAgree};
 
 use col_core::region_order_is_unique;
 use part_fold::decisions_are_plain;
+use playback::region_order_is_lawful;
 
 /// A report that hides nothing keeps all rules where it is that of a lawful run.
 pub fn lawful_runs_keep_rules()
@@ -142,3 +143,11 @@ pub fn found_account_keeps()
 pub fn one_account_decides()
     ensures { OneAccountDecides }
 {}
+
+/// What reads found is computed, one stamp after another.
+pub fn computed_finds_are_right()
+    ensures { ComputedFindsAreRight }
+{
+    region_order_is_lawful();
+    decisions_are_plain();
+}
