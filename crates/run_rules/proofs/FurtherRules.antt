@@ -105,13 +105,15 @@ module _ (script : Script) (report : Report) (a b : Account) (fits : IsFitting s
           },
           record { key = refl; text = refl; colours = ap members is.colours ∙ q.2.0.colours },
         );
-    of_line = λ colour lt events key i.
-        shown_of key (key_above script report a fits ta (rule1 ra.0.0.0.0.1) (rule2 ra.0.0.0.1) (rule3 ra.0.0.1) (rule4 ra.0.1)
-        (rule5 ra.1) ninth (caller_of script n).own colour (home, lt) key events i);
-    of_chain = λ colour lt events place head s.
-        shown_of head.key (head_above script report a fits ta (rule1 ra.0.0.0.0.1) (rule2 ra.0.0.0.1) (rule3 ra.0.0.1)
-        (rule4 ra.0.1) (rule5 ra.1) ninth (caller_of script n).own colour (home, lt) events place head s);
-    of_own = λ count. (c, there);
+    known = record {
+      of_line = λ colour lt events key i.
+          shown_of key (key_above script report a fits ta (rule1 ra.0.0.0.0.1) (rule2 ra.0.0.0.1) (rule3 ra.0.0.1)
+          (rule4 ra.0.1) (rule5 ra.1) ninth (caller_of script n).own colour (home, lt) key events i);
+      of_chain = λ colour lt events place head s.
+          shown_of head.key (head_above script report a fits ta (rule1 ra.0.0.0.0.1) (rule2 ra.0.0.0.1) (rule3 ra.0.0.1)
+          (rule4 ra.0.1) (rule5 ra.1) ninth (caller_of script n).own colour (home, lt) events place head s);
+      of_own = λ count. (c, there);
+    };
   } where
     shown_of : (key : Key)
         → IsAbove script report a fits ta (rule1 ra.0.0.0.0.1) (rule2 ra.0.0.0.1) (rule3 ra.0.0.1) (rule4 ra.0.1) (rule5 ra.1) ninth key
@@ -134,7 +136,7 @@ module _ (script : Script) (report : Report) (a b : Account) (fits : IsFitting s
         (λ w. (steps_below w script who a.log b.log (a.steps n) (b.steps n) nothing_kept nothing_kept (a.last n) (b.last n)
         (agree.steps n c there)
         (zip_mapped IsFoundSame (FoundBelow w) (a.steps n) (b.steps n)
-        (λ x y i e. same_found w x.command.what x.reply.answer x.untold.found y.untold.found e) (same.found n c there))
+        (λ x y i j e. same_found w x.command.what x.reply.answer x.untold.found y.untold.found e) (same.found n c there))
         (ta.clients n c there).follow (tb.clients n c there).follow (inr (λ object. refl))).0)
         (λ x y f. kept_alike x.kept y.kept f)
 
@@ -181,9 +183,11 @@ module _ (script : Script) (report : Report) (a b : Account) (fits : IsFitting s
         → All (λ (s : Step). Shows b.log s.untold who (kept_at s) s.command.what s.reply.nodes s.reply.answer) (b.steps n)
     shows = lifted (λ (s : Step). Shows a.log s.untold who (kept_at s) s.command.what s.reply.nodes s.reply.answer)
         (λ (s : Step). Shows b.log s.untold who (kept_at s) s.command.what s.reply.nodes s.reply.answer)
-        (λ x y r o q p. shows_alike script fits n a.log b.log agree.histories home (agree.rows who.own home) IsShown (texts_alike n c there home)
-        x.command.what o.within x.untold y.untold (kept_at x) (kept_at (with_of x y)) (at_both x y r) x.reply.nodes
-        x.reply.answer o.can (λ t k has. r.0.places t k has.1) r.0.too_low p)
+        (λ x y r o q p. shows_alike script fits n a.log b.log agree.histories home (agree.rows who.own home) IsShown
+        (texts_alike n c there home).known x.command.what o.within x.untold y.untold (kept_at x) (kept_at (with_of x y))
+        (at_both x y r) x.reply.nodes x.reply.answer o.can
+        (λ item i has. (texts_alike n c there home).text item.head.key.id has item.node.text)
+        (λ t k has. r.0.places t k has.1) r.0.too_low p)
 
     right : All (λ (s : Step). AnswersRight a.log s.untold who (kept_at s) s.command.what s.reply.answer) (a.steps n)
         → All (λ (s : Step). AnswersRight b.log s.untold who (kept_at s) s.command.what s.reply.answer) (b.steps n)
@@ -221,8 +225,8 @@ module _ (script : Script) (report : Report) (a b : Account) (fits : IsFitting s
         → All (λ (s : Step). StandsNext b.log who (kept_at s) s.command.what s.reply.answer) (b.steps n)
     next = lifted (λ (s : Step). StandsNext a.log who (kept_at s) s.command.what s.reply.answer)
         (λ (s : Step). StandsNext b.log who (kept_at s) s.command.what s.reply.answer)
-        (λ x y r o q p. next_alike script fits n a.log b.log agree.histories home (agree.rows who.own home) IsShown (texts_alike n c there home)
-        x.command.what o.within x.untold y.untold (kept_at x) (kept_at (with_of x y)) (at_both x y r) x.reply.nodes
+        (λ x y r o q p. next_alike script fits n a.log b.log agree.histories home (agree.rows who.own home) IsShown
+        (texts_alike n c there home).known x.command.what o.within x.untold y.untold (kept_at x) (kept_at (with_of x y)) (at_both x y r) x.reply.nodes
         x.reply.answer o.can p)
 
     tree : All (λ (s : Step). TreeAnswers a.log who (kept_at s) s.command.what s.reply.answer) (a.steps n)
@@ -313,7 +317,7 @@ pub right_finds_decide : RegionOrderIsUnique → DecisionsArePlain → RightFind
 right_finds_decide unique plain script report a b fits ta tb rb fb same n least most ra =
     same_finds_decide script report a b fits ta tb rb (record {
       texts = λ m c there. zip_mapped (λ (p q : Node). HaveText p q × DecideSame p q) (λ (p q : Node). p.text ≡ q.text)
-          (a.log.nodes m) (b.log.nodes m) (λ p q i h. text_same p q h.0 h.1)
+          (a.log.nodes m) (b.log.nodes m) (λ p q i j h. text_same p q h.0 h.1)
           (zip_both HaveText DecideSame (a.log.nodes m) (b.log.nodes m) (agree.nodes m c there) (same m c there));
       found = agree.found;
     }) n most ra
