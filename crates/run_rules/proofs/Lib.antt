@@ -21,6 +21,7 @@ mod LawfulRules
 mod LeftOut
 mod HeadsTold
 mod KeysTold
+mod LinesShown
 mod Lists
 mod MarksWithin
 mod NamesAlike
