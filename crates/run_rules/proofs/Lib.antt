@@ -25,6 +25,7 @@ mod LinesShown
 mod Lists
 mod MarksWithin
 mod NamesAlike
+mod NinthRule
 mod NodesAlike
 mod NodesTold
 mod Numbers

@@ -70,6 +70,13 @@ zip_before R (x ∷ xs) [] r y i = absurd i
 zip_before {A} {B} R (x ∷ xs) (z ∷ zs) r y (inl e) = (x, inl refl, subst (λ (w : B). R x w) e r.0)
 zip_before R (x ∷ xs) (z ∷ zs) r y (inr i) = let more = zip_before R xs zs r.1 y i in (more.0, inr more.1, more.2)
 
+pub zip_behind : {A B : Type 0} (R : A → B → Type 0) (xs : List A) (ys : List B) → AllZip R xs ys → (x : A) → In x xs
+    → (y : B) × In y ys × R x y
+zip_behind R [] ys r x i = absurd i
+zip_behind R (z ∷ zs) [] r x i = absurd r
+zip_behind {A} {B} R (z ∷ zs) (y ∷ ys) r x (inl e) = (y, inl refl, subst (λ (w : A). R w y) e r.0)
+zip_behind R (z ∷ zs) (y ∷ ys) r x (inr i) = let more = zip_behind R zs ys r.1 x i in (more.0, inr more.1, more.2)
+
 -- NODE LINES
 
 -- a node line shows the text of an id
