@@ -40,6 +40,7 @@ mod Room
 mod RowsTold
 mod RulesAlike
 mod RulesLawful
+mod SaidTexts
 mod SameKept
 mod ShowsAlike
 mod StepsTold
