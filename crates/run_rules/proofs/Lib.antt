@@ -4,6 +4,7 @@ mod AppendsTold
 mod BareObjects
 mod CausesAlike
 mod Computed
+mod ChosenFinds
 mod ComputedNodes
 mod ComputedSteps
 pub mod CallerLemmas
