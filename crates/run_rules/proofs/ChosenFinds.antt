@@ -346,7 +346,7 @@ zip_append R (x ∷ xs) us (y ∷ ys) vs r s = (r.0, zip_append R xs us ys vs r.
 
 -- a choice of finds and decisions for steps, by which their nodes have the texts that are shown of them
 pub record Choice (script : Script) (report : Report) (log : Log) (caller : Caller) (kept : Kept) (xs : List Step) : Type 0 where
-  reads : Reads
+  pub reads : Reads
   pub reads_keys : (object : ℕ) → keys_found (reads object) ≡ keys_found (kept.reads object)
   pub found : ℕ → List Version
   pub decided : ℕ → Decision
@@ -354,6 +354,11 @@ pub record Choice (script : Script) (report : Report) (log : Log) (caller : Call
   pub says : (ys : List Step) (first latest : Kept) → AllZip (AreStepsAlike script caller) xs ys → FoundBy found ys
       → Follow log caller first ys latest → ((object : ℕ) → first.reads object ≡ reads object)
       → AllZip (HasShown report) (nodes_of (λ k. any_decision) log caller xs) (nodes_of decided log caller ys)
+
+-- where nothing is kept of reads, nothing is to be kept
+pub choice_nothing : (script : Script) (report : Report) (log : Log) (caller : Caller) (xs : List Step)
+    → (one : Choice script report log caller nothing_kept xs) → (object : ℕ) → nothing_kept.reads object ≡ one.reads object
+choice_nothing script report log caller xs one object = sym (none_found (one.reads object) (one.reads_keys object))
 
 -- what is to be kept of reads before a command of this use, for the sake of what is to be kept behind it
 abbrev reads_before : Use → Option (List Version) → Reads → Reads → Reads

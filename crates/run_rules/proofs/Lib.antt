@@ -26,6 +26,7 @@ mod LinesShown
 mod Lists
 mod MarksWithin
 mod NamesAlike
+mod NinthDecided
 mod NinthRule
 mod NodesAlike
 mod NodesTold
