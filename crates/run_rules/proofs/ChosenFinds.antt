@@ -1,15 +1,14 @@
 -- What reads found and decisions say, chosen by the texts that are shown, where these could be said.
-use Rattle.std.proofs.Common.{◌≡◌, ◌∙◌, refl, ap, sym, subst, Bool, true, false, cond, ℕ, zero, suc, List, [], ◌∷◌, ◌++◌, map, Option, Some, None, inl, inr}
-use Rattle.std.specs.Prelude.{◌==◌, slice_get}
+use Rattle.std.proofs.Common.{◌≡◌, ◌∙◌, refl, ap, sym, subst, Bool, true, false, cond, ℕ, zero, suc, List, [], ◌∷◌, ◌++◌, map, Option, Some, None, inl}
+use Rattle.std.specs.Prelude.{◌==◌}
 use Rattle.std.specs.List.{All, AllZip}
 use Rattle.std.proofs.lemmas.Bool.{eq-eqb, eqb-true}
 use Rattle.std.proofs.lemmas.List.Elements.{All-head, All-tail}
 use Rattle.log_node.specs.declared.forms.Version.{Version}
-use Rattle.log_node.specs.declared.ids.Id.{Id}
 use Rattle.log_node.specs.declared.node.Node.{Node}
 use Rattle.part_fold.specs.declared.decision.Decision.{Decision}
 use Rattle.col_core.specs.Log.{Log}
-use Rattle.col_core.specs.Keeping.{Kept, nothing_kept, updated, with_read}
+use Rattle.col_core.specs.Keeping.{Kept, nothing_kept, updated}
 use Rattle.col_core.proofs.CallerLemmas.{In}
 use Rattle.script_text.specs.declared.commands.What.{What}
 use Rattle.script_text.specs.declared.commands.What.TheVariants as whats
@@ -24,14 +23,13 @@ use Rattle.report_text.specs.declared.report.Answer.{Answer}
 use Rattle.report_text.specs.declared.report.Answer.TheVariants as answers
 use Rattle.report_text.specs.declared.report.Ended.{Ended}
 use Rattle.report_text.specs.declared.report.Ended.TheVariants as ends
-use Rattle.report_text.specs.declared.report.KeyAnswer.{KeyAnswer}
 use Rattle.report_text.specs.declared.report.ReplyLine.{ReplyLine}
 use Rattle.report_text.specs.declared.report.Report.{Report}
 use Rattle.lawful_run.specs.Callers.{Caller}
 use Rattle.lawful_run.specs.Asks.{kind_asked, object_colours}
 use Rattle.lawful_run.specs.Deeds.{TextSaid, Exactly, ADecision, IsText, Saying, found_by, saying_of}
 use Rattle.lawful_run.specs.Reads.{kept_after_piece}
-use Rattle.lawful_run.specs.Refusals.{before_by, behind_by, kept_before}
+use Rattle.lawful_run.specs.Refusals.{before_by, behind_by}
 use Rattle.run_rules.specs.Told.{Untold, Step, AreKeysFound, Follow, is_several, kept_at, kept_deciding, kept_past, kept_told, with_found}
 use Rattle.run_rules.specs.Telling.{FindKeys, step_finding, steps_finding}
 use Rattle.run_rules.specs.Nodes.{any_decision, node_asked, node_at_end, node_said, node_told, nodes_of, text_told}
@@ -41,7 +39,7 @@ use Rattle.run_rules.proofs.FindsAlike.{found_by_same}
 use Rattle.run_rules.proofs.FirstAlike.{found_told, read_reads, told_reads}
 use Rattle.run_rules.proofs.NodesAlike.{read_ids}
 use Rattle.run_rules.proofs.OneAccount.{step_with}
-use Rattle.run_rules.proofs.SaidTexts.{found_keys, said_id}
+use Rattle.run_rules.proofs.SaidTexts.{said_id}
 use Rattle.run_rules.proofs.SameKept.{before_same}
 use Rattle.run_rules.proofs.ToldAlike.{several_same}
 

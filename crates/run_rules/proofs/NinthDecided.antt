@@ -1,15 +1,13 @@
 -- Rule 9 is decided by the texts that node lines show.
-use Rattle.std.proofs.Common.{◌≡◌, ◌∙◌, refl, ap, sym, subst, ℕ, zero, suc, List, [], ◌∷◌, map, Option, Some, None, arith}
+use Rattle.std.proofs.Common.{◌≡◌, ◌∙◌, refl, ap, sym, subst, ℕ, List, [], ◌∷◌, Option, Some, None, arith}
 use Rattle.std.specs.Prelude.{slice_get}
 use Rattle.std.specs.List.{AllZip}
 use Rattle.log_node.specs.declared.forms.Version.{Version}
 use Rattle.log_node.specs.declared.ids.Id.{Id}
 use Rattle.log_node.specs.declared.node.Node.{Node}
-use Rattle.log_node.specs.Seen.{PlacedNode}
 use Rattle.part_fold.specs.declared.decision.Decision.{Decision}
 use Rattle.col_core.specs.Log.{Log, HasText}
 use Rattle.col_core.specs.Keeping.{Kept, nothing_kept}
-use Rattle.col_core.proofs.CallerLemmas.{In}
 use Rattle.script_text.specs.declared.script.Command.{Command}
 use Rattle.script_text.specs.declared.script.Script.{Script}
 use Rattle.script_text.specs.Fitting.{IsFitting}
@@ -20,9 +18,9 @@ use Rattle.run_rules.specs.Told.{Step, Account, Follow, IsTold}
 use Rattle.run_rules.specs.Telling.{FindKeys, IsWellFormed, account_of, account_with, log_of, no_nodes, places_shown, replies_in, replies_to, steps_of}
 use Rattle.run_rules.specs.Nodes.{any_decision, nodes_of, nodes_told, nodes_with}
 use Rattle.run_rules.specs.Shown.{Rule9}
-use Rattle.run_rules.specs.Agreeing.{Agree, AreStepsAlike, keys_found}
+use Rattle.run_rules.specs.Agreeing.{Agree, AreStepsAlike}
 use Rattle.run_rules.specs.Keeping.{Keeps, RulesTo, nine}
-use Rattle.run_rules.specs.Said.{ShownCouldBeSaid, node_lines, nodes_shown, shown_text, with_text}
+use Rattle.run_rules.specs.Said.{ShownCouldBeSaid, nodes_shown, shown_text, with_text}
 use Rattle.run_rules.specs.Laws.{NinthRuleDecided}
 use Rattle.run_rules.proofs.ChosenFinds.{FoundBy, HasShown, choice_nothing, choose, finding_found}
 use Rattle.run_rules.proofs.Computed.{computed_account_agrees, finds_agree_too}

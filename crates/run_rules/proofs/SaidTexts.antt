@@ -1,13 +1,11 @@
 -- The texts that node lines show are ones that the commands of their nodes could have said, where rule 9 holds.
-use Rattle.std.proofs.Common.{◌≡◌, ◌∙◌, refl, ap, sym, subst, Bool, true, false, cond, ℕ, zero, suc, List, [], ◌∷◌, map, Option, Some, None, inl, inr}
-use Rattle.std.specs.Prelude.{IsTrue, slice_get}
-use Rattle.std.specs.List.{All, AllZip}
+use Rattle.std.proofs.Common.{◌≡◌, ◌∙◌, refl, ap, sym, subst, Bool, true, false, cond, ℕ, zero, suc, List, [], Option, Some, None, inl, inr}
+use Rattle.std.specs.Prelude.{slice_get}
 use Rattle.std.proofs.lemmas.List.Elements.{All-contains}
 use Rattle.log_node.specs.declared.forms.Version.{Version}
 use Rattle.log_node.specs.declared.ids.Colours.{Colours}
 use Rattle.log_node.specs.declared.ids.Id.{Id}
 use Rattle.log_node.specs.declared.node.Node.{Node}
-use Rattle.log_node.specs.Seen.{PlacedNode}
 use Rattle.part_fold.specs.declared.decision.Decision.{Decision}
 use Rattle.col_core.specs.Log.{Log, HasText}
 use Rattle.col_core.specs.Keeping.{Kept}
@@ -21,27 +19,24 @@ use Rattle.script_text.specs.Commands.{use_of}
 use Rattle.script_text.specs.Fitting.{IsFitting}
 use Rattle.report_text.specs.declared.report.Answer.{Answer}
 use Rattle.report_text.specs.declared.report.Answer.TheVariants as answers
-use Rattle.report_text.specs.declared.report.ClientReport.{ClientReport}
 use Rattle.report_text.specs.declared.report.Ended.{Ended}
 use Rattle.report_text.specs.declared.report.Ended.TheVariants as ends
-use Rattle.report_text.specs.declared.report.RaisePiece.{RaisePiece}
 use Rattle.report_text.specs.declared.report.Report.{Report}
-use Rattle.report_text.specs.declared.report.SyncPiece.{SyncPiece}
 use Rattle.lawful_run.specs.Callers.{Caller, caller_of, node_of}
 use Rattle.lawful_run.specs.Asks.{kind_asked, object_colours}
 use Rattle.lawful_run.specs.Deeds.{Saying, SaysNode, found_by, saying_of}
 use Rattle.lawful_run.specs.Reads.{kept_after_piece}
 use Rattle.lawful_run.specs.Refusals.{kept_before}
 use Rattle.run_rules.specs.Told.{Untold, Step, Account, IsTold, is_several, kept_at, kept_deciding}
-use Rattle.run_rules.specs.Telling.{IsWellFormed, account_of, log_of, no_nodes}
+use Rattle.run_rules.specs.Telling.{account_of, log_of, no_nodes}
 use Rattle.run_rules.specs.Rules.{HasNode, UsesEnd, UsesNode}
 use Rattle.run_rules.specs.Shown.{Rule9}
 use Rattle.run_rules.specs.Nodes.{any_decision, node_asked, node_at_end, node_said, node_told, nodes_told}
 use Rattle.run_rules.specs.Agreeing.{Agree, AreNodesAlike, AreStepsAlike, KeepSame, keys_found}
 use Rattle.run_rules.specs.Keeping.{RulesTo}
-use Rattle.run_rules.specs.Said.{CouldSay, CouldSayShown, SaysText, ShownCouldBeSaid, node_lines, nodes_shown, shown_text, with_text}
+use Rattle.run_rules.specs.Said.{CouldSay, CouldSayShown, SaysText, ShownCouldBeSaid, nodes_shown, shown_text, with_text}
 use Rattle.run_rules.proofs.FirstAlike.{read_reads}
-use Rattle.run_rules.proofs.LinesShown.{ShowsText, lines_have, shows_text, text_shown, zip_before}
+use Rattle.run_rules.proofs.LinesShown.{lines_have, shows_text, text_shown, zip_before}
 use Rattle.run_rules.proofs.Lists.{slice_mapped, zip_at}
 use Rattle.run_rules.proofs.NinthRule.{LinesAlike}
 use Rattle.run_rules.proofs.NodesAlike.{Uses, read_ids, told_nodes_agree}
