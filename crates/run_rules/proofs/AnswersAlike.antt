@@ -169,7 +169,7 @@ module _ (script : Script) (fits : IsFitting script) (n : ℕ) (one two : Log)
       let keys : own_played one who sync ≡ own_played two who sync =
       ap (λ (h : List Entry). take (at sync.counts who.own) (line (take sync.events h)))
       (histories who.own sync.colour (home, lt)) in
-      let there = objects_there (own_played one who sync) (λ k i. texts.of_line sync.colour lt sync.events k
+      let there = objects_there (own_played one who sync) (λ k i. texts.known.of_line sync.colour lt sync.events k
       (in_take (at sync.counts who.own) (line (take sync.events (one.histories who.own sync.colour))) k i)) x.0 x.1 in (
         there.0,
         subst (λ (ks : List Key). AreObjectNodes two ks there.0) keys there.1,
@@ -180,10 +180,10 @@ module _ (script : Script) (fits : IsFitting script) (n : ℕ) (one two : Log)
       → (P Q : List ObjectNode → Type 0) → IsKept P Q
       → OfNodesRead one who stamp syncs P → OfNodesRead two who stamp syncs Q
   read_same stamp syncs low P Q f x =
-      let there = objects_there x.0 (keys_known script n one two histories home rows Seen texts stamp syncs x.0 low x.1) x.2
+      let there = objects_there x.0 (keys_known script n one two histories home rows Seen texts.known stamp syncs x.0 low x.1) x.2
       x.3 in (
         x.0,
-        keys_alike script n one two histories home rows Seen texts stamp syncs x.0 low x.1,
+        keys_alike script n one two histories home rows Seen texts.known stamp syncs x.0 low x.1,
         there.0,
         there.1,
         f x.2 there.0 there.2 x.4,
@@ -198,7 +198,7 @@ module _ (script : Script) (fits : IsFitting script) (n : ℕ) (one two : Log)
         played = subst (λ (h : List Entry). AllZip (IsChainNode two (chains h)) (places_within sync.counts) x.nodes)
             (histories who.own sync.colour (home, lt))
             (zip_mapped (IsChainNode one (chains mine)) (IsChainNode two (chains mine)) (places_within sync.counts) x.nodes
-            (λ place node i y. chain_node sync.colour lt sync.events place node y) x.played);
+            (λ place node i j y. chain_node sync.colour lt sync.events place node y) x.played);
         answer = x.answer;
       }
     where
@@ -211,14 +211,14 @@ module _ (script : Script) (fits : IsFitting script) (n : ℕ) (one two : Log)
         region_is = y.region_is;
         position_is = y.position_is;
         needs_are = y.needs_are;
-        text = texts.text y.head.key.id (texts.of_chain colour low events place y.head y.stands) node.text y.text;
+        text = texts.text y.head.key.id (texts.known.of_chain colour low events place y.head y.stands) node.text y.text;
       }
 
   front_same : (point : PointPiece) → point.colour < script.shape.colours → (value : Value) → TakesFront one who point value
       → TakesFront two who point value
   front_same point lt value x =
       let h = one.histories who.own point.colour in
-      let there = objects_there (take point.position (line h)) (λ k i. texts.of_line point.colour lt (length h) k
+      let there = objects_there (take point.position (line h)) (λ k i. texts.known.of_line point.colour lt (length h) k
       (subst (λ (l : List Entry). In k (line l)) (sym (take_all h)) (in_take point.position (line h) k i))) x.nodes x.before in
       record {
         nodes = there.0;
@@ -231,7 +231,7 @@ module _ (script : Script) (fits : IsFitting script) (n : ℕ) (one two : Log)
       → SaysSo two who d text ended
   says_so {c} {d} t text (ends.Stood stamp point) x =
       subst (λ (k : ℕ). HasText two (record { client = who.client; count = k }) text) t.ids
-      (texts.text (record { client = who.client; count = c.ids }) (texts.of_own c.ids) text x)
+      (texts.text (record { client = who.client; count = c.ids }) (texts.known.of_own c.ids) text x)
   says_so t text _ x = tt
 
   module _ (what : What) (within : IsWithin script.shape.regions script.shape.colours what) (u v : Untold) (a b : Kept)

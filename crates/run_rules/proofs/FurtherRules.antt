@@ -31,13 +31,12 @@ use Rattle.run_rules.specs.Finding.{AgreeOnFinds, FindSame, FoundSame, KeepReads
 use Rattle.run_rules.specs.Keeping.{RulesTo, nine, ten, eleven, twelve, thirteen, fourteen}
 use Rattle.run_rules.specs.Laws.{RightFindsDecide, SameFindsDecide}
 use Rattle.run_rules.proofs.Lists.{zip_at, zip_onto}
-use Rattle.run_rules.proofs.Numbers.{rule1, rule2, rule3, rule4, rule5, rule9, rule10, rule11, rule12, rule13, rule14, rules_fewer}
+use Rattle.run_rules.proofs.Numbers.{rule1, rule3, rule4, rule5, rule9, rule10, rule11, rule12, rule13, rule14, rules_fewer}
 use Rattle.run_rules.proofs.AnswersAlike.{right_alike, tree_alike, part_alike}
 use Rattle.run_rules.proofs.CausesAlike.{cause_alike}
 use Rattle.run_rules.proofs.FindsAlike.{finds_agree, finds_are_right, FoundBelow, SameBelow, SameFound, kept_alike, steps_below, updated_same, zip_both, zip_each}
-use Rattle.run_rules.proofs.HeadsTold.{head_above}
-use Rattle.run_rules.proofs.KeysTold.{IsAbove, key_above}
 use Rattle.run_rules.proofs.LeftOut.{Obeys}
+use Rattle.run_rules.proofs.LinesShown.{IsShownId, known_shown}
 use Rattle.run_rules.proofs.NodesAlike.{Uses, told_nodes_agree}
 use Rattle.run_rules.proofs.OneAccount.{told_accounts_agree, obeys, step_with}
 use Rattle.run_rules.proofs.Reached.{home_within}
@@ -46,7 +45,6 @@ use Rattle.run_rules.proofs.RulesAlike.{one_account_decides}
 use Rattle.run_rules.proofs.SameKept.{before_same}
 use Rattle.run_rules.proofs.ShowsAlike.{shows_alike, next_alike}
 use Rattle.log_node.specs.declared.ids.Id.{Id}
-use Rattle.log_node.specs.declared.ids.Key.{Key}
 use Rattle.run_rules.proofs.ToldAlike.{several_same}
 
 -- READS
@@ -74,12 +72,8 @@ module _ (script : Script) (report : Report) (a b : Account) (fits : IsFitting s
   agree : Agree script report a b
   agree = told_accounts_agree script report a b fits ta tb ra.0 rb.0
 
-  -- a client that the report shows, and so its ids
-  abbrev IsShown : Id → Type 0
-  IsShown id = (c : ClientReport) × (slice_get report.clients id.client ≡ Some c)
-
   -- the node of a shown client by the other account
-  other_node : (id : Id) → IsShown id → (p : Node) → slice_get (a.log.nodes id.client) id.count ≡ Some p
+  other_node : (id : Id) → IsShownId report id → (p : Node) → slice_get (a.log.nodes id.client) id.count ≡ Some p
       → (q : Node) × (slice_get (b.log.nodes id.client) id.count ≡ Some q) × (AreNodesAlike p q × (p.text ≡ q.text))
   other_node id shown p there =
       zip_at (λ (x y : Node). AreNodesAlike x y × (x.text ≡ y.text)) (a.log.nodes id.client) (b.log.nodes id.client)
@@ -88,8 +82,8 @@ module _ (script : Script) (report : Report) (a b : Account) (fits : IsFitting s
       (same.texts id.client shown.0 shown.1)) id.count p there
 
   texts_alike : (n : ℕ) (c : ClientReport) → slice_get report.clients n ≡ Some c
-      → (home : (caller_of script n).own < script.shape.regions) → TextsAlike script n a.log b.log IsShown
-  texts_alike n c there home = record {
+      → TextsAlike script n a.log b.log (IsShownId report)
+  texts_alike n c there = record {
     text = λ id shown text h.
         let q = other_node id shown h.0 h.1 in (q.0, q.1, sym q.2.0.id ∙ h.2, sym q.2.1 ∙ h.3);
     object = λ key shown x is.
@@ -105,18 +99,8 @@ module _ (script : Script) (report : Report) (a b : Account) (fits : IsFitting s
           },
           record { key = refl; text = refl; colours = ap members is.colours ∙ q.2.0.colours },
         );
-    of_line = λ colour lt events key i.
-        shown_of key (key_above script report a fits ta (rule1 ra.0.0.0.0.1) (rule2 ra.0.0.0.1) (rule3 ra.0.0.1) (rule4 ra.0.1)
-        (rule5 ra.1) ninth (caller_of script n).own colour (home, lt) key events i);
-    of_chain = λ colour lt events place head s.
-        shown_of head.key (head_above script report a fits ta (rule1 ra.0.0.0.0.1) (rule2 ra.0.0.0.1) (rule3 ra.0.0.1)
-        (rule4 ra.0.1) (rule5 ra.1) ninth (caller_of script n).own colour (home, lt) events place head s);
-    of_own = λ count. (c, there);
-  } where
-    shown_of : (key : Key)
-        → IsAbove script report a fits ta (rule1 ra.0.0.0.0.1) (rule2 ra.0.0.0.1) (rule3 ra.0.0.1) (rule4 ra.0.1) (rule5 ra.1) ninth key
-        → IsShown key.id
-    shown_of key x = (x.client, x.shown)
+    known = known_shown script report a fits ta ra ninth n c there;
+  }
 
   module _ (n : ℕ) (c : ClientReport) (there : slice_get report.clients n ≡ Some c) where
     abbrev who : Caller
@@ -134,7 +118,7 @@ module _ (script : Script) (report : Report) (a b : Account) (fits : IsFitting s
         (λ w. (steps_below w script who a.log b.log (a.steps n) (b.steps n) nothing_kept nothing_kept (a.last n) (b.last n)
         (agree.steps n c there)
         (zip_mapped IsFoundSame (FoundBelow w) (a.steps n) (b.steps n)
-        (λ x y i e. same_found w x.command.what x.reply.answer x.untold.found y.untold.found e) (same.found n c there))
+        (λ x y i j e. same_found w x.command.what x.reply.answer x.untold.found y.untold.found e) (same.found n c there))
         (ta.clients n c there).follow (tb.clients n c there).follow (inr (λ object. refl))).0)
         (λ x y f. kept_alike x.kept y.kept f)
 
@@ -181,15 +165,17 @@ module _ (script : Script) (report : Report) (a b : Account) (fits : IsFitting s
         → All (λ (s : Step). Shows b.log s.untold who (kept_at s) s.command.what s.reply.nodes s.reply.answer) (b.steps n)
     shows = lifted (λ (s : Step). Shows a.log s.untold who (kept_at s) s.command.what s.reply.nodes s.reply.answer)
         (λ (s : Step). Shows b.log s.untold who (kept_at s) s.command.what s.reply.nodes s.reply.answer)
-        (λ x y r o q p. shows_alike script fits n a.log b.log agree.histories home (agree.rows who.own home) IsShown (texts_alike n c there home)
-        x.command.what o.within x.untold y.untold (kept_at x) (kept_at (with_of x y)) (at_both x y r) x.reply.nodes
-        x.reply.answer o.can (λ t k has. r.0.places t k has.1) r.0.too_low p)
+        (λ x y r o q p. shows_alike script fits n a.log b.log agree.histories home (agree.rows who.own home) (IsShownId report)
+        (texts_alike n c there).known x.command.what o.within x.untold y.untold (kept_at x) (kept_at (with_of x y))
+        (at_both x y r) x.reply.nodes x.reply.answer o.can
+        (λ item i has. (texts_alike n c there).text item.head.key.id has item.node.text)
+        (λ t k has. r.0.places t k has.1) r.0.too_low p)
 
     right : All (λ (s : Step). AnswersRight a.log s.untold who (kept_at s) s.command.what s.reply.answer) (a.steps n)
         → All (λ (s : Step). AnswersRight b.log s.untold who (kept_at s) s.command.what s.reply.answer) (b.steps n)
     right = lifted (λ (s : Step). AnswersRight a.log s.untold who (kept_at s) s.command.what s.reply.answer)
         (λ (s : Step). AnswersRight b.log s.untold who (kept_at s) s.command.what s.reply.answer)
-        (λ x y r o q p. right_alike script fits n a.log b.log agree.histories home (agree.rows who.own home) IsShown (texts_alike n c there home)
+        (λ x y r o q p. right_alike script fits n a.log b.log agree.histories home (agree.rows who.own home) (IsShownId report) (texts_alike n c there)
         x.command.what o.within x.untold y.untold (kept_at x) (kept_at (with_of x y)) (at_both x y r) x.reply.nodes
         x.reply.answer o.can r.1.1 p)
 
@@ -197,8 +183,8 @@ module _ (script : Script) (report : Report) (a b : Account) (fits : IsFitting s
         → All (λ (s : Step). HasCause b.log s.untold who (kept_at s) s.command.what s.reply.answer) (b.steps n)
     caused = lifted (λ (s : Step). HasCause a.log s.untold who (kept_at s) s.command.what s.reply.answer)
         (λ (s : Step). HasCause b.log s.untold who (kept_at s) s.command.what s.reply.answer)
-        (λ x y r o q p. cause_alike script fits n a.log b.log agree.histories home (agree.rows who.own home) IsShown
-        (texts_alike n c there home) ((rule3 rb.0.0.1).lawful who.own home).fit ((rule5 rb.1).own n c there).row_nodes
+        (λ x y r o q p. cause_alike script fits n a.log b.log agree.histories home (agree.rows who.own home) (IsShownId report)
+        (texts_alike n c there) ((rule3 rb.0.0.1).lawful who.own home).fit ((rule5 rb.1).own n c there).row_nodes
         x.command.what o.within x.untold y.untold (kept_at x) (kept_at (with_of x y)) (at_both x y r) (reads_both x y r)
         x.reply.nodes x.reply.answer o.can q.0.names q.1 p)
 
@@ -221,15 +207,15 @@ module _ (script : Script) (report : Report) (a b : Account) (fits : IsFitting s
         → All (λ (s : Step). StandsNext b.log who (kept_at s) s.command.what s.reply.answer) (b.steps n)
     next = lifted (λ (s : Step). StandsNext a.log who (kept_at s) s.command.what s.reply.answer)
         (λ (s : Step). StandsNext b.log who (kept_at s) s.command.what s.reply.answer)
-        (λ x y r o q p. next_alike script fits n a.log b.log agree.histories home (agree.rows who.own home) IsShown (texts_alike n c there home)
-        x.command.what o.within x.untold y.untold (kept_at x) (kept_at (with_of x y)) (at_both x y r) x.reply.nodes
+        (λ x y r o q p. next_alike script fits n a.log b.log agree.histories home (agree.rows who.own home) (IsShownId report)
+        (texts_alike n c there).known x.command.what o.within x.untold y.untold (kept_at x) (kept_at (with_of x y)) (at_both x y r) x.reply.nodes
         x.reply.answer o.can p)
 
     tree : All (λ (s : Step). TreeAnswers a.log who (kept_at s) s.command.what s.reply.answer) (a.steps n)
         → All (λ (s : Step). TreeAnswers b.log who (kept_at s) s.command.what s.reply.answer) (b.steps n)
     tree = lifted (λ (s : Step). TreeAnswers a.log who (kept_at s) s.command.what s.reply.answer)
         (λ (s : Step). TreeAnswers b.log who (kept_at s) s.command.what s.reply.answer)
-        (λ x y r o q p. tree_alike script fits n a.log b.log agree.histories home (agree.rows who.own home) IsShown (texts_alike n c there home)
+        (λ x y r o q p. tree_alike script fits n a.log b.log agree.histories home (agree.rows who.own home) (IsShownId report) (texts_alike n c there)
         x.command.what o.within x.untold y.untold (kept_at x) (kept_at (with_of x y)) (at_both x y r) x.reply.nodes
         x.reply.answer o.can p)
 
@@ -237,7 +223,7 @@ module _ (script : Script) (report : Report) (a b : Account) (fits : IsFitting s
         → All (λ (s : Step). PartAnswers b.log who (kept_at s) s.command.what s.reply.answer) (b.steps n)
     part = lifted (λ (s : Step). PartAnswers a.log who (kept_at s) s.command.what s.reply.answer)
         (λ (s : Step). PartAnswers b.log who (kept_at s) s.command.what s.reply.answer)
-        (λ x y r o q p. part_alike script fits n a.log b.log agree.histories home (agree.rows who.own home) IsShown (texts_alike n c there home)
+        (λ x y r o q p. part_alike script fits n a.log b.log agree.histories home (agree.rows who.own home) (IsShownId report) (texts_alike n c there)
         x.command.what o.within x.untold y.untold (kept_at x) (kept_at (with_of x y)) (at_both x y r) x.reply.nodes
         x.reply.answer o.can p)
 
@@ -313,7 +299,7 @@ pub right_finds_decide : RegionOrderIsUnique → DecisionsArePlain → RightFind
 right_finds_decide unique plain script report a b fits ta tb rb fb same n least most ra =
     same_finds_decide script report a b fits ta tb rb (record {
       texts = λ m c there. zip_mapped (λ (p q : Node). HaveText p q × DecideSame p q) (λ (p q : Node). p.text ≡ q.text)
-          (a.log.nodes m) (b.log.nodes m) (λ p q i h. text_same p q h.0 h.1)
+          (a.log.nodes m) (b.log.nodes m) (λ p q i j h. text_same p q h.0 h.1)
           (zip_both HaveText DecideSame (a.log.nodes m) (b.log.nodes m) (agree.nodes m c there) (same m c there));
       found = agree.found;
     }) n most ra

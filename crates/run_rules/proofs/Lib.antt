@@ -4,6 +4,7 @@ mod AppendsTold
 mod BareObjects
 mod CausesAlike
 mod Computed
+mod ChosenFinds
 mod ComputedFinds
 mod ComputedNodes
 mod ComputedSteps
@@ -22,9 +23,12 @@ mod LawfulRules
 mod LeftOut
 mod HeadsTold
 mod KeysTold
+mod LinesShown
 mod Lists
 mod MarksWithin
 mod NamesAlike
+mod NinthDecided
+mod NinthRule
 mod NodesAlike
 mod NodesTold
 mod Numbers
@@ -39,6 +43,7 @@ mod Room
 mod RowsTold
 mod RulesAlike
 mod RulesLawful
+mod SaidTexts
 mod SameKept
 mod ShowsAlike
 mod StepsTold

@@ -11,6 +11,8 @@ use Rattle.lawful_run.specs.Lawful.{LawfulRun}
 use Rattle.run_rules.specs.Told.{Account, IsTold}
 use Rattle.run_rules.specs.Telling.{FindKeys, IsWellFormed, account_of, account_with, no_nodes}
 use Rattle.run_rules.specs.Rules.{Rule1, Rule3}
+use Rattle.run_rules.specs.Shown.{Rule9}
+use Rattle.run_rules.specs.Said.{ShownCouldBeSaid, nodes_shown}
 use Rattle.run_rules.specs.Nodes.{HasItsNodes, nodes_told, nodes_with}
 use Rattle.run_rules.specs.Finding.{HasItsFinds, AgreeOnFinds, DecisionsSame, FindSame}
 use Rattle.run_rules.specs.Computing.{account_finding, finds_of}
@@ -122,6 +124,14 @@ abbrev pub LaterRulesDecided : Type 0
 LaterRulesDecided = (script : Script) (report : Report) → IsFitting script → (n : ℕ) → 5 ≤ n → n ≤ 8
     → Keeps script report n
     ↔ (IsWellFormed script report × RulesTo script report (account_of script report (nodes_told script report)) n)
+
+-- The ninth is decided by the texts that node lines show: it holds where nodes have these, and their commands could have said
+-- them.
+abbrev pub NinthRuleDecided : Type 0
+NinthRuleDecided = (script : Script) (report : Report) → IsFitting script
+    → Keeps script report 9
+    ↔ (IsWellFormed script report × RulesTo script report (account_of script report (nodes_told script report)) 8
+    × Rule9 script report (account_of script report (nodes_shown script report)) × ShownCouldBeSaid script report)
 
 -- Two accounts that a report of a script tells, and at which rules 1 to 4 hold, agree within the script's shape.
 abbrev pub ToldAccountsAgree : Type 0

@@ -1,5 +1,5 @@
 // Laws of the rules. Each function does nothing, and its contract is the law.
-ghost use Rattle.run_rules.specs.Laws.{BrokenIsUnlawful, ComputedAccountAgrees, ComputedAccountDecides, ComputedAccountKeeps, ComputedFindsAreRight, FindsAreRight, FindsDecide, FindsKeep, FindsTell, FirstRulesDecided, FoundAccountDecides, FoundAccountKeeps, LaterRulesDecided, LawfulRunsKeepRules, LeastIsOne, NodesAreFound, NodesAreTold, NodesChangeNoStep, OneAccountDecides, ReportsTell, RightFindsDecide, RuleOneForms, RulesMakeLawful, SameFindsDecide, ToldAccountsAgree, ToldFindsAgree, ToldNodesAgree};
+ghost use Rattle.run_rules.specs.Laws.{BrokenIsUnlawful, ComputedAccountAgrees, ComputedAccountDecides, ComputedAccountKeeps, ComputedFindsAreRight, FindsAreRight, FindsDecide, FindsKeep, FindsTell, FirstRulesDecided, FoundAccountDecides, FoundAccountKeeps, LaterRulesDecided, LawfulRunsKeepRules, LeastIsOne, NinthRuleDecided, NodesAreFound, NodesAreTold, NodesChangeNoStep, OneAccountDecides, ReportsTell, RightFindsDecide, RuleOneForms, RulesMakeLawful, SameFindsDecide, ToldAccountsAgree, ToldFindsAgree, ToldNodesAgree};
 
 use col_core::region_order_is_unique;
 use part_fold::decisions_are_plain;
@@ -88,6 +88,11 @@ pub fn first_rules_decided()
 /// With the nodes that script and report tell it decides the fifth to the eighth.
 pub fn later_rules_decided()
     ensures { LaterRulesDecided }
+{}
+
+/// With the texts that node lines show it decides the ninth.
+pub fn ninth_rule_decided()
+    ensures { NinthRuleDecided }
 {}
 
 /// Two accounts of one report at which the first four rules hold agree.
