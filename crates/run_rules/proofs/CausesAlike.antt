@@ -77,7 +77,7 @@ module _ (script : Script) (fits : IsFitting script) (n : ℕ) (one two : Log)
     (home : (caller_of script n).own < script.shape.regions)
     (rows : map (row_report (caller_of script n).own) (one.rows (caller_of script n).own)
     ≡ map (row_report (caller_of script n).own) (two.rows (caller_of script n).own))
-    (Seen : Id → Type 0) (texts : TextsAlike script n one two Seen)
+    (Decided : Type 0) (Seen : Id → Type 0) (texts : TextsAlike script n Decided one two Seen)
     (fit : All (FitsRow (caller_of script n).own) (two.rows (caller_of script n).own))
     (row_nodes : (r : BegunRow) → Contains (two.rows (caller_of script n).own) r → r.row.client ≡ n
     → slice_get (two.nodes n) r.node.id.count ≡ Some r.node) where

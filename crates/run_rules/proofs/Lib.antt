@@ -2,6 +2,7 @@ mod AnswersAlike
 mod AppendsAlike
 mod AppendsTold
 mod BareObjects
+mod CausalAlike
 mod CausesAlike
 mod Computed
 mod ChosenFinds

@@ -1,10 +1,11 @@
 -- Logs whose nodes have the same texts, and the ids of which this is known.
-use Rattle.std.proofs.Common.{ℕ, ◌<◌, List, [], ◌∷◌, take, inl, inr, refl}
+use Rattle.std.proofs.Common.{◌≡◌, ℕ, ◌<◌, List, [], ◌∷◌, take, inl, inr, refl}
 use Rattle.std.specs.List.{AllZip}
 use Rattle.log_node.specs.declared.ids.Id.{Id}
 use Rattle.log_node.specs.declared.ids.Key.{Key}
 use Rattle.log_node.specs.declared.node.Head.{Head}
 use Rattle.log_node.specs.Seen.{PlacedNode}
+use Rattle.object_form.specs.Readings.{form_of}
 use Rattle.object_fold.specs.Nodes.{ObjectNode}
 use Rattle.col_core.specs.Computed.{dated}
 use Rattle.col_core.specs.Cuts.{chain}
@@ -27,11 +28,14 @@ pub record AreKnown (script : Script) (n : ℕ) (log : Log) (Known : Id → Type
       → Known head.key.id
   pub of_own : (count : ℕ) → Known (record { client = n; count = count })
 
--- Of the ids that are known nodes have the same texts by both logs.
-pub record TextsAlike (script : Script) (n : ℕ) (one two : Log) (Known : Id → Type 0) : Type 0 where
-  pub text : (id : Id) → Known id → (text : List ℕ) → HasText one id text → HasText two id text
+-- Of the ids that are known nodes are read alike by both logs, and where decisions are known to be the same they have the same
+-- texts.
+pub record TextsAlike (script : Script) (n : ℕ) (Decided : Type 0) (one two : Log) (Known : Id → Type 0) : Type 0 where
+  pub text : Decided → (id : Id) → Known id → (text : List ℕ) → HasText one id text → HasText two id text
+  pub form : (id : Id) → Known id → (text : List ℕ) → HasText one id text
+      → (other : List ℕ) × HasText two id other × (form_of text ≡ form_of other)
   pub object : (key : Key) → Known key.id → (x : ObjectNode) → IsObjectNode one key x
-      → (y : ObjectNode) × IsObjectNode two key y × AreAlike x y
+      → (y : ObjectNode) × IsObjectNode two key y × AreAlike Decided x y
   pub known : AreKnown script n one Known
 
 -- What node lines show of texts of known ids by the one log they show by the other.
