@@ -148,6 +148,11 @@ module _ (script : Script) (report : Report) where
       subst (FindKeys (finds_below script report now n)) (ap replies_in there)
       (find_keys (finds_below script report now n) (replies_to report n) (keys_below now n))
 
+  -- so it is of what all found
+  pub found_keys_of : (n : ℕ) (c : ClientReport) → slice_get report.clients n ≡ Some c
+      → FindKeys (finds_of script report n) c.replies
+  found_keys_of = found_keys (suc (last_read (all_replies report)))
+
   -- a read found what it did when its own stamp had come
   found_then : (n k stamp : ℕ) (shown : List KeyAnswer) (raises : List RaisePiece) (syncs : List SyncPiece)
       → answer_to report n k ≡ answers.GotKeys stamp shown raises syncs → (now : ℕ) → stamp < now

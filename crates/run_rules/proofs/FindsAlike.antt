@@ -418,7 +418,7 @@ zip_each R S (x ∷ xs) (y ∷ ys) r f = (f x y (λ w. (r w).0), zip_each R S xs
 
 -- WRITES
 
-form_same : DecisionsArePlain → (t u : List ℕ) → (t ≡ u) ⊎ (IsText ADecision t × IsText ADecision u)
+pub form_same : DecisionsArePlain → (t u : List ℕ) → (t ≡ u) ⊎ (IsText ADecision t × IsText ADecision u)
     → form_of t ≡ form_of u
 form_same plain t u (inl e) = ap form_of e
 form_same plain t u (inr d) = ap form_of d.0.1 ∙ (plain d.0.0 ∙ (sym (plain d.1.0) ∙ ap form_of (sym d.1.1)))

@@ -8,6 +8,7 @@ mod Computed
 mod ChosenFinds
 mod ComputedFinds
 mod ComputedNodes
+mod ComputedRules
 mod ComputedSteps
 pub mod CallerLemmas
 mod EntersBelow

@@ -12,7 +12,7 @@ use Rattle.run_rules.specs.Told.{Account, IsTold}
 use Rattle.run_rules.specs.Telling.{FindKeys, IsWellFormed, account_of, account_with, no_nodes}
 use Rattle.run_rules.specs.Rules.{Rule1, Rule3}
 use Rattle.run_rules.specs.Shown.{Rule9}
-use Rattle.run_rules.specs.Said.{ShownCouldBeSaid, nodes_shown}
+use Rattle.run_rules.specs.Said.{DecisionsShown, ShownCouldBeSaid, nodes_shown}
 use Rattle.run_rules.specs.Nodes.{HasItsNodes, nodes_told, nodes_with}
 use Rattle.run_rules.specs.Finding.{HasItsFinds, AgreeOnFinds, DecisionsSame, FindSame}
 use Rattle.run_rules.specs.Computing.{account_finding, finds_of}
@@ -206,3 +206,21 @@ OneAccountDecides = (script : Script) (report : Report) (account : Account) → 
 abbrev pub ComputedFindsAreRight : Type 0
 ComputedFindsAreRight = (script : Script) (report : Report) (decided : ℕ → ℕ → Decision) → IsFitting script
     → Keeps script report 9 → HasItsFinds script report (account_finding script report (finds_of script report) decided)
+
+-- So it decides the rules from the tenth to the thirteenth, where its decisions say what is shown of them: a report keeps those
+-- up to a number where they hold at it.
+abbrev pub ComputedFindsDecide : Type 0
+ComputedFindsDecide = (script : Script) (report : Report) (decided : ℕ → ℕ → Decision) → IsFitting script
+    → DecisionsShown report (account_finding script report (finds_of script report) decided)
+    → (n : ℕ) → 10 ≤ n → n ≤ 13
+    → Keeps script report n
+    ↔ (IsWellFormed script report
+    × RulesTo script report (account_finding script report (finds_of script report) decided) n)
+
+-- And it keeps all rules where some told account does that has the texts of its decisions.
+abbrev pub ComputedFindsKeep : Type 0
+ComputedFindsKeep = (script : Script) (report : Report) (decided : ℕ → ℕ → Decision) → IsFitting script
+    → (a : Account) → IsTold script report a
+    → DecisionsSame report a (account_finding script report (finds_of script report) decided)
+    → RulesTo script report a rule_count
+    → RulesTo script report (account_finding script report (finds_of script report) decided) rule_count

@@ -1,5 +1,5 @@
 -- The texts that node lines show, and which texts the commands of nodes could have said.
-use Rattle.std.specs.Prelude.{◌≡◌, Bool, ℕ, List, map, Option, Some, None}
+use Rattle.std.specs.Prelude.{◌≡◌, Bool, ℕ, List, map, Option, Some, None, slice_get}
 use Rattle.std.specs.List.{All, find, flat_map}
 use Rattle.std.specs.Option.{option_map}
 use Rattle.log_node.specs.declared.ids.Id.{Id}
@@ -12,12 +12,13 @@ use Rattle.col_core.specs.Keeping.{Kept}
 use Rattle.script_text.specs.declared.commands.What.{What}
 use Rattle.script_text.specs.declared.script.Script.{Script}
 use Rattle.script_text.specs.Commands.{use_of}
+use Rattle.report_text.specs.declared.report.ClientReport.{ClientReport}
 use Rattle.report_text.specs.declared.report.ReplyLine.{ReplyLine}
 use Rattle.report_text.specs.declared.report.Report.{Report}
 use Rattle.lawful_run.specs.Callers.{Caller}
 use Rattle.lawful_run.specs.Asks.{kind_asked}
-use Rattle.lawful_run.specs.Deeds.{IsText, Saying, found_by, saying_of}
-use Rattle.run_rules.specs.Told.{Step, OfEachStep, kept_at}
+use Rattle.lawful_run.specs.Deeds.{ADecision, IsText, Saying, found_by, saying_of}
+use Rattle.run_rules.specs.Told.{Account, Step, OfEachStep, kept_at}
 use Rattle.run_rules.specs.Telling.{account_of, log_of, no_nodes}
 use Rattle.run_rules.specs.Nodes.{any_decision, node_told, nodes_told}
 use Rattle.run_rules.specs.Agreeing.{keys_found}
@@ -67,3 +68,13 @@ CouldSayShown report log caller step = All (λ (node : Node). (text : List ℕ) 
 abbrev pub ShownCouldBeSaid : Script → Report → Type 0
 ShownCouldBeSaid script report =
     OfEachStep script report (account_of script report no_nodes) (CouldSayShown report (log_of report no_nodes))
+
+-- a decision's node says what is shown of it, where that is what some decision says
+abbrev pub DecidesAsShown : Report → Node → Type 0
+DecidesAsShown report node = (text : List ℕ) → shown_text report node.id ≡ Some text → IsText ADecision text
+    → IsText ADecision node.text → node.text ≡ text
+
+-- so do all of an account
+abbrev pub DecisionsShown : Report → Account → Type 0
+DecisionsShown report account = (n : ℕ) (c : ClientReport) → slice_get report.clients n ≡ Some c
+    → All (DecidesAsShown report) (account.log.nodes n)

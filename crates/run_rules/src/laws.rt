@@ -1,5 +1,5 @@
 // Laws of the rules. Each function does nothing, and its contract is the law.
-ghost use Rattle.run_rules.specs.Laws.{BrokenIsUnlawful, ComputedAccountAgrees, ComputedAccountDecides, ComputedAccountKeeps, ComputedFindsAreRight, FindsAreRight, FindsDecide, FindsKeep, FindsTell, FirstRulesDecided, FoundAccountDecides, FoundAccountKeeps, LaterRulesDecided, LawfulRunsKeepRules, LeastIsOne, NinthRuleDecided, NodesAreFound, NodesAreTold, NodesChangeNoStep, OneAccountDecides, ReportsTell, RightFindsDecide, RuleOneForms, RulesMakeLawful, SameFindsDecide, ToldAccountsAgree, ToldFindsAgree, ToldNodesAgree};
+ghost use Rattle.run_rules.specs.Laws.{BrokenIsUnlawful, ComputedAccountAgrees, ComputedAccountDecides, ComputedAccountKeeps, ComputedFindsAreRight, ComputedFindsDecide, ComputedFindsKeep, FindsAreRight, FindsDecide, FindsKeep, FindsTell, FirstRulesDecided, FoundAccountDecides, FoundAccountKeeps, LaterRulesDecided, LawfulRunsKeepRules, LeastIsOne, NinthRuleDecided, NodesAreFound, NodesAreTold, NodesChangeNoStep, OneAccountDecides, ReportsTell, RightFindsDecide, RuleOneForms, RulesMakeLawful, SameFindsDecide, ToldAccountsAgree, ToldFindsAgree, ToldNodesAgree};
 
 use col_core::region_order_is_unique;
 use part_fold::decisions_are_plain;
@@ -153,6 +153,24 @@ pub fn one_account_decides()
 pub fn computed_finds_are_right()
     ensures { ComputedFindsAreRight }
 {
+    region_order_is_lawful();
+    decisions_are_plain();
+}
+
+/// The account that is computed with it decides the rules from the tenth to the thirteenth.
+pub fn computed_finds_decide()
+    ensures { ComputedFindsDecide }
+{
+    region_order_is_unique();
+    region_order_is_lawful();
+    decisions_are_plain();
+}
+
+/// It keeps all rules where some told account does that has the texts of its decisions.
+pub fn computed_finds_keep()
+    ensures { ComputedFindsKeep }
+{
+    region_order_is_unique();
     region_order_is_lawful();
     decisions_are_plain();
 }
