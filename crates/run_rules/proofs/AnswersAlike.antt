@@ -64,7 +64,7 @@ use Rattle.run_rules.proofs.LinesShown.{zip_before}
 use Rattle.run_rules.proofs.Reached.{kind_within, shards_within, synced_within}
 use Rattle.run_rules.proofs.ReadsAlike.{keys_alike, keys_known}
 use Rattle.run_rules.proofs.SameKept.{stamp_same}
-use Rattle.run_rules.proofs.TextsAlike.{TextsAlike, zip_mapped}
+use Rattle.run_rules.proofs.TextsAlike.{TextsAlike}
 use Rattle.log_node.specs.declared.ids.Id.{Id}
 use Rattle.run_rules.proofs.ToldAlike.{decide_below, deciding_same, got_below, mapped_below, one_below, points_below}
 

@@ -1,20 +1,19 @@
 -- What objects answer rests on the keys of nodes and on what they read of their texts, and of colours on those that a log may
 -- have.
-use Rattle.std.proofs.Common.{◌≡◌, ◌∙◌, refl, ap, sym, subst, Bool, true, false, cond, not, ℕ, ◌<◌, List, [], ◌∷◌, map, Option, Some, None, arith}
+use Rattle.std.proofs.Common.{◌≡◌, ◌∙◌, refl, ap, sym, subst, Bool, true, false, cond, not, ℕ, ◌<◌, List, [], ◌∷◌, Option, Some, None, arith}
 use Rattle.std.specs.Prelude.{slice_get}
 use Rattle.std.specs.List.{AllZip, cons_option, filter_map, find, fold, range_with_len}
-use Rattle.std.specs.Option.{option_map}
 use Rattle.std.proofs.lemmas.List.Sums.{take_while-cons}
 use Rattle.log_node.specs.declared.ids.Colours.{Colours}
 use Rattle.log_node.specs.declared.ids.Key.{Key}
 use Rattle.log_node.specs.declared.limits.TheConstants.{MAX_COLOURS}
 use Rattle.log_node.specs.Order.{same_key}
-use Rattle.log_node.specs.Sets.{has, members, set_of}
+use Rattle.log_node.specs.Sets.{has, members}
 use Rattle.object_form.specs.Readings.{form_of}
 use Rattle.object_fold.specs.Folds.{told_among, told_of}
 use Rattle.object_fold.specs.Maps.{Value, value_after, value_among, value_with, values_among}
 use Rattle.object_fold.specs.Nodes.{ObjectNode, nodes_before, nodes_of, shard_of}
-use Rattle.object_fold.specs.Queues.{front_after, queue_after, queue_with}
+use Rattle.object_fold.specs.Queues.{front_after, queue_with}
 use Rattle.object_fold.specs.Transactions.{Write, form_verdict, verdict_among, verdict_of, writes_after, writes_with}
 use Rattle.tree_fold.specs.Readings.{change_of}
 use Rattle.tree_fold.specs.Trees.{Tree, telling, told_of_change, tree_after, tree_with}

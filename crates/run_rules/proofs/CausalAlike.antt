@@ -1,11 +1,10 @@
 -- The answer of a causal map rests on where its nodes stand and on the forms of their texts.
-use Rattle.std.proofs.Common.{◌≡◌, ◌∙◌, refl, ap, sym, subst, Bool, true, false, cond, ℕ, ◌<◌, List, [], ◌∷◌, map, ◌⊎◌, inl, inr}
+use Rattle.std.proofs.Common.{◌≡◌, ◌∙◌, refl, ap, sym, subst, Bool, true, false, cond, ℕ, ◌<◌, List, [], ◌∷◌, map, inl, inr}
 use Rattle.std.specs.Prelude.{◌==◌, ◌&&◌, ◌||◌, IsTrue, is_some, filter, unwrap_or}
-use Rattle.std.specs.List.{AllZip, Contains, list_any}
+use Rattle.std.specs.List.{AllZip, list_any}
 use Rattle.std.specs.List.Sorted.{IsPermutation}
 use Rattle.std.proofs.lemmas.Bool.{and_from, eq-eqb, eqb-true}
 use Rattle.log_node.specs.declared.ids.Counts.{Counts}
-use Rattle.log_node.specs.declared.forms.Form.{Form}
 use Rattle.log_node.specs.Vectors.{at}
 use Rattle.object_form.specs.Readings.{form_of}
 use Rattle.object_fold.specs.Causal.{ChainNode, FollowsAtOnce, FollowsCausally, IsCausalAnswer, IsLatestWrite, at_once, causal_value, through, written_value}

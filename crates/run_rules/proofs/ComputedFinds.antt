@@ -1,7 +1,7 @@
 -- What reads found, computed one stamp after another, is what they had to find.
-use Rattle.std.proofs.Common.{◌≡◌, ◌∙◌, refl, ap, sym, subst, Bool, true, false, ℕ, zero, suc, ◌<◌, ◌≤◌, List, [], ◌∷◌, ◌++◌, length, map, take, drop, take-append-drop, Option, Some, None, ◌⊎◌, inl, inr, arith}
+use Rattle.std.proofs.Common.{◌≡◌, ◌∙◌, refl, ap, sym, subst, false, ℕ, zero, suc, ◌<◌, ◌≤◌, List, [], ◌∷◌, ◌++◌, length, map, take, drop, take-append-drop, Option, Some, None, ◌⊎◌, inl, inr, arith}
 use Rattle.std.specs.Prelude.{◌==◌, max, slice_get, slice_index_or}
-use Rattle.std.specs.List.{All, AllZip, flat_map, fold}
+use Rattle.std.specs.List.{AllZip, fold}
 use Rattle.std.proofs.lemmas.Bool.{cases_lt, eq-eqb, eqb-true}
 use Rattle.log_node.specs.declared.ids.Key.{Key}
 use Rattle.log_node.specs.declared.node.Node.{Node}
@@ -43,7 +43,7 @@ use Rattle.run_rules.specs.Told.{Account, AreKeysFound, IsTold, Step, kept_at, k
 use Rattle.run_rules.specs.Telling.{FindKeys, IsWellFormed, places_shown, replies_in, replies_to, step_finding, steps_finding}
 use Rattle.run_rules.specs.Answering.{AsksKeys, CanHave}
 use Rattle.run_rules.specs.Nodes.{nodes_with}
-use Rattle.run_rules.specs.Agreeing.{Agree, AreNodesAlike, HasColumn}
+use Rattle.run_rules.specs.Agreeing.{AreNodesAlike}
 use Rattle.run_rules.specs.Finding.{HasItsFinds, IsFound}
 use Rattle.run_rules.specs.Keeping.{Keeps, RulesTo, all_replies}
 use Rattle.run_rules.specs.Computing.{account_finding, answer_in, answer_to, any_decisions, finds_below, finds_of, found_at, keys_shown, last_read, node_read, nodes_read, stamp_read, versions_told}
@@ -51,7 +51,7 @@ use Rattle.run_rules.specs.Laws.{ComputedFindsAreRight}
 use Rattle.run_rules.proofs.Lists.{map_map, zip_at}
 use Rattle.run_rules.proofs.Numbers.{keeps_fewer, rule1, rule2, rule3, rule4, rule5, rule9}
 use Rattle.run_rules.proofs.Decided.{found_account_decides}
-use Rattle.run_rules.proofs.FindsAlike.{FoundBelow, KeysStandAbove, SameFound, StandsAbove, form_there, keys_above, write, writes_same}
+use Rattle.run_rules.proofs.FindsAlike.{FoundBelow, KeysStandAbove, SameFound, form_there, keys_above, write, writes_same}
 use Rattle.run_rules.proofs.KeysTold.{column_of}
 use Rattle.run_rules.proofs.NodesAlike.{told_nodes_agree}
 use Rattle.run_rules.proofs.OneAccount.{obeys, told_accounts_agree}

@@ -1,24 +1,18 @@
 -- The account that is computed with what reads found decides the rules from the tenth on.
-use Rattle.std.proofs.Common.{◌≡◌, ◌∙◌, refl, ap, sym, ℕ, ◌≤◌, List, Option, Some, None, ◌⊎◌, inl, inr, arith}
+use Rattle.std.proofs.Common.{◌≡◌, ◌∙◌, refl, ap, sym, ℕ, List, None, inl, inr, arith}
 use Rattle.std.specs.Prelude.{slice_get}
 use Rattle.log_node.specs.declared.ids.Id.{Id}
 use Rattle.log_node.specs.declared.node.Node.{Node}
-use Rattle.log_node.specs.Seen.{PlacedNode}
-use Rattle.object_form.specs.Readings.{form_of}
-use Rattle.tree_fold.specs.declared.change.Change.{Change}
 use Rattle.tree_fold.specs.Readings.{change_of}
 use Rattle.part_fold.specs.declared.decision.Decision.{Decision}
 use Rattle.part_fold.specs.Decisions.{decision_text}
 use Rattle.part_fold.specs.Laws.{DecisionsArePlain}
 use Rattle.col_core.specs.Laws.{RegionOrderIsUnique}
 use Rattle.col_core.specs.Log.{Log, HasText}
-use Rattle.col_core.proofs.CallerLemmas.{In}
 use Rattle.playback.specs.Laws.{RegionOrderIsLawful}
 use Rattle.script_text.specs.declared.script.Script.{Script}
 use Rattle.script_text.specs.Fitting.{IsFitting}
-use Rattle.report_text.specs.declared.report.ClientReport.{ClientReport}
 use Rattle.report_text.specs.declared.report.Report.{Report}
-use Rattle.lawful_run.specs.Deeds.{ADecision, IsText}
 use Rattle.run_rules.specs.Told.{Account, IsTold}
 use Rattle.run_rules.specs.Telling.{IsWellFormed}
 use Rattle.run_rules.specs.Nodes.{nodes_with}
@@ -26,7 +20,7 @@ use Rattle.run_rules.specs.Agreeing.{AreNodesAlike}
 use Rattle.run_rules.specs.Finding.{HasItsFinds, AgreeOnFinds, HaveText}
 use Rattle.run_rules.specs.Said.{DecidesAsShown, DecisionsShown, shown_text}
 use Rattle.run_rules.specs.Computing.{account_finding, finds_of}
-use Rattle.run_rules.specs.Keeping.{Keeps, RulesTo, all_replies, rule_count}
+use Rattle.run_rules.specs.Keeping.{RulesTo, rule_count}
 use Rattle.run_rules.specs.Laws.{ComputedFindsDecide, ComputedFindsKeep}
 use Rattle.run_rules.proofs.Lists.{all_at, zip_at}
 use Rattle.run_rules.proofs.Numbers.{rule9, rules_fewer}
@@ -103,9 +97,13 @@ module _ (unique : RegionOrderIsUnique) (lawful : RegionOrderIsLawful) (plain : 
         (zip_both AreNodesAlike HaveText (a.log.nodes n) (b.log.nodes n)
         (told_nodes_agree script report a b fits ta (told eight.0) five_told five n h.0.0 h.0.1) (agree.nodes n h.0.0 h.0.1))
         id.count h.1.0 h.1.1 in
-        let its : beside.0.id ≡ id = sym beside.2.0.id ∙ h.1.2 in
-        (beside.0, beside.1, its, by h.1.0 h.1.3 beside.0 its
-        (all_at (DecidesAsShown report) (b.log.nodes n) id.count beside.0 beside.1 (shown n h.0.0 h.0.1)) h.1 beside.2.1) where
+        let its : beside.0.id ≡ id = sym beside.2.0.id ∙ h.1.2 in (
+          beside.0,
+          beside.1,
+          its,
+          by h.1.0 h.1.3 beside.0 its
+              (all_at (DecidesAsShown report) (b.log.nodes n) id.count beside.0 beside.1 (shown n h.0.0 h.0.1)) h.1 beside.2.1,
+        ) where
           by : (p : Node) → p.text ≡ item.node.text → (q : Node) → q.id ≡ item.head.key.id → DecidesAsShown report q
               → HasText a.log item.head.key.id item.node.text → HaveText p q → q.text ≡ item.node.text
           by p e q its says has (inl same) = sym same ∙ e

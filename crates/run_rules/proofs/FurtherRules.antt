@@ -26,11 +26,11 @@ use Rattle.lawful_run.specs.Callers.{Caller, caller_of}
 use Rattle.lawful_run.specs.Asks.{home_asked}
 use Rattle.lawful_run.specs.Refusals.{IsAway, IsHomeRefusal, before_by, kept_before}
 use Rattle.run_rules.specs.Told.{Step, Account, IsTold, is_several, kept_at}
-use Rattle.run_rules.specs.Shown.{AnswersRight, HasCause, PartAnswers, Shows, StandsNext, TreeAnswers, begins_row, Rule9}
+use Rattle.run_rules.specs.Shown.{AnswersRight, HasCause, PartAnswers, StandsNext, TreeAnswers, begins_row, Rule9}
 use Rattle.run_rules.specs.Agreeing.{Agree, AreNodesAlike, AreStepsAlike, KeepSame}
 use Rattle.part_fold.specs.Laws.{DecisionsArePlain}
 use Rattle.col_core.specs.Laws.{RegionOrderIsUnique}
-use Rattle.run_rules.specs.Finding.{AgreeOnFinds, FindSame, ReadsFoundSame, FoundSame, KeepReads, HaveText, DecideSame}
+use Rattle.run_rules.specs.Finding.{AgreeOnFinds, ReadsFoundSame, FoundSame, KeepReads, HaveText, DecideSame}
 use Rattle.run_rules.specs.Keeping.{RulesTo, nine, ten, eleven, twelve, thirteen, fourteen}
 use Rattle.run_rules.specs.Laws.{RightFindsDecide, SameFindsDecide}
 use Rattle.run_rules.proofs.Lists.{zip_at, zip_onto}

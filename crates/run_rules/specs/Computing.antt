@@ -19,7 +19,7 @@ use Rattle.report_text.specs.declared.report.Report.{Report}
 use Rattle.lawful_run.specs.Callers.{Caller, caller_of}
 use Rattle.lawful_run.specs.Reads.{lines_read}
 use Rattle.run_rules.specs.Told.{Account}
-use Rattle.run_rules.specs.Telling.{account_with, log_of, replies_to, unnamed}
+use Rattle.run_rules.specs.Telling.{account_with, replies_to, unnamed}
 use Rattle.run_rules.specs.Nodes.{any_decision, nodes_with}
 use Rattle.run_rules.specs.Keeping.{all_replies}
 
