@@ -445,6 +445,7 @@ module _ (script : Script) (report : Report) (log : Log) (caller : Caller) where
         → AllZip (HasShown report) [] (nodes_of (λ k. any_decision) log caller ys)
     none [] first latest alike found fy e = tt
     none (y ∷ ys) first latest alike found fy e = absurd alike
+
   one_more : (kept : Kept) (x : Step) (xs : List Step) → x.kept ≡ kept → KeysAt x → CouldSayShown report log caller x
       → Choice script report log caller (kept_past log caller x) xs → Choice script report log caller kept (x ∷ xs)
   one_more kept x xs first_is key could rest = record {

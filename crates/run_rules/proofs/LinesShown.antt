@@ -156,32 +156,32 @@ module _ (script : Script) (report : Report) (a : Account) (fits : IsFitting scr
         → (item : PlacedNode) → In item s.reply.nodes → HasLine item
     line_has s o answer is shows item i = by answer (subst (CanHave who (kept_at s) s.command.what s.reply.nodes) is o.can)
         (subst (Shows a.log s.untold who (kept_at s) s.command.what s.reply.nodes) is shows) where
-      none : s.reply.nodes ≡ [] → HasLine item
-      none e = absurd (subst (In item) e i)
+          none : s.reply.nodes ≡ [] → HasLine item
+          none e = absurd (subst (In item) e i)
 
-      low : (colours : List ℕ) (syncs : List SyncPiece) → colours_synced who s.command.what ≡ colours
-          → map (λ (p : SyncPiece). p.colour) syncs ≡ colours → (p : SyncPiece) → In p syncs
-          → p.colour < script.shape.colours
-      low colours syncs e all =
-          mapped_below script.shape.colours (λ (p : SyncPiece). p.colour) syncs (colours_synced who s.command.what)
-          (all ∙ sym e) (synced_within script fits n s.command.what o.within)
+          low : (colours : List ℕ) (syncs : List SyncPiece) → colours_synced who s.command.what ≡ colours
+              → map (λ (p : SyncPiece). p.colour) syncs ≡ colours → (p : SyncPiece) → In p syncs
+              → p.colour < script.shape.colours
+          low colours syncs e all =
+              mapped_below script.shape.colours (λ (p : SyncPiece). p.colour) syncs (colours_synced who s.command.what)
+              (all ∙ sym e) (synced_within script fits n s.command.what o.within)
 
-      by : (given : Answer) → CanHave who (kept_at s) s.command.what s.reply.nodes given
-          → Shows a.log s.untold who (kept_at s) s.command.what s.reply.nodes given → HasLine item
-      by answers.NoMemory can x = none can
-      by (answers.Synced sync plays) can x =
-          let lt : sync.colour < script.shape.colours =
-          synced_within script fits n s.command.what o.within sync.colour
-          (subst (In sync.colour) (sym (ap (colours_synced who) can)) (inl refl)) in
-          let z = zip_before (ShowsNode a.log who sync.colour sync.events) x.2.order s.reply.nodes x.2.lines item i in
-          at_key item z.2.head.key z.2.key (known_shown.of_chain sync.colour lt sync.events z.0 z.2.head z.2.stands) z.2.text
-      by (answers.Scanned stamp count raises syncs) can x =
-          let z = zip_before (ShowsKey a.log) x.2 s.reply.nodes x.4 item i in
-          at_key item z.0 z.2.0
-          (keys_known script n a.log a.log (λ r k has. refl) home refl (IsShownId report) known_shown stamp syncs x.2
-          (low (colours_synced who s.command.what) syncs refl (can.2.1 ∙ sym (ap (colours_synced who) can.1))) x.3 z.0 z.1)
-          z.2.1
-      by _ can x = none can.0
+          by : (given : Answer) → CanHave who (kept_at s) s.command.what s.reply.nodes given
+              → Shows a.log s.untold who (kept_at s) s.command.what s.reply.nodes given → HasLine item
+          by answers.NoMemory can x = none can
+          by (answers.Synced sync plays) can x =
+              let lt : sync.colour < script.shape.colours =
+              synced_within script fits n s.command.what o.within sync.colour
+              (subst (In sync.colour) (sym (ap (colours_synced who) can)) (inl refl)) in
+              let z = zip_before (ShowsNode a.log who sync.colour sync.events) x.2.order s.reply.nodes x.2.lines item i in
+              at_key item z.2.head.key z.2.key (known_shown.of_chain sync.colour lt sync.events z.0 z.2.head z.2.stands) z.2.text
+          by (answers.Scanned stamp count raises syncs) can x =
+              let z = zip_before (ShowsKey a.log) x.2 s.reply.nodes x.4 item i in
+              at_key item z.0 z.2.0
+              (keys_known script n a.log a.log (λ r k has. refl) home refl (IsShownId report) known_shown stamp syncs x.2
+              (low (colours_synced who s.command.what) syncs refl (can.2.1 ∙ sym (ap (colours_synced who) can.1))) x.3 z.0 z.1)
+              z.2.1
+          by _ can x = none can.0
 
   -- the log has what node lines show, of clients that are shown
   pub lines_have : (item : PlacedNode) → In item (node_lines report)

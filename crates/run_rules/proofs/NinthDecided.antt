@@ -89,7 +89,7 @@ module _ (script : Script) (report : Report) (fits : IsFitting script) (well : I
         one.decided,
         (
           subst (FindKeys one.found) its.replied one.keys,
-          λ ys latest alike found follow. one.says ys nothing_kept latest alike found follow 
+          λ ys latest alike found follow. one.says ys nothing_kept latest alike found follow
               (choice_nothing script report bare.log (caller_of script n) (bare.steps n) one),
         ),
       )
