@@ -14,6 +14,7 @@ mod Once
 mod OrderLemmas
 mod PastLemmas
 mod ProposalLemmas
+mod RepliesLemmas
 mod RisingLemmas
 mod RowLemmas
 mod RowOrder

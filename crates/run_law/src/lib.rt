@@ -13,6 +13,7 @@ mod listing;
 mod made;
 mod object_colours;
 mod pieces;
+mod replies;
 mod row_table;
 mod rows;
 mod texts;
