@@ -1,3 +1,4 @@
+mod AllReplies
 mod AskedIs
 mod CanTold
 mod ClosingLemmas

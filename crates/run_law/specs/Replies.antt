@@ -1,5 +1,6 @@
 -- The replies of a report beside their commands, of which only the reads that commits use up are carried on.
-use Rattle.std.specs.Prelude.{◌≡◌, Bool, true, false, ℕ, ◌<◌, List, [], ◌∷◌, drop, Option, Some, None, slice_get, slice_index_or}
+use Rattle.std.specs.Prelude.{◌≡◌, Bool, true, false, ℕ, ◌<◌, ◌≤◌, ◌==◌, List, [], ◌∷◌, drop, length, Option, Some, None, slice_get, slice_index_or}
+use Rattle.std.specs.List.{filter}
 use Rattle.log_node.specs.declared.forms.Version.{Version}
 use Rattle.col_core.specs.Log.{Log}
 use Rattle.col_core.specs.Keeping.{Kept, nothing_kept}
@@ -9,10 +10,9 @@ use Rattle.report_text.specs.declared.report.Answer.{Answer}
 use Rattle.report_text.specs.declared.report.Answer.TheVariants as answers
 use Rattle.report_text.specs.declared.report.ClientReport.{ClientReport}
 use Rattle.report_text.specs.declared.report.ReplyLine.{ReplyLine}
-use Rattle.report_text.specs.declared.report.Report.{Report}
 use Rattle.lawful_run.specs.Callers.{Caller, caller_of, commands_of}
 use Rattle.run_rules.specs.Told.{kept_past}
-use Rattle.run_rules.specs.Telling.{log_of, no_nodes, places_shown, step_of}
+use Rattle.run_rules.specs.Telling.{step_of}
 use Rattle.run_rules.specs.Rules.{IsReplyTo}
 use Rattle.run_law.specs.Keepings.{IsFoundAt}
 
@@ -55,8 +55,26 @@ abbrev pub GoesOn : Bool → Type 0 → Type 0 → Type 0
 GoesOn true Next All = Next
 GoesOn false Next All = All → ⊥
 
+-- a client's commands among these
+abbrev pub of_client : ℕ → List Command → List Command
+of_client client commands = filter (λ (c : Command). c.client == client) commands
+
+-- So it is of each client, whose commands that are left are among these.
+abbrev pub HaveCome : Script → List ClientReport → List Command → List Passed → Type 0
+HaveCome script clients left passed = (log : Log) (shown : ℕ → ℕ → ℕ → List ℕ) (n : ℕ) (c : ClientReport) (p : Passed)
+    → slice_get clients n ≡ Some c → slice_get passed n ≡ Some p
+    → HasCome log (caller_of script n) (shown n) (commands_of script n) c.replies (of_client n left) p
+
+-- nothing is passed yet
+abbrev pub IsBegun : Passed → Type 0
+IsBegun p = (p.next ≡ 0) × ((replies : List ReplyLine) → AreReadsAt replies nothing_kept.reads p.reads)
+
+-- all replies of each client are passed
+abbrev pub AreAllPassed : List ClientReport → List Passed → Type 0
+AreAllPassed clients passed = (n : ℕ) (c : ClientReport) (p : Passed) → slice_get clients n ≡ Some c → slice_get passed n ≡ Some p
+    → length c.replies ≤ p.next
+
 -- the replies of each client are those to its commands
-abbrev pub AreAllReplies : Script → Report → Type 0
-AreAllReplies script report = (n : ℕ) (c : ClientReport) → slice_get report.clients n ≡ Some c
-    → AreReplies (log_of report no_nodes) (caller_of script n) (places_shown script report n) nothing_kept
-    (commands_of script n) c.replies
+abbrev pub AreAllReplies : Log → (ℕ → ℕ → ℕ → List ℕ) → Script → List ClientReport → Type 0
+AreAllReplies log shown script clients = (n : ℕ) (c : ClientReport) → slice_get clients n ≡ Some c
+    → AreReplies log (caller_of script n) (shown n) nothing_kept (commands_of script n) c.replies

@@ -16,12 +16,12 @@ ghost use Rattle.run_rules.specs.Telling.{step_of};
 ghost use Rattle.run_rules.specs.Rules.{IsReplyTo};
 ghost use Rattle.run_law.specs.Asking.{AreFoundOf, HaveLowColours};
 ghost use Rattle.run_law.specs.Keepings.{IsFoundAt};
-ghost use Rattle.run_law.specs.Replies.{AreAllReplies, AreReadsAt, AreReplies, GoesOn, HasCome, place_read};
+ghost use Rattle.run_law.specs.Replies.{AreAllPassed, AreAllReplies, AreReadsAt, AreReplies, GoesOn, HasCome, IsBegun, place_read};
 
 use crate::asked::colours_asked;
 use crate::can_have::can_have;
 use log_node::ListOf;
-use report_text::{Answer, ClientReport, KeyAnswer, ReplyLine, Report};
+use report_text::{Answer, ClientReport, KeyAnswer, ReplyLine};
 use script_text::{Command, Object, ReadUse, Script, Use, What};
 use std::alloc::{AllocError, Global};
 use std::marker::Model;
@@ -71,8 +71,7 @@ fn place_read(answer: &Answer, place: usize) -> Option<usize>
 impl Progress {
     // None is passed.
     fn new(alloc: Global) -> Result<Progress, AllocError>
-        ensures reads { (replies : List ReplyLine) → IfOk result (λ p. AreReadsAt replies nothing_kept.reads p.reads) }
-        ensures next { IfOk result (λ p. p.next ≡ 0) }
+        ensures { IfOk result IsBegun }
     {
         Ok(Progress {
             next: 0,
@@ -139,6 +138,13 @@ impl Progress {
         self.read(command, reply);
         self.next += 1;
     }
+
+    // Whether all of a client's replies are passed.
+    fn has_passed(&self, client: &ClientReport) -> bool
+        ensures { Tells result (length client.now.replies ≤ self.now.next) }
+    {
+        client.replies.len() <= self.next
+    }
 }
 
 // Whether a reply has a command's line and word, and an answer that the command can have, of a client whose last read of the
@@ -192,4 +198,52 @@ fn passes(
     }
     progress.pass(command, reply);
     Ok(true)
+}
+
+// None of so many clients' replies are passed.
+fn begun(alloc: Global, clients: usize) -> Result<Vec<Progress>, AllocError>
+    ensures each { IfOk result (λ progress. All IsBegun progress.items) }
+    ensures len { IfOk result (λ progress. length progress.items ≡ clients) }
+{
+    let mut progress = Vec::new(alloc);
+    for _ in 0..clients {
+        progress.push(Progress::new(alloc)?)?;
+    }
+    Ok(progress)
+}
+
+// Whether all replies of each client are passed.
+fn are_passed(clients: &[ClientReport], progress: &[Progress]) -> bool
+    requires { length progress.now ≡ length clients.now }
+    ensures { Tells result (AreAllPassed clients.now progress.now) }
+{
+    for at in 0..clients.len() {
+        if !progress[at].has_passed(&clients[at]) {
+            return false;
+        }
+    }
+    true
+}
+
+/// Whether each client has one reply for each of its commands, in their order, and an answer that the command can have.
+pub fn are_replies(
+    alloc: Global,
+    script: &Script,
+    clients: &[ClientReport],
+) -> Result<bool, AllocError>
+    requires low { HaveLowColours script.now.objects }
+    requires callers { All (λ (c : Command). c.client < length clients.now) script.now.commands }
+    ensures { (log : Log) (shown : ℕ → ℕ → ℕ → List ℕ)
+        → IfOk result (λ ok. Tells ok (AreAllReplies log shown script.now clients.now)) }
+{
+    let objects = script.objects.as_slice();
+    let mut progress = begun(alloc, clients.len())?;
+    for command in script.commands.as_slice() {
+        let client = command.client as usize;
+        let replies = clients[client].replies.as_slice();
+        if !passes(alloc, objects, command, replies, &mut progress[client])? {
+            return Ok(false);
+        }
+    }
+    Ok(are_passed(clients, progress.as_slice()))
 }
