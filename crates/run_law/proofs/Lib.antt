@@ -5,6 +5,7 @@ mod ClosingLemmas
 mod ColumnPlaces
 mod CopiesLemmas
 mod CopyLemmas
+mod FirstLemmas
 mod HeadLemmas
 mod LeftLemmas
 mod ListedLaws

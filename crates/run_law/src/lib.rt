@@ -4,6 +4,7 @@
 mod asked;
 mod can_have;
 mod copies;
+mod first;
 mod going_on;
 mod journals;
 mod keeping;
@@ -19,6 +20,7 @@ mod rows;
 mod texts;
 mod third;
 
+pub use first::keeps_first;
 pub use journals::tracks_of;
 pub use keeping::Keeping;
 pub use laws::{listed_have_lists, lists_are_listed};
