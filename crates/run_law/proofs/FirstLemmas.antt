@@ -1,6 +1,5 @@
 -- The first rule is what a report lists, and the replies beside their commands.
-use Rattle.std.proofs.Common.{◌≡◌, ◌∙◌, refl, ap, sym, subst, ℕ, suc, ◌<◌, ◌≤◌, Bool, true, false, List, [], ◌∷◌, length, map, Some, arith}
-use Rattle.std.specs.Prelude.{slice_get}
+use Rattle.std.proofs.Common.{◌≡◌, ◌∙◌, refl, ap, sym, subst, ℕ, suc, ◌<◌, ◌≤◌, Bool, List, [], ◌∷◌, length, Some, arith}
 use Rattle.std.specs.List.{All}
 use Rattle.std.proofs.lemmas.List.{length-map}
 use Rattle.std.proofs.lemmas.List.Elements.{All-nil, All-cons, All-head, All-tail, All-weaker}
@@ -19,8 +18,8 @@ use Rattle.report_text.specs.declared.report.Report.{Report}
 use Rattle.lawful_run.specs.Asks.{object_colours}
 use Rattle.lawful_run.specs.Callers.{Caller, caller_of, commands_of}
 use Rattle.column_track.specs.Tracks.{Tells}
-use Rattle.run_rules.specs.Told.{Step, kept_past}
-use Rattle.run_rules.specs.Telling.{account_of, log_of, no_nodes, places_shown, replies_in, replies_to, step_of, steps_of}
+use Rattle.run_rules.specs.Told.{kept_past}
+use Rattle.run_rules.specs.Telling.{log_of, no_nodes, places_shown, replies_in, step_of, steps_of}
 use Rattle.run_rules.specs.Rules.{IsReplyTo}
 use Rattle.run_rules.specs.Keeping.{Keeps, one}
 use Rattle.run_rules.proofs.CallerLemmas.{OnceEach, columns_apart, first_rules_decided, once_rows, rule1}

@@ -1,15 +1,12 @@
 -- Replies beside their commands: what a client's reads are behind a step, and one step more.
-use Rattle.std.proofs.Common.{◌≡◌, ◌∙◌, refl, ap, sym, subst, ℕ, ◌+◌, ◌<◌, ◌≤◌, Bool, true, false, cond, List, [], ◌∷◌, length, map, drop, get_or, Option, Some, None, arith}
+use Rattle.std.proofs.Common.{◌≡◌, ◌∙◌, refl, ap, sym, subst, ℕ, ◌+◌, Bool, true, false, cond, List, [], ◌∷◌, length, map, drop, get_or, Option, Some, None}
 use Rattle.std.specs.Prelude.{◌==◌, nat_lt, slice_get, slice_index_or}
-use Rattle.std.specs.List.{All}
 use Rattle.std.proofs.lemmas.Bool.{ltb-true}
 use Rattle.std.proofs.lemmas.List.{drop_more}
 use Rattle.std.proofs.lemmas.Option.{get_or_from_slice_get, slice_get_read, slice_get_within}
-use Rattle.std.proofs.lemmas.List.Elements.{All-nil, All-cons, All-head, All-tail}
 use Rattle.log_node.specs.declared.forms.Version.{Version}
 use Rattle.col_core.specs.Log.{Log}
 use Rattle.col_core.specs.Keeping.{Kept, nothing_kept, updated}
-use Rattle.script_text.specs.declared.commands.What.{What}
 use Rattle.script_text.specs.declared.script.Command.{Command}
 use Rattle.script_text.specs.declared.uses.ReadUse.TheVariants.{Leaves, Takes, UsesUp}
 use Rattle.script_text.specs.declared.uses.Use.{Use}
@@ -24,12 +21,12 @@ use Rattle.lawful_run.specs.Callers.{Caller}
 use Rattle.lawful_run.specs.Deeds.{found_by}
 use Rattle.lawful_run.specs.Refusals.{before_by, behind_by, kept_before}
 use Rattle.run_rules.specs.Told.{Step, kept_at, kept_past, kept_told, with_found}
-use Rattle.run_rules.specs.Telling.{step_of, steps_of, unnamed}
+use Rattle.run_rules.specs.Telling.{step_of, unnamed}
 use Rattle.run_rules.specs.Answering.{CanHave}
 use Rattle.run_rules.specs.Rules.{IsReplyTo}
 use Rattle.run_rules.proofs.CallerLemmas.{found_told, told_reads}
 use Rattle.run_law.specs.Keepings.{IsFoundAt, ShowsKeys}
-use Rattle.run_law.specs.Replies.{AreReadsAt, AreReplies, GoesOn, HasCome, Passed, place_read}
+use Rattle.run_law.specs.Replies.{AreReadsAt, AreReplies, HasCome, Passed, place_read}
 use Rattle.run_law.proofs.Members.{told_as}
 
 -- A REPLY

@@ -1,4 +1,4 @@
-use Rattle.std.proofs.Common.{ap, sym, subst, Bool, List}
+use Rattle.std.proofs.Common.{subst, Bool, List}
 use Rattle.report_text.specs.declared.report.ClientReport.{ClientReport}
 use Rattle.column_track.specs.Tracks.{Tells}
 use Rattle.run_rules.specs.Keeping.{Keeps}

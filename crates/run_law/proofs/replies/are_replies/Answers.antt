@@ -1,4 +1,4 @@
-use Rattle.std.proofs.Common.{◌≡◌, ◌∙◌, ◌+◌, ◌<◌, ◌≤◌, arith, ap, sym, subst, rules, List, drop, get_or, length}
+use Rattle.std.proofs.Common.{◌∙◌, ◌+◌, ◌<◌, ◌≤◌, ap, sym, subst, rules, List, drop, get_or, length}
 use Rattle.std.proofs.lemmas.List.{drop_all, length-set}
 use Rattle.script_text.specs.declared.script.Command.{Command}
 use Rattle.column_track.specs.Tracks.{Tells}

@@ -1,8 +1,6 @@
-use Rattle.std.proofs.Common.{◌≡◌, ◌∙◌, sym, ap, refl, subst, rules, Option, ℕ, None}
-use Rattle.script_text.specs.declared.uses.Use.{Use}
+use Rattle.std.proofs.Common.{◌≡◌, ◌∙◌, sym, ap, refl, subst, rules, None}
 use Rattle.script_text.specs.declared.uses.Use.TheVariants.{OfLog, OfObject}
 use Rattle.script_text.specs.declared.uses.ReadUse.TheVariants.{Leaves, Takes, UsesUp}
-use Rattle.script_text.specs.Commands.{use_of}
 use Rattle.run_law.specs.Keepings.{IsFoundAt}
 use Rattle.run_law.specs.Replies.{place_read}
 use Rattle.run_law.proofs.RepliesLemmas.{found_in, found_there, past_by}
