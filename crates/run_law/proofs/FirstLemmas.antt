@@ -111,18 +111,21 @@ module _ (script : Script) (report : Report) (fits : IsFitting script) where
           (subst OnceEach (sym lists.columns) (once_rows script.shape.colours 0 script.shape.regions));
       rows = lists.rows;
     },
-    (tt, one (record {
-      version = lists.version;
-      names = lists.names;
-      replies = λ n c at.
-          subst (λ (rs : List ReplyLine). All (IsReplyTo (caller_of script n))
-          (steps_of log (caller_of script n) (places_shown script report n) nothing_kept (commands_of script n) rs))
-          (sym (ap replies_in at))
-          (each_step log (caller_of script n) (places_shown script report n) nothing_kept (commands_of script n) c.replies (are n c at));
-      columns = lists.columns;
-      named = lists.named;
-      by_client = lists.by_client;
-    })),
+    (
+      tt,
+      one (record {
+        version = lists.version;
+        names = lists.names;
+        replies = λ n c at.
+            subst (λ (rs : List ReplyLine). All (IsReplyTo (caller_of script n))
+            (steps_of log (caller_of script n) (places_shown script report n) nothing_kept (commands_of script n) rs))
+            (sym (ap replies_in at))
+            (each_step log (caller_of script n) (places_shown script report n) nothing_kept (commands_of script n) c.replies (are n c at));
+        columns = lists.columns;
+        named = lists.named;
+        by_client = lists.by_client;
+      }),
+    ),
   )
 
   pub lists_kept : Keeps script report 1 → HasLists script report

@@ -187,7 +187,7 @@ fn passes(
     ensures { (log : Log) (caller : Caller) (shown : ℕ → ℕ → List ℕ) (all left : List Command)
         → caller.objects ≡ objects.now → HasCome log caller shown all replies.now (command.now ∷ left) progress.old
         → IfOk result (λ ok. GoesOn ok (HasCome log caller shown all replies.now left progress.new)
-            (AreReplies log caller shown nothing_kept all replies.now)) }
+        (AreReplies log caller shown nothing_kept all replies.now)) }
 {
     let Some(reply) = replies.get(progress.next) else {
         return Ok(false);
