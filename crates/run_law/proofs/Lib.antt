@@ -1,9 +1,11 @@
+mod AllReplies
 mod AskedIs
 mod CanTold
 mod ClosingLemmas
 mod ColumnPlaces
 mod CopiesLemmas
 mod CopyLemmas
+mod FirstLemmas
 mod HeadLemmas
 mod LeftLemmas
 mod ListedLaws
@@ -14,6 +16,7 @@ mod Once
 mod OrderLemmas
 mod PastLemmas
 mod ProposalLemmas
+mod RepliesLemmas
 mod RisingLemmas
 mod RowLemmas
 mod RowOrder

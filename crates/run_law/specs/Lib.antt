@@ -7,6 +7,7 @@ pub mod LeftOpen
 pub mod Listed
 pub mod Lists
 pub mod Proposals
+pub mod Replies
 pub mod RowsBeside
 pub mod Tables
 pub mod Third
