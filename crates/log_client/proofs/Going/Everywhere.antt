@@ -81,6 +81,7 @@ module _ (s : Store) (c d : Client) (is : IsClient s c) (number : d.number ≡ c
     regions = length s.regions;
     size = r.board.size;
     board = r.board.table.shared.table_id;
+    rings = rings_at r 0;
   }
 
   a_region : (r : Region) × (slice_get s.regions c.region ≡ Some r)

@@ -108,6 +108,7 @@ module _ (s : Store) (c d : Client) (r : Region) (g h : Hold) (is : IsClient s c
     regions = length s.regions;
     size = r.board.size;
     board = r.board.table.shared.table_id;
+    rings = rings_at r 0;
   }
 
   pub track_stays : (k : ℕ) (track : Track) → IsTrack c.region k (seen_in g k) track
