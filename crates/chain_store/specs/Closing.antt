@@ -25,6 +25,10 @@ use Rattle.chain_store.specs.declared.region.Region.{Region}
 use Rattle.chain_store.specs.declared.closed.ClosedRegion.{ClosedRegion}
 use Rattle.chain_store.specs.Histories.{entries_in, maker}
 use Rattle.chain_store.specs.Columns.{IsOfHistory}
+use Rattle.ring_ends.specs.declared.rings.Rings.{Rings}
+use Rattle.ring_ends.specs.Rings.{names_of, IsForRegions}
+use Rattle.chain_store.specs.Rings.{RingsFit}
+use Rattle.chain_store.specs.Regions.{rings_at, tag_at}
 use Rattle.chain_store.specs.Holds.{IsHold, seen_in, made_in, view_of}
 
 -- they are the holds of all clients of the region, by number
@@ -64,8 +68,13 @@ pub record Closed (r : Region) (hs : List Hold) (closed : ClosedRegion) : Type 0
   pub logs : ℕ → List Told
   pub begun : List BegunRow
   pub count : length closed.columns ≡ r.board.size.colours
+  pub ends : length closed.ends.items ≡ r.board.size.colours
   pub columns : (colour : ℕ) (column : ColumnState) → slice_get closed.columns colour ≡ Some column
       → ClosesColumn r colour column (logs colour)
+  -- the rings of each column are those that it began with, and fit its history
+  pub rings : (colour : ℕ) (rings : Rings) → slice_get closed.ends.items colour ≡ Some rings
+      → (names_of rings ≡ rings_at r colour) × IsForRegions r.regions rings
+      × RingsFit (tag_at r colour) rings (logs colour)
   pub rows : AreLawfulRows r.number r.board.size.colours (λ (c : ℕ). entries_in (logs c)) begun
   pub closing : closed.rows ≡ map closed_of begun
   pub in_order : map (λ (b : BegunRow). b.row) begun ≡ all_begun (map (λ (h : Hold). h.seat) hs)

