@@ -11,6 +11,7 @@ use Rattle.chain_store.specs.declared.told.Tag.{Tag}
 use Rattle.chain_store.specs.declared.told.Told.{Told}
 use Rattle.chain_store.specs.declared.hold.Hold.{Hold}
 use Rattle.chain_store.specs.declared.region.Region.{Region}
+use Rattle.chain_store.specs.Regions.{rings_at}
 use Rattle.chain_store.specs.Holds.{seen_in, made_in, entries_seen}
 use Rattle.chain_store.specs.Going.{GoesOn}
 use Rattle.client_law.specs.Knowing.{SeesOn}
