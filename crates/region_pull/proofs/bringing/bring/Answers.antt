@@ -111,7 +111,7 @@ loop-preserved-in_default g c =
     let d = (watched_then c.args.to.now c.args.colour c.args.to_hold.now c.loop.to_hold c.drain.new.hold c.loop.invariant.1
     c.drain.ensures.hold c.drain.ensures.others c.drain.ensures.same c.drain.ensures.sees) in
     (watched_then c.args.to.now c.args.colour c.args.to_hold.now c.drain.new.hold c.carry.new.hold d e.hold e.others e.same
-    (e.none none).sees))
+    (e.none (ap (λ (o : Option (At × ℕ)). Ok o) none)).sees))
 
 pub loop-preserved : goal.loop-preserved
 loop-preserved g c =
