@@ -1,10 +1,62 @@
 // The rings of all regions of a store, once all of them have ended.
-ghost use Rattle.std.specs.Prelude.{◌≡◌, ◌≤◌, map};
+ghost use Rattle.std.specs.Prelude.{◌≡◌, ◌≢◌, ◌<◌, ◌≤◌, ℕ, length, map, Some, slice_get};
 ghost use Rattle.log_node.specs.declared.limits.TheConstants.{MAX_REGIONS};
-ghost use Rattle.chain_store.specs.Joined.{ends_in, AreJoined, AreCarriedAlong, ended_past};
+ghost use Rattle.ring_ends.specs.Rings.{IsForRegions};
+ghost use Rattle.chain_store.specs.declared.closed.ClosedRegion.{ClosedRegion};
+ghost use Rattle.chain_store.specs.Joined.{ends_in, AreJoined, AreCarriedAlong, AreBetween, AreAllBetween, AreOfOneRing};
+ghost use Rattle.chain_store.specs.Joined.{IsAlong, BothAlong, past_of, ended_past};
 
 use crate::closed::ClosedRegion;
 use log_node::MAX_REGIONS;
+use ring_ends::{Rings, check, place_of};
+
+// The ring from the column of region a, whose ends are given first, to that of region b.
+fn check_ring(from: &mut Rings, to: &mut Rings, a: u8, b: u8, regions: u8)
+    requires apart { a ≢ b }
+    requires inside { (a < regions) × (b < regions) }
+    requires from { IsForRegions regions from.old }
+    requires to { IsForRegions regions to.old }
+    requires joined { AreOfOneRing a b from.old to.old }
+    ensures from { past_of from.new ≡ past_of from.old }
+    ensures to { past_of to.new ≡ past_of to.old }
+    ensures along { IsAlong a b from.old to.old }
+{
+    check(
+        &mut from.sends[place_of(a, b)],
+        &mut to.receives[place_of(b, a)],
+    );
+}
+
+// The rings between two regions' columns, of each colour.
+fn check_between(xs: &mut Vec<Rings>, ys: &mut Vec<Rings>, a: u8, b: u8, regions: u8)
+    requires apart { a ≢ b }
+    requires inside { (a < regions) × (b < regions) }
+    requires joined { AreAllBetween regions a b xs.old.items ys.old.items }
+    ensures first { map past_of xs.new.items ≡ map past_of xs.old.items }
+    ensures second { map past_of ys.new.items ≡ map past_of ys.old.items }
+    ensures along { BothAlong (length xs.old.items) a b xs.old.items ys.old.items }
+{
+    for colour in 0..xs.len() {
+        check_ring(&mut xs[colour], &mut ys[colour], a, b, regions);
+        check_ring(&mut ys[colour], &mut xs[colour], b, a, regions);
+    }
+}
+
+// The rings between a region and those before it.
+fn check_below(low: &mut [ClosedRegion], last: &mut ClosedRegion, regions: u8)
+    requires inside { length low.old < regions }
+    requires joined { (a : ℕ) (x : ClosedRegion) → slice_get low.old a ≡ Some x
+        → AreAllBetween regions a (length low.old) x.ends.items last.old.ends.items }
+    ensures low { map ended_past low.new ≡ map ended_past low.old }
+    ensures last { ended_past last.new ≡ ended_past last.old }
+    ensures along { (a : ℕ) (x : ClosedRegion) → slice_get low.old a ≡ Some x
+        → BothAlong (length x.ends.items) a (length low.old) x.ends.items last.old.ends.items }
+{
+    let own = low.len();
+    for a in 0..own {
+        check_between(&mut low[a].ends, &mut last.ends, a as u8, own as u8, regions);
+    }
+}
 
 /// What came through each ring is a beginning of what went into it: learnt of all regions of a store that have ended, since
 /// both ends of each ring are at hand then. Takes no memory, and changes nothing that is known of the regions.
@@ -14,4 +66,8 @@ pub fn check_rings(closed: &mut Vec<ClosedRegion>, regions: u8, colours: u8)
     ensures checked { AreCarriedAlong (ends_in closed.old.items) }
     ensures same { map ended_past closed.new.items ≡ map ended_past closed.old.items }
 {
+    for own in 0..regions as usize {
+        let (low, high) = closed.split_at_mut(own);
+        check_below(low, &mut high[0], regions);
+    }
 }
