@@ -100,6 +100,16 @@ module _ {A : Type 0} where
   got_taken (suc k) (y ∷ xs) zero x lt e = e
   got_taken (suc k) (y ∷ xs) (suc n) x lt e = got_taken k xs n x (omega (arith, lt)) e
 
+  -- a list whose items stand at the same places of another begins it
+  pub prefix_by : (xs ys : List A) → ((n : ℕ) (y : A) → slice_get ys n ≡ Some y → slice_get xs n ≡ Some y) → IsPrefix ys xs
+  prefix_by xs [] each = (xs, refl)
+  prefix_by [] (y ∷ ys) each = absurd (let e = each 0 y refl in let f : ⊥ = cc in f)
+  prefix_by (x ∷ xs) (y ∷ ys) each =
+      let e = each 0 y refl in
+      let same : x ≡ y = same_Some x y e in
+      let r = prefix_by xs ys (λ n z at. each (suc n) z at) in
+      (r.0, (λ i. sym same i ∷ r.1 i))
+
   -- none passes, or just one
   pub none_pass : (test : A → Bool) (xs : List A)
       → ((n : ℕ) (x : A) → slice_get xs n ≡ Some x → test x ≡ true → ⊥) → filter test xs ≡ []

@@ -121,7 +121,7 @@ module _ (rs : List Region) (regions colours : ℕ) (clients : List (List Hold))
     lawful_rows = subst (AreLawfulRows n colours (the_log.histories n)) (sym rows_are)
         (rows_beside n colours (λ (c : ℕ). entries_in (x.closed.logs c)) (the_log.histories n) x.closed.begun lawful
         (λ c lt. ap entries_in (sym (told_is rs regions colours clients ends nodes are few sizes holds pulls own end_of is_end
-        has_end none_beyond n x e c lt)))
+        copied has_end none_beyond n x e c lt)))
         (λ i b at c of. row_within n x e i b at c of));
     in_order = subst (λ (l : List BegunRow). map (λ (b : BegunRow). b.row) l ≡ all_begun (map (λ (h : Hold). h.seat) x.ks))
         (sym rows_are) x.closed.in_order;
@@ -179,7 +179,7 @@ module _ (rs : List Region) (regions colours : ℕ) (clients : List (List Hold))
           of_regions = c.regions ∙ mine.1;
           journal = c.stands.same
               ∙ ap entries_in (sym (told_is rs regions colours clients ends nodes are few sizes holds pulls own end_of is_end
-              has_end none_beyond n x e colour (omega (arith, lt, many, size))));
+              copied has_end none_beyond n x e colour (omega (arith, lt, many, size))));
         }
 
   -- each id that enters is that of a listed node
