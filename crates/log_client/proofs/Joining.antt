@@ -1,8 +1,6 @@
 -- The rings of a new store's regions.
 use Rattle.std.proofs.Common.{◌≡◌, ◌≢◌, ℕ, ◌<◌, ◌≤◌, List, length, Some, slice_get, ap, sym, subst, ◌∙◌, arith}
-use Rattle.std.proofs.lemmas.List.Elements.{All-contains}
 use Rattle.std.proofs.lemmas.Option.{slice_get_within}
-use Rattle.col_core.proofs.CallerLemmas.{contains_in, slice_in}
 use Rattle.ring_ends.specs.declared.rings.Rings.{Rings}
 use Rattle.ring_ends.specs.Places.{ring_place}
 use Rattle.ring_ends.specs.Rings.{names_of, RingNames}
@@ -19,8 +17,7 @@ HasEnds r ends = (colour : ℕ) (rings : Rings) → slice_get ends colour ≡ So
 
 module _ (regions colours : ℕ) (all : List (List Rings)) (new : AreNewRings regions colours all) where
   pub ends_long : (n : ℕ) (ends : List Rings) → slice_get all n ≡ Some ends → length ends ≡ colours
-  ends_long n ends at = All-contains (λ (l : List Rings). length l ≡ colours) all ends new.colours_of
-      (contains_in all ends (slice_in all n ends at))
+  ends_long n ends at = new.colours_of n ends at
 
   -- what a region opens with
   pub new_ends : (n : ℕ) (ends : List Rings) → slice_get all n ≡ Some ends
