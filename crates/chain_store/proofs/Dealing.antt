@@ -1,6 +1,5 @@
 -- How clients get what they have of the columns, and what a new region's holds are.
 use Rattle.std.proofs.Common.{◌≡◌, ◌≢◌, inl, inr, ℕ, zero, suc, ◌+◌, List, [], ◌∷◌, ◌++◌, length, set, Option, Some, None, slice_get, refl, ap, sym, subst, ◌∙◌, arith, length-append, length-set}
-use Rattle.std.proofs.lemmas.Option.{slice_get_within}
 use Rattle.log_node.specs.declared.node.Node.{Node}
 use Rattle.ring_ends.specs.declared.rings.Rings.{Rings}
 use Rattle.ring_ends.specs.Rings.{names_of}
@@ -20,7 +19,7 @@ use Rattle.chain_store.specs.Passes.{ColumnCell, ColumnPass, IsCellOf, IsHolder,
 use Rattle.chain_store.specs.Desks.{AreSharesOf, HasDesks, IsDesk, IsShareOf, column_copied}
 use Rattle.chain_store.specs.Ends.{AreNewHolders}
 use Rattle.chain_store.specs.Holds.{HasPasses, IsHold, history_seen, turned_in}
-use Rattle.chain_store.specs.Openings.{AllGotNew, CopiesPass, Dealt, Got, GotNew, HasNew, HaveAll, Zipped, client_of}
+use Rattle.chain_store.specs.Openings.{AllGotNew, CopiesPass, Dealt, Got, HasNew, HaveAll, Zipped, client_of}
 use Rattle.chain_store.specs.Opening.{IsNewHold, AreNewHolds}
 use Rattle.chain_store.proofs.Holding.{got_set, set_other}
 use Rattle.chain_store.proofs.Entering.{get_last, get_old}

@@ -1,4 +1,4 @@
-use Rattle.std.proofs.Common.{◌≡◌, ◌≤◌, ◌<◌, ◌≢◌, ◌+◌, ◌∙◌, ℕ, List, length, ap, sym, subst, inl, arith}
+use Rattle.std.proofs.Common.{◌≡◌, ◌<◌, ◌≢◌, ◌+◌, ◌∙◌, ℕ, List, length, ap, sym, subst, inl, arith}
 use Rattle.turn_cell.specs.Cells.{seen}
 use Rattle.chain_store.specs.declared.told.Tag.{Tag}
 use Rattle.chain_store.specs.Passes.{tag_in}

@@ -1,8 +1,7 @@
 use Rattle.std.proofs.Common.{◌≡◌, ◌+◌, ◌∷◌, [], ℕ, rules, length, slice_get, ap, sym, subst, ◌∙◌, arith, length-append}
-use Rattle.chain_store.specs.Passes.{IsCellOf, tag_in}
+use Rattle.chain_store.specs.Passes.{IsCellOf}
 use Rattle.chain_store.proofs.Entering.{get_last, get_old}
 use Rattle.chain_store.proofs.Dealing.{have_more, rings_more, shares_more, tied_more}
-use Rattle.ring_ends.specs.Rings.{names_of}
 use Rattle.chain_store.proofs.opening.open_columns.Goals as goal
 
 pub open_shared-requires-clause-seat : goal.open_shared-requires-clause-seat
