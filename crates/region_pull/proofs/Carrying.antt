@@ -1,11 +1,11 @@
 -- Carries, as more is seen before them.
-use Rattle.std.proofs.Common.{◌≡◌, ℕ, List, ◌∙◌, inl, inr}
+use Rattle.std.proofs.Common.{ℕ, List, ◌∙◌, inl, inr}
 use mathlib.Core.List.{IsPrefix}
 use Rattle.log_node.specs.declared.node.At.{At}
 use Rattle.chain_store.specs.declared.told.Tag.{Tag}
 use Rattle.chain_store.specs.declared.told.Told.{Told}
 use Rattle.chain_store.specs.Passes.{SeesMore, MakesOne}
-use Rattle.chain_store.specs.Moves.{LooksAt, CarriesAt}
+use Rattle.chain_store.specs.Moves.{CarriesAt}
 use Rattle.region_pull.specs.Pulls.{CarriesOn}
 use Rattle.region_pull.proofs.Lists.{prefix_then}
 use Rattle.region_pull.proofs.Giving.{made_more}

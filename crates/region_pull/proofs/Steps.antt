@@ -1,5 +1,5 @@
 -- The holds of a client between the steps of a pull.
-use Rattle.std.proofs.Common.{◌≡◌, ℕ, ◌<◌, ◌≤◌, List, [], ◌∷◌, length, refl, ap, sym, subst, ◌∙◌, arith}
+use Rattle.std.proofs.Common.{◌≡◌, ℕ, ◌<◌, List, [], ◌∷◌, length, refl, ap, sym, subst, ◌∙◌, arith}
 use Rattle.std.specs.Prelude.{slice_get}
 use mathlib.Core.List.{IsPrefix}
 use Rattle.log_node.specs.declared.ids.Counts.{Counts}
@@ -14,15 +14,15 @@ use Rattle.chain_store.specs.declared.hold.Hold.{Hold}
 use Rattle.chain_store.specs.declared.region.Region.{Region}
 use Rattle.chain_store.specs.Histories.{entries_in, maker}
 use Rattle.chain_store.specs.Passes.{SeesMore, dated_in}
-use Rattle.chain_store.specs.Moves.{held_in, GivesAt, CarriesAt}
+use Rattle.chain_store.specs.Moves.{held_in, CarriesAt}
 use Rattle.chain_store.specs.Regions.{tag_at}
-use Rattle.chain_store.specs.Holds.{IsHold, SameBut, seen_in, made_in, SeesMoreIn, LooksIn, GivesIn, CarriesIn}
+use Rattle.chain_store.specs.Holds.{IsHold, SameBut, seen_in, made_in, SeesMoreIn, GivesIn, CarriesIn}
 use Rattle.chain_store.specs.Going.{GoesOnIn}
 use Rattle.chain_store.proofs.CallerLemmas.{lawful_seen}
 use Rattle.region_pull.specs.declared.pulled.Pulled.{Pulled}
 use Rattle.region_pull.specs.Stores.{AreOfOneStore}
 use Rattle.region_pull.specs.Origins.{AsksForHeld}
-use Rattle.region_pull.specs.Pulls.{GiveOfPull, before_gave, AsksByGives, PullsByHolds, GivesAlone}
+use Rattle.region_pull.specs.Pulls.{GiveOfPull, AsksByGives, PullsByHolds, GivesAlone}
 use Rattle.region_pull.specs.Inside.{HasAsked, HasWatched}
 use Rattle.region_pull.proofs.Lists.{prefix_same, prefix_then}
 use Rattle.region_pull.proofs.Giving.{made_more, asks_none, the_give, asks_once, line_then, asks_further, line_stays, asks_held}

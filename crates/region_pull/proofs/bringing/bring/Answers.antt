@@ -4,9 +4,8 @@ use Rattle.log_node.specs.declared.node.At.{At}
 use Rattle.chain_store.specs.declared.hold.Hold.{Hold}
 use Rattle.chain_store.specs.declared.region.Region.{Region}
 use Rattle.chain_store.specs.Regions.{tag_at}
-use Rattle.chain_store.specs.Holds.{CarriesIn, WaitsIn}
-use Rattle.region_pull.specs.Inside.{HasWatched}
-use Rattle.region_pull.proofs.Steps.{watched_none, watched_then, carried_since, carried_goes, goes_then}
+use Rattle.chain_store.specs.Holds.{CarriesIn}
+use Rattle.region_pull.proofs.Steps.{watched_none, watched_then, carried_since, carried_goes}
 use Rattle.region_pull.proofs.bringing.bring.Goals as goal
 
 -- what an answer says where it is there

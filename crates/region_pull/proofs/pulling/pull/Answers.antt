@@ -1,6 +1,4 @@
-use Rattle.std.proofs.Common.{ℕ, refl, subst}
-use Rattle.chain_store.specs.Regions.{tag_at}
-use Rattle.chain_store.specs.Holds.{CarriesIn}
+use Rattle.std.proofs.Common.{refl}
 use Rattle.region_pull.proofs.Steps.{goes_on, gave_alone, pulled, held_asked, held_pulled}
 use Rattle.region_pull.proofs.pulling.pull.Goals as goal
 
