@@ -25,7 +25,7 @@ pub fn pull<R: Wait>(
     requires colour { colour < store.now.size.colours }
     ensures { ServesLog store.now client.old client.new (What.Pull region colour) result [] }
 {
-    match client.pull(rt, alloc, store, region, colour) {
+    match client.pull(rt, store, region, colour) {
         Ok(pulled) => Answer::Pulled {
             nodes: pulled.nodes,
             give: pulled.give,
