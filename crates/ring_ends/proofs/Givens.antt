@@ -1,5 +1,5 @@
 -- Nodes of their heads, one after the other.
-use Rattle.std.proofs.Common.{◌≡◌, ℕ, zero, suc, List, [], ◌∷◌, ◌++◌, Some, slice_get, subst}
+use Rattle.std.proofs.Common.{◌≡◌, ℕ, zero, suc, List, [], ◌∷◌, ◌++◌, subst}
 use Rattle.log_node.specs.Seen.{PlacedNode}
 use Rattle.ring_ends.specs.Givens.{IsOfItsHead, OfTheirHeads}
 

@@ -11,3 +11,7 @@ IsOfItsHead region i =
 -- each of the nodes is
 abbrev pub OfTheirHeads : ℕ → List PlacedNode → Type 0
 OfTheirHeads region items = (n : ℕ) (i : PlacedNode) → slice_get items n ≡ Some i → IsOfItsHead region i
+
+-- the first of the nodes, if there is one, is not
+abbrev pub BeginsOtherwise : ℕ → List PlacedNode → Type 0
+BeginsOtherwise region items = (i : PlacedNode) → slice_get items 0 ≡ Some i → IsOfItsHead region i → ⊥

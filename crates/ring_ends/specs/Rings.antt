@@ -3,7 +3,7 @@ use Rattle.std.specs.Prelude.{◌≡◌, ℕ, ◌-◌, List, length, map}
 use base.Stored.{Coded, coded_via, coded_ℕ, coded_list, coded×}
 use denote.RawPtr.{Ptr, coded_ptr}
 use Rattle.rtrb.specs.Shared.{Names}
-use Rattle.rtrb.specs.Ring.{sent, received, known_free}
+use Rattle.rtrb.specs.Ring.{sent, received, known_free, known_items}
 use Rattle.log_node.specs.Seen.{PlacedNode}
 use Rattle.ring_ends.specs.declared.sends.Sends.{Sends}
 use Rattle.ring_ends.specs.declared.receives.Receives.{Receives}
@@ -43,6 +43,10 @@ gone s = sent s.producer
 
 abbrev pub got : Receives → List PlacedNode
 got r = received r.consumer
+
+-- what is known to be in the ring, the oldest first
+abbrev pub left : Receives → List PlacedNode
+left r = known_items r.consumer
 
 -- how many places of the ring are known to be free
 abbrev pub room_of : Sends → ℕ

@@ -16,14 +16,15 @@ pub struct Receives {
 impl Receives {
     ghost use Rattle.std.specs.Prelude.{◌≡◌, ◌++◌, List, OnOk, OnErr};
     ghost use Rattle.log_node.specs.Seen.{PlacedNode};
-    ghost use Rattle.ring_ends.specs.Givens.{OfTheirHeads};
-    ghost use Rattle.ring_ends.specs.Rings.{ring_received, got};
+    ghost use Rattle.ring_ends.specs.Givens.{OfTheirHeads, BeginsOtherwise};
+    ghost use Rattle.ring_ends.specs.Rings.{ring_received, got, left};
 
     /// Receives what is there: nodes of this region, each under its own id and a stamp that there is. A refusal loses
     /// nothing. One that is none of these, which no one sends, stays in the ring.
     pub fn receive(&mut self, region: u8) -> Result<(), AllocError>
         ensures ring { ring_received self.new ≡ ring_received self.old }
         ensures ok { OnOk result ((more : List PlacedNode) × (got self.new ≡ got self.old ++ more) × (self.new.waiting.items ≡ self.old.waiting.items ++ more) × OfTheirHeads region more) }
+        ensures all { OnOk result (BeginsOtherwise region (left self.new)) }
         ensures err { OnErr result ((got self.new ≡ got self.old) × (self.new.waiting.items ≡ self.old.waiting.items)) }
     {
         let known = self.consumer.slots();

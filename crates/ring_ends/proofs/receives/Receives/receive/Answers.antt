@@ -1,5 +1,4 @@
-use Rattle.std.proofs.Common.{◌≡◌, ◌++◌, [], ◌∷◌, ◌∙◌, ap, sym, subst, append_assoc, rules}
-use Rattle.ring_ends.specs.Givens.{IsOfItsHead}
+use Rattle.std.proofs.Common.{◌++◌, [], ◌∷◌, ◌∙◌, ap, append_assoc, rules}
 use Rattle.ring_ends.proofs.Givens.{heads_more}
 use Rattle.ring_ends.proofs.receives.Receives.receive.Goals as goal
 
@@ -8,8 +7,7 @@ pub loop-preserved : goal.loop-preserved
 loop-preserved c =
     let inv = c.loop.invariant in
     let more = inv.3.0 in
-    let item = c.pop_known-item.result in
-    (
+    let item = c.pop_known-item.result in (
       search rules,
       search rules,
       search rules,

@@ -11,4 +11,4 @@ invariant-loop l =
     × (length (known_items l.self.consumer) + l.counter ≡ l.known)
     × (vec_len l.self.waiting + length (known_items l.self.consumer) ≤ vec_capacity l.self.waiting)
     × ((more : List PlacedNode) × (got l.self ≡ got l.initial.self ++ more)
-        × (l.self.waiting.items ≡ l.initial.self.waiting.items ++ more) × OfTheirHeads l.region more)
+    × (l.self.waiting.items ≡ l.initial.self.waiting.items ++ more) × OfTheirHeads l.region more)
