@@ -1,6 +1,6 @@
 -- What a column's rings stand for: what was sent is a beginning of its own line, what was received is what it carried, then
 -- what waits.
-use Rattle.std.specs.Prelude.{◌≡◌, ◌≢◌, ℕ, ◌<◌, List, [], ◌∷◌, ◌++◌, map, Some, slice_get}
+use Rattle.std.specs.Prelude.{◌≡◌, ◌≢◌, ℕ, ◌+◌, ◌<◌, List, [], ◌∷◌, ◌++◌, map, Some, slice_get}
 use Rattle.std.specs.List.{flat_map}
 use mathlib.Core.List.{IsPrefix}
 use Rattle.log_node.specs.declared.node.Head.{Head}
@@ -9,11 +9,12 @@ use Rattle.log_node.specs.Seen.{PlacedNode}
 use Rattle.col_core.specs.Cuts.{carried, chain}
 use Rattle.col_core.specs.Legal.{IsColumnHistory}
 use Rattle.col_core.specs.Computed.{dated}
+use Rattle.column.specs.Columns.{ColumnState, chains_of, HasStored}
 use Rattle.ring_ends.specs.declared.rings.Rings.{Rings}
 use Rattle.ring_ends.specs.declared.sends.Sends.{Sends}
 use Rattle.ring_ends.specs.declared.receives.Receives.{Receives}
-use Rattle.ring_ends.specs.Givens.{OfTheirHeads}
 use Rattle.ring_ends.specs.Places.{ring_place}
+use Rattle.ring_ends.specs.Givens.{OfTheirHeads}
 use Rattle.ring_ends.specs.Rings.{gone, got}
 use Rattle.chain_store.specs.declared.told.Tag.{Tag}
 use Rattle.chain_store.specs.declared.told.Told.{Told}
@@ -28,6 +29,11 @@ under (head ∷ heads) (node ∷ nodes) = record { head = head; node = node } �
 -- the nodes of a region that a history carried, in order
 abbrev pub carried_from : ℕ → List Told → List PlacedNode
 carried_from region log = flat_map (λ (t : Told). under (carried region t.entry.event) t.nodes) log
+
+-- the own nodes of a column that come next from a place of its line on, as they are stored
+abbrev pub AreNextOwn : ColumnState → ℕ → List PlacedNode → Type 0
+AreNextOwn column start items = (n : ℕ) (i : PlacedNode) → slice_get items n ≡ Some i
+    → (slice_get (chains_of column column.region) (start + n) ≡ Some i.head) × HasStored column i.head.key i.node
 
 -- What was sent is a beginning of the own line in each lawful history that goes on from this one, and each node of it entered
 -- by an entry of this one.

@@ -105,6 +105,7 @@ fn split_columns(
             rings,
             seat,
             entered: _,
+            rings: _,
         } = seated;
         columns.push(column)?;
         ends.push(rings)?;

@@ -1,12 +1,40 @@
 // What a column does under its turn with its rings.
-ghost use Rattle.std.specs.Prelude.{◌≡◌, ◌≢◌, ◌↔◌, ◌<◌, ◌≤◌, ◌+◌, ℕ, Ok, Some, None, length, IfOk, IfSome, OnErr};
+ghost use Rattle.std.specs.Prelude.{◌≡◌, ◌≢◌, ◌↔◌, ◌<◌, ◌≤◌, ◌+◌, ◌++◌, ℕ, List, Ok, Some, None, length, IfOk, IfSome, OnErr};
+ghost use Rattle.log_node.specs.Seen.{PlacedNode};
 ghost use Rattle.column.specs.Columns.{held_of};
 ghost use Rattle.stamp_board.specs.Seats.{column_seen};
+ghost use Rattle.ring_ends.specs.Rings.{ring_sent, gone};
+ghost use Rattle.chain_store.specs.Rings.{AreNextOwn};
 ghost use Rattle.chain_store.specs.Columns.{Gains, Stays, told_carry, tag_of};
 ghost use Rattle.chain_store.specs.Columns.{waiting_of};
 
 use crate::seated::Seated;
+use column::Column;
+use ring_ends::{Sends, place_of};
 use std::alloc::AllocError;
+
+// Nodes of the column's line go into the ring, from the one on that comes next there, while the ring has room and they can
+// be shared. None goes where the next one is trimmed.
+fn send_line(column: &Column, sends: &mut Sends)
+    ensures ring { ring_sent sends.new ≡ ring_sent sends.old }
+    ensures gone { (more : List PlacedNode) × (gone sends.new ≡ gone sends.old ++ more)
+        × AreNextOwn column.now (length (gone sends.old)) more }
+{
+    column.agrees();
+    let base = column.base().of_region(column.region());
+    let lined = column.line().len() as u64;
+    for _ in 0..sends.room() {
+        let place = sends.sent();
+        if place < base || place >= lined {
+            break;
+        }
+        let (key, entered) = column.own_entered(place);
+        let Ok(item) = entered.item(key) else {
+            break;
+        };
+        sends.send(item);
+    }
+}
 
 impl Seated {
     /// Sends own nodes to another region, in their order, while its ring takes them. A node that can't be shared stays, as
@@ -18,6 +46,10 @@ impl Seated {
         ensures same { self.new.column ≡ self.old.column }
         ensures stays { Stays self.old self.new }
     {
+        let place = place_of(self.column.region(), region);
+        if place < self.rings.sends.len() {
+            send_line(&self.column, &mut self.rings.sends[place]);
+        }
     }
 
     /// Receives what another region's ring has, and answers how many nodes of that region are held or received then. A
@@ -30,7 +62,18 @@ impl Seated {
         ensures count { IfOk result (λ n. n ≡ held_of self.new.column region + length (waiting_of self.new region)) }
         ensures stays { Stays self.old self.new }
     {
-        Err(AllocError)
+        self.column.agrees();
+        let held = self.column.held().of_region(region);
+        let place = place_of(self.column.region(), region);
+        if place >= self.rings.receives.len() {
+            return Ok(held);
+        }
+        let receives = &mut self.rings.receives[place];
+        receives.receive(region)?;
+        let Some(there) = held.checked_add(receives.waiting.len() as u64) else {
+            return Err(AllocError);
+        };
+        Ok(there)
     }
 
     /// Takes over what was received from another region, and answers how many nodes that were; `None`, and nothing changes,
@@ -55,6 +98,19 @@ impl Seated {
         ensures nothing { result ≡ Ok (Some 0) → Stays self.old self.new }
         ensures err { OnErr result (Stays self.old self.new) }
     {
-        Err(AllocError)
+        self.column.agrees();
+        let held = self.column.held().of_region(region);
+        let place = place_of(self.column.region(), region);
+        if place >= self.rings.receives.len() {
+            return Ok(if held < least { None } else { Some(0) });
+        }
+        let count = self.rings.receives[place].waiting.len() as u64;
+        if held.saturating_add(count) < least {
+            return Ok(None);
+        }
+        let waiting = &mut self.rings.receives[place].waiting;
+        self.column.take_over(by, region, waiting)?;
+        let _few = self.column.journal().len();
+        Ok(Some(count))
     }
 }

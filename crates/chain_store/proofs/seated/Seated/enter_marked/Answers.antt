@@ -20,7 +20,7 @@ returns-in-Set-clause-step c =
           (subst (λ (z : ColumnSeat). IsLaterColumn z s3) c.enter_open.ensures.seat c.mark.ensures.seat)
           (subst (λ (z : ColumnSeat). SetsMark z s3 c.args.row (marks.Number n)) c.enter_open.ensures.seat
           c.in-Set.ensures.value)
-          c.requires.row.0 small e log h,
+          c.requires.row.0 small c.enter_open.ensures.tag e log h,
     )
 
 pub returns-in-Set-clause-mark : goal.returns-in-Set-clause-mark
