@@ -9,6 +9,8 @@ use Rattle.ring_ends.specs.declared.sends.Sends.{Sends}
 use Rattle.ring_ends.specs.declared.receives.Receives.{Receives}
 use Rattle.ring_ends.specs.Givens.{OfTheirHeads}
 use Rattle.ring_ends.specs.NewRings.{AreUnused}
+use Rattle.ring_ends.specs.declared.make.TheConstants.{RING_ROOM}
+use Rattle.ring_ends.specs.Rings.{gone, got, room_of}
 use Rattle.ring_ends.specs.Places.{ring_place}
 use Rattle.chain_store.specs.declared.told.Tag.{Tag}
 use Rattle.chain_store.specs.Rings.{AreSent, RingsFit}
@@ -25,9 +27,10 @@ no_heads region n i at = absurd (let f : ⊥ = cc (at) in f)
 -- they fit the history with nothing in it
 pub unused_fit : (t : Tag) (rings : Rings) → AreUnused rings → RingsFit t rings []
 unused_fit t rings unused = record {
-  sent = λ n s at. subst (AreSent t []) (sym (all_at _ rings.sends.items n s at unused.sends).0) (none_sent t);
+  sent = λ n s at. subst (AreSent t []) (sym (all_at (λ (x : Sends). (gone x ≡ []) × (room_of x ≡ RING_ROOM)) rings.sends.items n s at unused.sends).0) (none_sent t);
   received = λ region r lt other at.
-      let u = all_at _ rings.receives.items (ring_place t.region region) r at unused.receives in record {
+      let u = all_at (λ (x : Receives). (got x ≡ []) × (x.waiting.items ≡ [])) rings.receives.items
+      (ring_place t.region region) r at unused.receives in record {
         carried = u.0 ∙ sym u.1;
         heads = subst (OfTheirHeads region) (sym u.1) (no_heads region);
       };

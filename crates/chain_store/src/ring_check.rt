@@ -1,30 +1,27 @@
 // The rings of all regions of a store, once all of them have ended.
 ghost use Rattle.std.specs.Prelude.{◌≡◌, ◌≢◌, ◌<◌, ◌≤◌, ℕ, length, map, Some, slice_get};
 ghost use Rattle.log_node.specs.declared.limits.TheConstants.{MAX_REGIONS};
-ghost use Rattle.ring_ends.specs.Rings.{IsForRegions};
 ghost use Rattle.chain_store.specs.declared.closed.ClosedRegion.{ClosedRegion};
-ghost use Rattle.chain_store.specs.Joined.{ends_in, AreJoined, AreCarriedAlong, AreBetween, AreAllBetween, AreOfOneRing};
+ghost use Rattle.chain_store.specs.Joined.{ends_in, AreJoined, AreCarriedAlong, AreBetween, AreAllBetween};
 ghost use Rattle.chain_store.specs.Joined.{IsAlong, BothAlong, past_of, ended_past};
 
 use crate::closed::ClosedRegion;
 use log_node::MAX_REGIONS;
 use ring_ends::{Rings, check, place_of};
 
-// The ring from the column of region a, whose ends are given first, to that of region b.
-fn check_ring(from: &mut Rings, to: &mut Rings, a: u8, b: u8, regions: u8)
+// The two rings between columns of one colour, of region a and of region b.
+fn check_both(x: &mut Rings, y: &mut Rings, a: u8, b: u8, regions: u8)
     requires apart { a ≢ b }
     requires inside { (a < regions) × (b < regions) }
-    requires from { IsForRegions regions from.old }
-    requires to { IsForRegions regions to.old }
-    requires joined { AreOfOneRing a b from.old to.old }
-    ensures from { past_of from.new ≡ past_of from.old }
-    ensures to { past_of to.new ≡ past_of to.old }
-    ensures along { IsAlong a b from.old to.old }
+    requires between { AreBetween regions a b x.old y.old }
+    ensures first { past_of x.new ≡ past_of x.old }
+    ensures second { past_of y.new ≡ past_of y.old }
+    ensures along { IsAlong a b x.old y.old × IsAlong b a y.old x.old }
 {
-    check(
-        &mut from.sends[place_of(a, b)],
-        &mut to.receives[place_of(b, a)],
-    );
+    let to = place_of(a, b);
+    let back = place_of(b, a);
+    check(&mut x.sends[to], &mut y.receives[back]);
+    check(&mut y.sends[back], &mut x.receives[to]);
 }
 
 // The rings between two regions' columns, of each colour.
@@ -37,8 +34,7 @@ fn check_between(xs: &mut Vec<Rings>, ys: &mut Vec<Rings>, a: u8, b: u8, regions
     ensures along { BothAlong (length xs.old.items) a b xs.old.items ys.old.items }
 {
     for colour in 0..xs.len() {
-        check_ring(&mut xs[colour], &mut ys[colour], a, b, regions);
-        check_ring(&mut ys[colour], &mut xs[colour], b, a, regions);
+        check_both(&mut xs[colour], &mut ys[colour], a, b, regions);
     }
 }
 
