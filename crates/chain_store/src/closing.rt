@@ -105,7 +105,6 @@ fn split_columns(
             rings,
             seat,
             entered: _,
-            rings: _,
         } = seated;
         columns.push(column)?;
         ends.push(rings)?;
