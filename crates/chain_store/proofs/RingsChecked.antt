@@ -1,20 +1,22 @@
 -- Rings of which both ends were at hand.
-use Rattle.std.proofs.Common.{Vec, Global, ◌≡◌, ◌≢◌, ℕ, ◌+◌, ◌<◌, List, [], ◌∷◌, ◌++◌, length, map, set, get_or, Some, slice_get, refl, ap, sym, subst, ◌∙◌, arith, inl, inr, ◌⊎◌}
+use Rattle.std.proofs.Common.{Vec, Global, ◌≡◌, ◌≢◌, ℕ, ◌+◌, ◌<◌, List, [], ◌∷◌, ◌++◌, length, map, set, get_or, zero, suc, take, drop, Some, slice_get, refl, ap, sym, subst, ◌∙◌, arith, inl, inr, ◌⊎◌}
 use Rattle.std.specs.Vec.{with_item}
 use Rattle.std.proofs.Math.Seq.{map-set_same}
-use Rattle.std.proofs.lemmas.List.{length-map}
-use Rattle.std.proofs.lemmas.Bool.{cases_eq}
+use Rattle.std.proofs.lemmas.List.{length-drop, length-map, length-take-le, map-append, take_all, take-append-drop, take-append-le}
+use Rattle.std.proofs.lemmas.Bool.{cases_eq, cases_order}
 use Rattle.std.proofs.lemmas.Option.{slice_get_within, get_or_from_slice_get}
 use mathlib.Core.List.{IsPrefix}
 use Rattle.log_node.specs.Seen.{PlacedNode}
 use Rattle.ring_ends.specs.declared.rings.Rings.{Rings}
 use Rattle.ring_ends.specs.declared.sends.Sends.{Sends}
 use Rattle.ring_ends.specs.declared.receives.Receives.{Receives}
+use Rattle.ring_ends.specs.NewRings.{AreAt}
 use Rattle.ring_ends.specs.Places.{ring_place}
 use Rattle.ring_ends.specs.Rings.{RingName, RingNames, gone, got, names_of, ring_received, ring_sent, IsForRegions}
 use Rattle.chain_store.specs.declared.closed.ClosedRegion.{ClosedRegion}
-use Rattle.chain_store.specs.Joined.{AreBetween, AreAllBetween, BothAlong, EndedPast, IsAlong, RingsPast, ended_past, past_of}
+use Rattle.chain_store.specs.Joined.{AreBetween, AreAllBetween, AreCarriedAlong, AreJoined, BothAlong, EndedPast, IsAlong, RingsPast, ended_past, ends_in, past_of}
 use Rattle.chain_store.proofs.Places.{at_image, image_at}
+use Rattle.chain_store.proofs.Unused.{all_at}
 
 -- what lists have in common by their elements
 
@@ -179,3 +181,130 @@ module _ (low first : List ClosedRegion) (last kept : ClosedRegion) (same : map 
         (ends_past last kept as_was) new)
     | inr ne ↦ old b y (omega (arith, lt, ne)) bt
   ]
+
+-- a list that was split
+
+module _ {A : Type 0} where
+  pub get_front : (m : ℕ) (xs : List A) (a : ℕ) → a < m → slice_get (take m xs) a ≡ slice_get xs a
+  get_front zero xs a lt = absurd (omega (arith, lt))
+  get_front (suc m) [] a lt = refl
+  get_front (suc m) (x ∷ xs) zero lt = refl
+  get_front (suc m) (x ∷ xs) (suc a) lt = get_front m xs a (omega (arith, lt))
+
+  pub get_back : (m : ℕ) (xs : List A) → slice_get (drop m xs) 0 ≡ slice_get xs m
+  get_back zero xs = refl
+  get_back (suc m) [] = refl
+  get_back (suc m) (x ∷ xs) = get_back m xs
+
+-- what is left of it where each part keeps what is known
+pub parts_kept : {A B : Type 0} (f : A → B) (xs low high front back : List A) (own len : ℕ) → low ≡ take own xs
+    → high ≡ drop own xs → len ≡ length xs → map f front ≡ map f low → map f back ≡ map f high
+    → map f (take len ((front ++ back) ++ drop (length (front ++ back)) xs)) ≡ map f xs
+parts_kept {A} {B} f xs low high front back own len is_low is_high is_long first second =
+    let all = front ++ back in
+    let same : map f all ≡ map f xs =
+    map-append f front back ∙ (λ i. first i ++ second i) ∙ sym (map-append f low high)
+    ∙ ap (map f) ((λ i. is_low i ++ is_high i) ∙ take-append-drop own xs) in
+    let long = alike_long f all xs same in
+    ap (map f) (take-append-le len all (drop (length all) xs) (omega (arith, long, is_long))
+    ∙ take_all len all (omega (arith, long, is_long))) ∙ same
+
+-- the rings of all regions
+
+module _ (regions colours : ℕ) (first : List ClosedRegion) (joined : AreJoined regions colours (ends_in first)) where
+  ends_at : (a : ℕ) (x : ClosedRegion) → slice_get first a ≡ Some x → slice_get (ends_in first) a ≡ Some x.ends.items
+  ends_at a x at = at_image (λ (c : ClosedRegion). c.ends.items) first a x at
+
+  joined_first : (a b : ℕ) (x y : ClosedRegion) → a ≢ b → slice_get first a ≡ Some x → slice_get first b ≡ Some y
+      → AreAllBetween regions a b x.ends.items y.ends.items
+  joined_first a b x y ne at bt = (
+    all_at (λ (ends : List Rings). length ends ≡ colours) (ends_in first) a x.ends.items (ends_at a x at) joined.colours_of
+        ∙ sym (all_at (λ (ends : List Rings). length ends ≡ colours) (ends_in first) b y.ends.items (ends_at b y bt)
+        joined.colours_of),
+    λ k p q pat qat.
+        let here : AreAt (ends_in first) a k p = (x.ends.items, ends_at a x at, pat) in
+        let there : AreAt (ends_in first) b k q = (y.ends.items, ends_at b y bt, qat) in record {
+          first = joined.each a k p here;
+          second = joined.each b k q there;
+          there = joined.joined k a b p q ne here there;
+          back = joined.joined k b a q p (λ e. ne (sym e)) there here;
+        },
+  )
+
+  pub some_left : (xs high : List ClosedRegion) (own : ℕ) → map ended_past xs ≡ map ended_past first → own < regions
+      → high ≡ drop own xs → 0 < length high
+  some_left xs high own same lt is_high =
+      let long = alike_long ended_past xs first same in
+      let many = length-map first (λ (c : ClosedRegion). c.ends.items) in
+      let all = joined.regions_of in
+      let left = ap length is_high ∙ length-drop own xs in
+      omega (arith, long, many, all, left, lt)
+
+  -- rings of regions of which both ends were at hand, for those below a number
+  abbrev pub AlongAll : ℕ → Type 0
+  AlongAll n =
+      (a b : ℕ) (x y : ClosedRegion) → a < b → b < n → slice_get first a ≡ Some x → slice_get first b ≡ Some y
+      → BothAlong (length x.ends.items) a b x.ends.items y.ends.items
+
+  module _ (xs : List ClosedRegion) (same : map ended_past xs ≡ map ended_past first) (low : List ClosedRegion) (own : ℕ)
+      (is_low : low ≡ take own xs) (z : ClosedRegion) (at : slice_get xs own ≡ Some z) where
+    low_long : length low ≡ own
+    low_long =
+        let near = slice_get_within xs own z at in
+        ap length is_low ∙ length-take-le own xs (omega (arith, near))
+
+    of_low : (a : ℕ) (x : ClosedRegion) → slice_get low a ≡ Some x → (a < own) × (slice_get xs a ≡ Some x)
+    of_low a x there =
+        let near = slice_get_within low a x there in
+        let long = low_long in
+        let lt : a < own = omega (arith, near, long) in
+        (lt, sym (get_front own xs a lt) ∙ ap (λ l. slice_get l a) (sym is_low) ∙ there)
+
+    pub below_joined : (a : ℕ) (x : ClosedRegion) → slice_get low a ≡ Some x
+        → AreAllBetween regions a (length low) x.ends.items z.ends.items
+    below_joined a x there =
+        let t = of_low a x there in
+        let lt = t.0 in
+        let p = kept_at ended_past xs first same a x t.1 in
+        let q = kept_at ended_past xs first same own z at in
+        subst (λ (n : ℕ). AreAllBetween regions a n x.ends.items z.ends.items) (sym low_long)
+        (all_between a own x.ends.items z.ends.items p.0.ends.items q.0.ends.items (ends_past x p.0 (sym p.2))
+        (ends_past z q.0 (sym q.2)) regions
+        (joined_first a own p.0 q.0 (λ e. omega (arith, e, lt)) p.1 q.1))
+
+    pub all_more : AlongAll own
+        → ((a : ℕ) (x : ClosedRegion) → slice_get low a ≡ Some x
+        → BothAlong (length x.ends.items) a (length low) x.ends.items z.ends.items)
+        → AlongAll (own + 1)
+    all_more old new a b x y lt within there bt = elim (cases_eq b own) [
+      | inl e ↦
+          let less : a < own = omega (arith, lt, e) in
+          let p = kept_at ended_past first xs (sym same) a x there in
+          let here : slice_get low a ≡ Some p.0 =
+          ap (λ l. slice_get l a) is_low ∙ get_front own xs a less ∙ p.1 in
+          let along = subst (λ (n : ℕ). BothAlong (length p.0.ends.items) a n p.0.ends.items z.ends.items) low_long
+          (new a p.0 here) in
+          subst (λ (n : ℕ). BothAlong (length x.ends.items) a n x.ends.items y.ends.items) (sym e)
+          (both_past a own p.0.ends.items z.ends.items x.ends.items y.ends.items (ends_past p.0 x p.2)
+          (ends_past z y (alike_at ended_past xs first same own z y at (ap (slice_get first) (sym e) ∙ bt))) along)
+      | inr ne ↦ old a b x y lt (omega (arith, within, ne)) there bt
+    ]
+
+  pub all_along : AlongAll regions → AreCarriedAlong (ends_in first)
+  all_along all k a b x y ne here there =
+      let c = image_at (λ (c : ClosedRegion). c.ends.items) first a here.0 here.1 in
+      let d = image_at (λ (c : ClosedRegion). c.ends.items) first b there.0 there.1 in
+      let xat : slice_get c.0.ends.items k ≡ Some x = ap (λ (l : List Rings). slice_get l k) c.2 ∙ here.2 in
+      let yat : slice_get d.0.ends.items k ≡ Some y = ap (λ (l : List Rings). slice_get l k) d.2 ∙ there.2 in
+      let long = sym (length-map first (λ (c : ClosedRegion). c.ends.items)) ∙ joined.regions_of in
+      let first_in = slice_get_within first a c.0 c.1 in
+      let second_in = slice_get_within first b d.0 d.1 in
+      elim (cases_order a b) [
+        | inl e ↦ absurd (ne e)
+        | inr (inl less) ↦
+            (all a b c.0 d.0 less (omega (arith, long, second_in)) c.1 d.1 k x y (slice_get_within c.0.ends.items k x xat)
+            xat yat).0
+        | inr (inr more) ↦
+            (all b a d.0 c.0 more (omega (arith, long, first_in)) d.1 c.1 k y x (slice_get_within d.0.ends.items k y yat)
+            yat xat).1
+      ]

@@ -27,10 +27,10 @@ no_heads region n i at = absurd (let f : ⊥ = cc (at) in f)
 -- they fit the history with nothing in it
 pub unused_fit : (t : Tag) (rings : Rings) → AreUnused rings → RingsFit t rings []
 unused_fit t rings unused = record {
-  sent = λ n s at. subst (AreSent t []) (sym (all_at (λ (x : Sends). (gone x ≡ []) × (room_of x ≡ RING_ROOM)) rings.sends.items n s at unused.sends).0) (none_sent t);
+  sent = λ n s at. subst (AreSent t []) (sym (all_at (λ (x : Sends). (gone x ≡ []) × (room_of x ≡ RING_ROOM)) rings.sends.items n s at unused.0).0) (none_sent t);
   received = λ region r lt other at.
       let u = all_at (λ (x : Receives). (got x ≡ []) × (x.waiting.items ≡ [])) rings.receives.items
-      (ring_place t.region region) r at unused.receives in record {
+      (ring_place t.region region) r at unused.1 in record {
         carried = u.0 ∙ sym u.1;
         heads = subst (OfTheirHeads region) (sym u.1) (no_heads region);
       };
