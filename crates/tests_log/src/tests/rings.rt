@@ -1,15 +1,19 @@
 // Nodes that go from a region's column to the other's through their ring, which holds 64, and what both regions end with.
-ghost use Rattle.std.specs.Prelude.{◌≡◌, ◌<◌, ◌≤◌, ◌+◌, IfOk};
-ghost use Rattle.chain_store.specs.Closing.{AreHoldsOf, Closed};
+ghost use Rattle.std.specs.Prelude.{◌≡◌, ◌<◌, ◌+◌, ℕ, None, List, length, Some, slice_get, IfOk};
+ghost use Rattle.ring_ends.specs.declared.rings.Rings.{Rings};
+ghost use Rattle.chain_store.specs.Histories.{FitsColumn};
 ghost use Rattle.chain_store.specs.Holds.{IsHold};
-ghost use Rattle.tests_log.specs.Clients.{IsSmall, IsClient, IsMoving, AreJoined};
+ghost use Rattle.tests_log.specs.Clients.{small, IsSmall, IsClient, HoldsBoth, AreJoined, EndsSmall};
 
 use crate::tests::made::{key_of, open_small, small};
 use chain_store::{ClosedRegion, Hold, Region, check_rings};
+use col_core::{Entry, Event};
+use column::Column;
 use log_node::{At, Colours, Counts, Id, Item, ListOf, Node, Text, Wants};
 use region_pull::pull;
 use ring_ends::make_rings;
 use std::alloc::{AllocError, Global};
+use std::process::Abort;
 use std::sync::{Arc, Wait};
 use std::test::Fail;
 use std::thread::{Threads, join, yield_now};
@@ -112,8 +116,8 @@ const TWO_PULLERS: [(Who, Step); 15] = [
 // Two regions of one store, and the holds of two clients.
 fn opened(alloc: Global) -> Result<(Region, Region, Moving, Moving), AllocError>
     ensures regions { IfOk result (λ r. IsSmall 0 r.0 × IsSmall 1 r.1 × AreJoined r.0 r.1) }
-    ensures one { IfOk result (λ r. IsMoving r.0 r.1 0 r.2 × IsClient r.0 0 0 r.2.east) }
-    ensures two { IfOk result (λ r. IsMoving r.0 r.1 1 r.3) }
+    ensures one { IfOk result (λ r. HoldsBoth r.0 r.1 0 r.2.east r.2.west × IsClient r.0 0 0 r.2.east) }
+    ensures two { IfOk result (λ r. HoldsBoth r.0 r.1 1 r.3.east r.3.west) }
 {
     let shape = small(alloc)?;
     let mut rings = make_rings(alloc, &shape)?.into_vec();
@@ -215,8 +219,8 @@ fn do_step<R: Wait>(
     step: Step,
 ) -> Result<bool, AllocError>
     requires regions { IsSmall 0 east.now × IsSmall 1 west.now }
-    requires client { IsMoving east.now west.now number client.old }
-    ensures { IsMoving east.now west.now number client.new }
+    requires client { HoldsBoth east.now west.now number client.old.east client.old.west }
+    ensures { HoldsBoth east.now west.now number client.new.east client.new.west }
 {
     match step {
         Feed => {
@@ -240,10 +244,10 @@ fn do_steps<R: Wait>(
     all: &[(Who, Step)],
 ) -> Result<usize, AllocError>
     requires regions { IsSmall 0 east.now × IsSmall 1 west.now }
-    requires one { IsMoving east.now west.now 0 one.old }
-    requires two { IsMoving east.now west.now 1 two.old }
-    ensures one { IsMoving east.now west.now 0 one.new }
-    ensures two { IsMoving east.now west.now 1 two.new }
+    requires one { HoldsBoth east.now west.now 0 one.old.east one.old.west }
+    requires two { HoldsBoth east.now west.now 1 two.old.east two.old.west }
+    ensures one { HoldsBoth east.now west.now 0 one.new.east one.new.west }
+    ensures two { HoldsBoth east.now west.now 1 two.new.east two.new.west }
 {
     for place in 0..all.len() {
         let (who, step) = all[place];
@@ -282,7 +286,219 @@ fn all_came<R: Wait>(
         return Ok(false);
     };
     let items = items.as_slice();
-    Ok(view.cut == Counts([NODES, 0, 0, 0])
-        && items.len() as u64 == NODES
-        && items.iter().zip(0..NODES).all(|(item, count)| is_numbered(item, count)))
+    Ok(
+        view.cut == Counts([NODES, 0, 0, 0])
+            && items.len() as u64 == NODES
+            && items
+                .iter()
+                .zip(0..NODES)
+                .all(|(item, count)| is_numbered(item, count)),
+    )
+}
+
+// All nodes are appended in the east, and then the steps are done: how many are answered as they say, and whether all nodes are
+// in the west then.
+fn do_after_appends<R: Wait>(
+    rt: &R,
+    alloc: Global,
+    east: &Region,
+    west: &Region,
+    one: &mut Moving,
+    two: &mut Moving,
+    all: &[(Who, Step)],
+) -> Result<(usize, bool), AllocError>
+    requires regions { IsSmall 0 east.now × IsSmall 1 west.now }
+    requires one { HoldsBoth east.now west.now 0 one.old.east one.old.west × IsClient east.now 0 0 one.old.east }
+    requires two { HoldsBoth east.now west.now 1 two.old.east two.old.west }
+    ensures one { HoldsBoth east.now west.now 0 one.new.east one.new.west }
+    ensures two { HoldsBoth east.now west.now 1 two.new.east two.new.west }
+{
+    append_all(rt, alloc, east, &mut one.east)?;
+    let done = do_steps(rt, east, west, one, two, all)?;
+    Ok((done, all_came(rt, alloc, west, &mut two.west)?))
+}
+
+// The steps are answered as they say, and all nodes come to the west.
+fn all_are_answered<R: Wait + Abort>(
+    rt: &R,
+    alloc: Global,
+    all: &[(Who, Step)],
+) -> Result<(), Fail> {
+    let (east, west, mut one, mut two) = opened(alloc)?;
+    let (done, came) = do_after_appends(rt, alloc, &east, &west, &mut one, &mut two, all)?;
+    assert_eq!(rt; done, all.len());
+    assert!(rt; came);
+    Ok(())
+}
+
+#[test]
+fn one_feed_and_one_drain_of_200_answer_64(rt: HostRuntime) -> Result<(), Fail> {
+    all_are_answered(&rt, rt.alloc(), &ONE_CARRY)
+}
+
+#[test]
+fn a_trim_between_a_feed_and_a_drain_loses_nothing(rt: HostRuntime) -> Result<(), Fail> {
+    all_are_answered(&rt, rt.alloc(), &TRIMMED)
+}
+
+#[test]
+fn two_pullers_at_once_bring_all_nodes(rt: HostRuntime) -> Result<(), Fail> {
+    all_are_answered(&rt, rt.alloc(), &TWO_PULLERS)
+}
+
+// The end of one region.
+fn closed<R: Wait>(
+    rt: &R,
+    alloc: Global,
+    region: Region,
+    one: Hold,
+    two: Hold,
+) -> Result<ClosedRegion, AllocError>
+    requires region { (region.regions ≡ 2) × (region.board.size ≡ small) }
+    requires one { IsHold region one × (one.passes.number ≡ 0) }
+    requires two { IsHold region two × (two.passes.number ≡ 1) }
+    ensures { IfOk result (EndsSmall region) }
+{
+    let mut holds = ListOf::new(alloc);
+    holds.push(one)?;
+    holds.push(two)?;
+    region.close(rt, alloc, holds)
+}
+
+// The end of both regions, of which the rings are checked.
+fn both_closed<R: Wait>(
+    rt: &R,
+    alloc: Global,
+    east: Region,
+    west: Region,
+    one: Moving,
+    two: Moving,
+) -> Result<Vec<ClosedRegion>, AllocError>
+    requires regions { IsSmall 0 east × IsSmall 1 west × AreJoined east west }
+    requires one { HoldsBoth east west 0 one.east one.west }
+    requires two { HoldsBoth east west 1 two.east two.west }
+{
+    let mut all = Vec::new(alloc);
+    all.push(closed(rt, alloc, east, one.east, two.east)?)?;
+    all.push(closed(rt, alloc, west, one.west, two.west)?)?;
+    check_rings(&mut all, 2, 2);
+    Ok(all)
+}
+
+// The column has made one event, a carry of the origin's whole line.
+fn has_carried(column: &Column, origin: &Column) -> bool {
+    match column.journal() {
+        [
+            Entry {
+                event: Event::Carry {
+                    region: 0,
+                    start: 0,
+                    heads,
+                },
+                ..
+            },
+        ] => heads
+            .as_slice()
+            .iter()
+            .map(|head| head.key)
+            .eq(origin.line().iter().copied()),
+        _ => false,
+    }
+}
+
+// The first colour's column of the first of these regions has all nodes in its line, and that of the second has carried them.
+fn are_true_copies(closed: &[ClosedRegion]) -> bool {
+    let [east, west] = closed else {
+        return false;
+    };
+    match (east.columns.get(0), west.columns.get(0)) {
+        (Some(origin), Some(copy)) => {
+            origin.line().len() as u64 == NODES
+                && copy.held() == Counts([NODES, 0, 0, 0])
+                && has_carried(copy, origin)
+        }
+        _ => false,
+    }
+}
+
+#[test]
+fn all_regions_close_with_true_copies(rt: HostRuntime) -> Result<(), Fail> {
+    let (east, west, mut one, mut two) = opened(rt.alloc())?;
+    do_after_appends(
+        &rt,
+        rt.alloc(),
+        &east,
+        &west,
+        &mut one,
+        &mut two,
+        &ONE_CARRY,
+    )?;
+    let closed = both_closed(&rt, rt.alloc(), east, west, one, two)?;
+    assert!(rt; are_true_copies(closed.as_slice()));
+    Ok(())
+}
+
+/// How often one pulls at most.
+const MOST: u32 = 1_000_000;
+
+// Appends all nodes. Says whether it has.
+fn append_alone<R: Wait>(rt: &R, alloc: Global, east: &Region, mut hold: Hold) -> bool
+    requires east { IsSmall 0 east.now }
+    requires hold { IsClient east.now 0 0 hold }
+{
+    append_all(rt, alloc, east, &mut hold).is_ok()
+}
+
+// Pulls until all nodes are held in the west, or so often. Says how many are, if there is memory.
+fn pull_all<R: Wait>(rt: &R, east: &Region, west: &Region, mut client: Moving) -> Option<u64>
+    requires regions { IsSmall 0 east.now × IsSmall 1 west.now }
+    requires client { HoldsBoth east.now west.now 1 client.east client.west }
+{
+    for _ in 0..MOST {
+        pull(rt, east, west, &mut client.east, &mut client.west, 0).ok()?;
+        let held = west.held(rt, &mut client.west, 0).1.0[0];
+        if held >= NODES {
+            return Some(held);
+        }
+        yield_now();
+    }
+    None
+}
+
+// One thread appends in the east, and another pulls to the west: whether all was appended, and how many nodes are held.
+fn pull_beside_appends<R: Threads + Wait + Sync>(
+    rt: &R,
+    alloc: Global,
+    east: &Region,
+    west: &Region,
+    one: Hold,
+    two: Moving,
+) -> (bool, Option<u64>)
+    requires regions { IsSmall 0 east.now × IsSmall 1 west.now }
+    requires one { IsClient east.now 0 0 one }
+    requires two { HoldsBoth east.now west.now 1 two.east two.west }
+{
+    join(
+        rt,
+        || -> bool
+            requires { IsSmall 0 east.now × IsClient east.now 0 0 one }
+        { append_alone(rt, alloc, east, one) },
+        || -> Option<u64>
+            requires { IsSmall 0 east.now × IsSmall 1 west.now × HoldsBoth east.now west.now 1 two.east two.west }
+        { pull_all(rt, east, west, two) },
+    )
+}
+
+#[test]
+fn nodes_are_pulled_while_others_are_appended(rt: HostRuntime) -> Result<(), Fail> {
+    let (east, west, one, two) = opened(rt.alloc())?;
+    let Moving {
+        east: appending,
+        west: mut reading,
+    } = one;
+    let (appended, held) = pull_beside_appends(&rt, rt.alloc(), &east, &west, appending, two);
+    assert!(rt; appended);
+    assert_eq!(rt; held, Some(NODES));
+    assert!(rt; all_came(&rt, rt.alloc(), &west, &mut reading)?);
+    Ok(())
 }
