@@ -38,7 +38,7 @@ pub record HoldsBoth (east west : Region) (n : ℕ) (g h : Hold) : Type 0 where
   pub of_west : h.passes.number ≡ n
 
 -- by each of two colours, the rings between the two regions' columns, there and back
-pub record AreJoined (east west : Region) : Type 0 where
+pub record AreLinked (east west : Region) : Type 0 where
   pub there : (colour : ℕ) → colour < 2
       → slice_get (rings_at east colour).sends (ring_place 0 1) ≡ slice_get (rings_at west colour).receives (ring_place 1 0)
   pub back : (colour : ℕ) → colour < 2

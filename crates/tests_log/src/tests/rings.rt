@@ -3,7 +3,7 @@ ghost use Rattle.std.specs.Prelude.{◌≡◌, ◌<◌, ◌+◌, ℕ, None, List
 ghost use Rattle.ring_ends.specs.declared.rings.Rings.{Rings};
 ghost use Rattle.chain_store.specs.Histories.{FitsColumn};
 ghost use Rattle.chain_store.specs.Holds.{IsHold};
-ghost use Rattle.tests_log.specs.Clients.{small, IsSmall, IsClient, HoldsBoth, AreJoined, EndsSmall};
+ghost use Rattle.tests_log.specs.Clients.{small, IsSmall, IsClient, HoldsBoth, AreLinked, EndsSmall};
 
 use crate::tests::made::{key_of, open_small, small};
 use chain_store::{ClosedRegion, Hold, Region, check_rings};
@@ -115,7 +115,7 @@ const TWO_PULLERS: [(Who, Step); 15] = [
 
 // Two regions of one store, and the holds of two clients.
 fn opened(alloc: Global) -> Result<(Region, Region, Moving, Moving), AllocError>
-    ensures regions { IfOk result (λ r. IsSmall 0 r.0 × IsSmall 1 r.1 × AreJoined r.0 r.1) }
+    ensures regions { IfOk result (λ r. IsSmall 0 r.0 × IsSmall 1 r.1 × AreLinked r.0 r.1) }
     ensures one { IfOk result (λ r. HoldsBoth r.0 r.1 0 r.2.east r.2.west × IsClient r.0 0 0 r.2.east) }
     ensures two { IfOk result (λ r. HoldsBoth r.0 r.1 1 r.3.east r.3.west) }
 {
@@ -374,7 +374,7 @@ fn both_closed<R: Wait>(
     one: Moving,
     two: Moving,
 ) -> Result<Vec<ClosedRegion>, AllocError>
-    requires regions { IsSmall 0 east × IsSmall 1 west × AreJoined east west }
+    requires regions { IsSmall 0 east × IsSmall 1 west × AreLinked east west }
     requires one { HoldsBoth east west 0 one.east one.west }
     requires two { HoldsBoth east west 1 two.east two.west }
 {
