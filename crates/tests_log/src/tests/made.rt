@@ -87,10 +87,8 @@ pub fn first_ends(alloc: Global, shape: &Shape) -> Result<RingEnds, AllocError>
     requires { (0 < shape.now.regions) × (shape.now.regions ≤ MAX_REGIONS) }
     ensures { IfOk result (λ ends. (length ends ≡ shape.now.colours) × AreNewEnds shape.now.regions ends) }
 {
-    match make_rings(alloc, shape)?.into_vec().into_iter().next() {
-        Some(ends) => Ok(ends),
-        None => unreachable!(),
-    }
+    let mut all = make_rings(alloc, shape)?.into_vec();
+    Ok(all.swap_remove(0))
 }
 
 /// The region of this number in a small shape, with these ends of rings, and the holds of its two clients.
