@@ -37,7 +37,7 @@ use Rattle.chain_store.specs.declared.hold.Hold.{Hold}
 use Rattle.chain_store.specs.declared.seated.Seated.{Seated}
 use Rattle.chain_store.specs.declared.region.Region.{Region}
 use Rattle.chain_store.specs.declared.closed.ClosedRegion.{ClosedRegion}
-use Rattle.chain_store.specs.Regions.{rings_at, tag_at}
+use Rattle.chain_store.specs.Regions.{tag_at}
 use Rattle.chain_store.specs.Histories.{maker, Brings, IsOfMaker}
 use Rattle.chain_store.specs.Marks.{Backs, numbers}
 use Rattle.chain_store.specs.Columns.{IsOfHistory, tag_of}

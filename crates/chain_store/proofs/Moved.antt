@@ -1,21 +1,17 @@
 -- What the calls say that enter no node.
-use Rattle.std.proofs.Common.{◌≡◌, ◌≢◌, ℕ, suc, ◌+◌, ◌-◌, ◌<◌, ◌≤◌, Bool, true, false, List, [], ◌∷◌, ◌++◌, length, map, take, drop, refl, ap, sym, subst, ◌∙◌, arith, inl, inr, ◌⊎◌, length-append, eq-eqb}
-use Rattle.std.specs.Prelude.{◌==◌, nat_lt, min, max, if◌then◌else◌}
-use Rattle.std.specs.List.{flat_map}
-use Rattle.std.proofs.lemmas.Bool.{ltb-true, ltb-false, lt-ltb, le-ltb, ne_eqb}
-use Rattle.std.proofs.lemmas.List.{length-drop}
-use Rattle.std.proofs.lemmas.Grind.{flat_map-append}
+use Rattle.std.proofs.Common.{◌≡◌, ℕ, ◌+◌, ◌<◌, ◌≤◌, Bool, true, false, List, length, refl, ap, sym, subst, ◌∙◌, arith, inl, inr, ◌⊎◌}
+use Rattle.std.specs.Prelude.{nat_lt, min, max}
+use Rattle.std.proofs.lemmas.Bool.{ltb-true, ltb-false}
 use Rattle.log_node.specs.declared.node.At.{At}
 use Rattle.log_node.specs.declared.node.At.TheVariants.{Look}
-use Rattle.log_node.specs.declared.node.Head.{Head}
 use Rattle.log_node.specs.Seen.{PlacedNode}
 use Rattle.log_node.specs.Vectors.{at}
 use Rattle.col_core.specs.declared.Entry.{Entry}
 use Rattle.col_core.specs.declared.Event.TheVariants.{Raise, Give}
 use Rattle.col_core.specs.History.{clock, line}
-use Rattle.col_core.specs.Cuts.{Dated, chain, base, held, carried}
-use Rattle.col_core.specs.Computed.{cut, dated}
-use Rattle.col_core.proofs.CallerLemmas.{by_test, if_true, if_false, clock-append, dated-append}
+use Rattle.col_core.specs.Cuts.{chain, base, held}
+use Rattle.col_core.specs.Computed.{dated}
+use Rattle.col_core.proofs.CallerLemmas.{clock-append}
 use Rattle.column.specs.Columns.{history_of, base_of, held_of}
 use Rattle.turn_cell.specs.Cells.{seen, Adds, MayPut, IsLook, IsEvent}
 use Rattle.chain_store.specs.declared.told.Tag.{Tag}

@@ -1,5 +1,5 @@
 -- Rings of which both ends were at hand.
-use Rattle.std.proofs.Common.{Vec, Global, ◌≡◌, ◌≢◌, ℕ, ◌+◌, ◌<◌, List, [], ◌∷◌, ◌++◌, length, map, set, get_or, zero, suc, take, drop, Some, slice_get, refl, ap, sym, subst, ◌∙◌, arith, inl, inr, ◌⊎◌}
+use Rattle.std.proofs.Common.{Vec, Global, ◌≡◌, ◌≢◌, ℕ, ◌+◌, ◌<◌, List, [], ◌∷◌, ◌++◌, length, map, set, get_or, zero, suc, take, drop, Some, slice_get, refl, ap, sym, subst, ◌∙◌, arith, inl, inr}
 use Rattle.std.specs.Vec.{with_item}
 use Rattle.std.proofs.Math.Seq.{map-set_same}
 use Rattle.std.proofs.lemmas.List.{length-drop, length-map, length-take-le, map-append, take_all, take-append-drop, take-append-le}
@@ -12,7 +12,7 @@ use Rattle.ring_ends.specs.declared.sends.Sends.{Sends}
 use Rattle.ring_ends.specs.declared.receives.Receives.{Receives}
 use Rattle.ring_ends.specs.NewRings.{AreAt}
 use Rattle.ring_ends.specs.Places.{ring_place}
-use Rattle.ring_ends.specs.Rings.{RingName, RingNames, gone, got, names_of, ring_received, ring_sent, IsForRegions}
+use Rattle.ring_ends.specs.Rings.{gone, got, ring_received, ring_sent}
 use Rattle.chain_store.specs.declared.closed.ClosedRegion.{ClosedRegion}
 use Rattle.chain_store.specs.Joined.{AreBetween, AreAllBetween, AreCarriedAlong, AreJoined, BothAlong, EndedPast, IsAlong, RingsPast, ended_past, ends_in, past_of}
 use Rattle.chain_store.proofs.Places.{at_image, image_at}

@@ -1,7 +1,6 @@
 -- What a column's rings stand for where its history is longer, or where nodes have gone through a ring.
-use Rattle.std.proofs.Common.{◌≡◌, ◌≢◌, ℕ, zero, suc, ◌+◌, ◌-◌, ◌<◌, ◌≤◌, Bool, true, false, List, [], ◌∷◌, ◌++◌, length, map, Some, refl, ap, sym, subst, ◌∙◌, arith, inl, inr, ◌⊎◌, append_assoc, append-nil, eq-eqb}
-use Rattle.std.specs.Prelude.{◌==◌, nat_lt, slice_get, slice_set, if◌then◌else◌}
-use Rattle.std.specs.List.{flat_map}
+use Rattle.std.proofs.Common.{◌≡◌, ◌≢◌, ℕ, zero, suc, ◌+◌, ◌-◌, ◌<◌, ◌≤◌, List, [], ◌∷◌, ◌++◌, length, map, Some, refl, ap, sym, subst, ◌∙◌, arith, inl, inr, ◌⊎◌, append_assoc, append-nil, eq-eqb}
+use Rattle.std.specs.Prelude.{◌==◌, nat_lt, slice_get, slice_set}
 use mathlib.Core.List.{IsPrefix}
 use Rattle.std.proofs.lemmas.Bool.{cases_eq, eqb-true, ltb-true, ltb-false, ne_eqb}
 use Rattle.std.proofs.lemmas.List.{map-append}
@@ -28,7 +27,7 @@ use Rattle.ring_ends.specs.Givens.{OfTheirHeads}
 use Rattle.chain_store.specs.declared.told.Tag.{Tag}
 use Rattle.chain_store.specs.declared.told.Told.{Told}
 use Rattle.chain_store.specs.Tags.{tag}
-use Rattle.chain_store.specs.Histories.{entries_in, EntersAs}
+use Rattle.chain_store.specs.Histories.{entries_in}
 use Rattle.stamp_board.specs.Seats.{column_seen}
 use Rattle.chain_store.specs.declared.seated.Seated.{Seated}
 use Rattle.chain_store.specs.Marks.{IsBacked}
@@ -243,6 +242,14 @@ own_grows t log whole p lawful =
     (chains_grow own t.regions (dated own old) (later own (dated own old) more)
     (subst (IsColumnHistory own t.regions) dates lawful) own)
 
+-- a place of a column's own chain is so in the history for which it stands
+own_place : (column : ColumnState) (t : Tag) (clients : ℕ) (log : List Told) (n : ℕ) (h : Head) → column.region ≡ t.region
+    → IsOfHistory column clients log → slice_get (chains_of column column.region) n ≡ Some h
+    → slice_get (chain t.region (dated t.region (entries_in log)) t.region) n ≡ Some h
+own_place column t clients log n h region of at =
+    subst (λ (k : ℕ). slice_get (chain k (dated k (entries_in log)) k) n ≡ Some h) region
+    (subst (λ (l : List Entry). slice_get (chain column.region (dated column.region l) column.region) n ≡ Some h) of.same at)
+
 -- more own nodes were sent, the next ones
 pub sent_on : (column : ColumnState) (t : Tag) (clients : ℕ) (log : List Told) (items more : List PlacedNode)
     → column.region ≡ t.region → IsOfHistory column clients log → AreNextOwn column (length items) more
@@ -256,10 +263,7 @@ sent_on column t clients log items more region of next a = record {
       (a.begins whole grows lawful)
       (λ n m h is at.
       let w = mapped more n h at in
-      let there : slice_get (chain t.region (dated t.region (entries_in log)) t.region) (length items + n) ≡ Some w.0.head =
-      subst (λ (k : ℕ). slice_get (chain k (dated k (entries_in log)) k) (length items + n) ≡ Some w.0.head) region
-      (ap (λ (l : List Entry). slice_get (chain column.region (dated column.region l) column.region) (length items + n))
-      (sym of.same) ∙ (next n w.0 w.1).0) in
+      let there = own_place column t clients log (length items + n) w.0.head region of (next n w.0 w.1).0 in
       ap (slice_get long) (is ∙ ap (λ (k : ℕ). k + n) (length_map items))
       ∙ subst (λ (l : List Head). slice_get l (length items + n) ≡ Some h) g.1
       (get_front (chain t.region (dated t.region (entries_in log)) t.region) g.0 (length items + n) h

@@ -1,5 +1,5 @@
 -- The nodes of a lawful line have stamps that there are.
-use Rattle.std.proofs.Common.{◌≡◌, ℕ, ◌≤◌, List, map, Some, refl, ap, sym, subst, ◌∙◌, arith, eq-eqb, append-nil}
+use Rattle.std.proofs.Common.{◌≡◌, ℕ, ◌≤◌, List, [], map, Some, refl, ap, sym, subst, ◌∙◌, arith, eq-eqb, append-nil}
 use Rattle.std.specs.Prelude.{◌==◌, slice_get}
 use Rattle.std.specs.List.{Contains}
 use Rattle.log_node.specs.declared.limits.TheConstants.{MAX_STAMP}

@@ -1,9 +1,7 @@
 -- Rings through which nothing has gone.
-use Rattle.std.proofs.Common.{◌≡◌, ℕ, ◌<◌, List, [], ◌++◌, Some, slice_get, refl, ap, sym, subst, ◌∙◌}
-use Rattle.std.specs.Prelude.{IfOk, Result}
+use Rattle.std.proofs.Common.{◌≡◌, ℕ, List, [], Some, slice_get, refl, sym, subst, ◌∙◌}
 use Rattle.std.specs.List.{All}
 use Rattle.std.proofs.lemmas.Option.{slice_get_within, get_or_from_slice_get}
-use Rattle.log_node.specs.Seen.{PlacedNode}
 use Rattle.ring_ends.specs.declared.rings.Rings.{Rings}
 use Rattle.ring_ends.specs.declared.sends.Sends.{Sends}
 use Rattle.ring_ends.specs.declared.receives.Receives.{Receives}

@@ -64,13 +64,7 @@ pub fn give_in<R: Wait>(
 }
 
 /// Sends own nodes to another region while its ring takes them. Waits for the turn.
-pub fn feed_in<R: Wait>(
-    rt: &R,
-    cell: &Cell<Seated>,
-    pass: &mut Pass<Seated>,
-    by: u8,
-    region: u8,
-)
+pub fn feed_in<R: Wait>(rt: &R, cell: &Cell<Seated>, pass: &mut Pass<Seated>, by: u8, region: u8)
     requires pass { IsHolder cell.now by pass.old }
     requires other { region ≢ (tag_in cell.now).region }
     requires region { region < (tag_in cell.now).regions }

@@ -105,8 +105,7 @@ fn open_shared(
     ensures clients { IfOk result (λ r. AllGotNew r.0 r.1 clients.old.items clients.new.items) }
 {
     let count = board.clients();
-    let (cell, passes) =
-        open_column(alloc, board, seat, region, colour, shape, rings, count + 1)?;
+    let (cell, passes) = open_column(alloc, board, seat, region, colour, shape, rings, count + 1)?;
     let mut passes = passes.into_vec();
     match passes.pop() {
         Some(own) => {
@@ -146,8 +145,9 @@ fn open_columns(
         let colour = seats.len() as u8;
         match ends.pop() {
             Some(rings) => {
-                let (cell, share) =
-                    open_shared(alloc, board, seat, region, colour, shape, rings, clients)?;
+                let (cell, share) = open_shared(
+                    alloc, board, seat, region, colour, shape, rings, clients,
+                )?;
                 cells.insert(0, cell)?;
                 shares.insert(0, share)?;
             }

@@ -50,7 +50,13 @@ fn check_below(low: &mut [ClosedRegion], last: &mut ClosedRegion, regions: u8)
 {
     let own = low.len();
     for a in 0..own {
-        check_between(&mut low[a].ends, &mut last.ends, a as u8, own as u8, regions);
+        check_between(
+            &mut low[a].ends,
+            &mut last.ends,
+            a as u8,
+            own as u8,
+            regions,
+        );
     }
 }
 

@@ -1,4 +1,4 @@
-use Rattle.std.proofs.Common.{rules, refl, ◌≡◌, ◌<◌, ◌+◌, length, ap, slice_get, slice_index_or, ◌∙◌, arith}
+use Rattle.std.proofs.Common.{rules, refl, ◌<◌, length, slice_index_or, ◌∙◌, arith}
 use Rattle.std.proofs.lemmas.Option.{slice_get-get_or, slice_get_within}
 use Rattle.chain_store.specs.Joined.{ended_past}
 use Rattle.chain_store.proofs.RingsChecked.{alike_put, below_more, ended_as, joined_now}

@@ -1,7 +1,7 @@
-use Rattle.std.proofs.Common.{rules, refl, ◌≡◌, ◌<◌, length, ap, slice_get, ◌∙◌, arith}
+use Rattle.std.proofs.Common.{rules, refl, ◌<◌, length}
 use Rattle.std.proofs.lemmas.Option.{slice_get_read}
 use Rattle.chain_store.specs.Joined.{past_of}
-use Rattle.chain_store.proofs.RingsChecked.{alike_long, alike_set, between_at, both_more}
+use Rattle.chain_store.proofs.RingsChecked.{alike_set, between_at, both_more}
 use Rattle.chain_store.proofs.ring_check.check_between.Goals as goal
 
 pub check_both-requires-clause-between : goal.check_both-requires-clause-between

@@ -1,4 +1,4 @@
-use Rattle.std.proofs.Common.{rules, refl, ◌≡◌, ◌<◌, length, ap, slice_get, ◌∙◌, sym}
+use Rattle.std.proofs.Common.{rules, refl, ◌<◌, length, ap, slice_get, ◌∙◌, sym}
 use Rattle.std.specs.Vec.{with_item}
 use Rattle.std.proofs.lemmas.Option.{slice_get_read}
 use Rattle.chain_store.proofs.RingsChecked.{past_sends, past_receives, along_of}

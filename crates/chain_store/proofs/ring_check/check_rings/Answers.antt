@@ -1,4 +1,4 @@
-use Rattle.std.proofs.Common.{rules, refl, ◌≡◌, ◌<◌, ◌+◌, ℕ, length, ap, subst, drop, slice_get, slice_index_or, slice_set, sym, ◌∙◌, arith, take}
+use Rattle.std.proofs.Common.{refl, ap, drop, slice_get, slice_index_or, slice_set, sym, ◌∙◌, arith, take}
 use Rattle.std.proofs.lemmas.Option.{slice_get-get_or}
 use Rattle.chain_store.specs.Joined.{ended_past}
 use Rattle.chain_store.proofs.RingsChecked.{all_along, all_more, alike_put, below_joined, get_back, parts_kept, some_left}

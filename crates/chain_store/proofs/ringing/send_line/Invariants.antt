@@ -9,4 +9,4 @@ invariant-loop l =
     (ring_sent l.sends ≡ ring_sent l.fn.sends)
     × (room_of l.sends + l.counter ≡ l.end)
     × ((more : List PlacedNode) × (gone l.sends ≡ gone l.fn.sends ++ more)
-        × AreNextOwn l.column (length (gone l.fn.sends)) more)
+    × AreNextOwn l.column (length (gone l.fn.sends)) more)

@@ -1,4 +1,4 @@
-use Rattle.std.proofs.Common.{◌≡◌, ◌≢◌, ◌<◌, ◌≤◌, ◌+◌, ◌++◌, ◌∷◌, [], ◌∙◌, ℕ, List, ap, sym, subst, refl, length, Some, None, Ok, Err, Result, arith}
+use Rattle.std.proofs.Common.{◌≡◌, ◌<◌, ◌≤◌, ◌+◌, ◌++◌, ◌∷◌, [], ◌∙◌, ℕ, List, ap, sym, subst, refl, length, Some, Ok, Err, Result, arith}
 use Rattle.std.specs.Prelude.{OnErr, slice_get}
 use Rattle.std.proofs.lemmas.Option.{slice_get_read}
 use Rattle.log_node.specs.Seen.{PlacedNode}
@@ -10,11 +10,8 @@ use Rattle.stamp_board.specs.Seats.{column_seen}
 use Rattle.std.specs.Vec.{with_item}
 use Rattle.ring_ends.specs.declared.rings.Rings.{Rings}
 use Rattle.ring_ends.specs.declared.receives.Receives.{Receives}
-use Rattle.ring_ends.specs.Rings.{names_of}
 use Rattle.ring_ends.specs.Places.{ring_place}
 use Rattle.ring_ends.specs.Givens.{OfTheirHeads}
-use Rattle.chain_store.specs.declared.told.Tag.{Tag}
-use Rattle.chain_store.specs.declared.told.Told.{Told}
 use Rattle.chain_store.specs.declared.seated.Seated.{Seated}
 use Rattle.chain_store.specs.Tags.{tag}
 use Rattle.chain_store.specs.Columns.{told_carry, waiting_of}
@@ -85,8 +82,7 @@ returns-clause-few c =
     let enough : c.args.least ≤ held_of s.column c.args.region + length (waiting_of s c.args.region) =
     (let sum = c.saturating_add.ensures in
     let f = c.if-saturating_add-least.false in
-    let small = c.ranges.least.fits in omega (arith, held, counted, sum, f, small)) in
-    (
+    let small = c.ranges.least.fits in omega (arith, held, counted, sum, f, small)) in (
       (λ is. absurd (let f : ⊥ = cc (is) in f)),
       (λ less. absurd (let f : ⊥ = omega (arith, enough, less) in f)),
     )

@@ -64,14 +64,16 @@ returns-in-Ok-single-clause-ok c =
         entered_gains s.column c.single.new.self (single_told s.column c.args.by x) x refl
             (single_entered s.column c.single.new.self c.args.by x same) s.seat.inner.me.0.size.clients log
             c.requires.maker.1 c.requires.maker.2 (x, refl, c.requires.row, refl, c.requires.node) (same_id-refl x.id) h.0,
-        (backed_more s.seat log (single_told s.column c.args.by x) (λ row. refl)
-            (stamp_small s.column.region s.column.regions s.column.journal (single_told s.column c.args.by x).entry
-            (subst (λ (q : ColumnState). IsColumnHistory q.region q.regions (dated q.region q.journal)) same
-            c.agrees.ensures.lawful)
-            x.id x.floor (node_wants x s.column.colour) (inl refl))
-            tt h.1.0,
+        (
+          backed_more s.seat log (single_told s.column c.args.by x) (λ row. refl)
+              (stamp_small s.column.region s.column.regions s.column.journal (single_told s.column c.args.by x).entry
+              (subst (λ (q : ColumnState). IsColumnHistory q.region q.regions (dated q.region q.journal)) same
+              c.agrees.ensures.lawful)
+              x.id x.floor (node_wants x s.column.colour) (inl refl))
+              tt h.1.0,
           fit_entered s.column c.single.new.self (column_seen s.seat).size s.seat.inner.table_id s.rings log
               (single_told s.column c.args.by x) (ap (λ (q : ColumnState). q.region) same)
-              (ap (λ (q : ColumnState). q.colour) same) (ap (λ (q : ColumnState). q.regions) same) (λ region. refl) h.1.1),
+              (ap (λ (q : ColumnState). q.colour) same) (ap (λ (q : ColumnState). q.regions) same) (λ region. refl) h.1.1,
+        ),
       ),
     )
