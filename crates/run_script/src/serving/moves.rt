@@ -8,13 +8,11 @@ use playback::Snapshot;
 use region_pull::PullFault;
 use report_text::Answer;
 use script_text::What;
-use std::alloc::Global;
 use std::sync::Wait;
 
 /// Brings what is new of another region's line of the colour into the column of the client's region.
 pub fn pull<R: Wait>(
     rt: &R,
-    alloc: Global,
     store: &Store,
     client: &mut Client,
     region: u8,
