@@ -33,8 +33,7 @@ in_log : (region : ℕ) (log : List Told) (place : ℕ) (t : Told) (j : ℕ) (i 
     → (m : ℕ) × (slice_get (carried_from region log) m ≡ Some i)
 in_log region [] place t j i there at = absurd (let f : ⊥ = cc (there) in f)
 in_log region (u ∷ log) zero t j i there at =
-    let same : u ≡ t = cc (there) in
-    (
+    let same : u ≡ t = cc (there) in (
       j,
       slice_longer (under (carried region u.entry.event) u.nodes) (carried_from region log) j i
           (ap (λ (v : Told). slice_get (under (carried region v.entry.event) v.nodes) j) same ∙ at),

@@ -11,13 +11,7 @@ use script_text::What;
 use std::sync::Wait;
 
 /// Brings what is new of another region's line of the colour into the column of the client's region.
-pub fn pull<R: Wait>(
-    rt: &R,
-    store: &Store,
-    client: &mut Client,
-    region: u8,
-    colour: u8,
-) -> Answer
+pub fn pull<R: Wait>(rt: &R, store: &Store, client: &mut Client, region: u8, colour: u8) -> Answer
     requires client { IsClient store.now client.old }
     requires region { region < length store.now.regions }
     requires colour { colour < store.now.size.colours }

@@ -103,18 +103,20 @@ returns-in-Some-2-clause-ok g c =
 
 pub loop-preserved-in_default : goal.loop-preserved-in_default
 loop-preserved-in_default g c =
-    let none = not_some c.in_ok-carried.field-0 c.in_default.not-Some in
-    ((watched_then c.args.from.now c.args.colour c.args.from_hold.now c.loop.from_hold c.feed.new.hold c.loop.invariant.0
-    c.feed.ensures.hold c.feed.ensures.others c.feed.ensures.same c.feed.ensures.sees),
-    let e = c.in_ok-carried.ensures in
-    let d = (watched_then c.args.to.now c.args.colour c.args.to_hold.now c.loop.to_hold c.drain.new.hold c.loop.invariant.1
-    c.drain.ensures.hold c.drain.ensures.others c.drain.ensures.same c.drain.ensures.sees) in
-    (watched_then c.args.to.now c.args.colour c.args.to_hold.now c.drain.new.hold c.carry.new.hold d e.hold e.others e.same
-    (e.none (ap (λ (o : Option (At × ℕ)). Ok o) none)).sees))
+    let none = not_some c.in_ok-carried.field-0 c.in_default.not-Some in (
+      (watched_then c.args.from.now c.args.colour c.args.from_hold.now c.loop.from_hold c.feed.new.hold c.loop.invariant.0
+          c.feed.ensures.hold c.feed.ensures.others c.feed.ensures.same c.feed.ensures.sees),
+      let e = c.in_ok-carried.ensures in
+          let d = (watched_then c.args.to.now c.args.colour c.args.to_hold.now c.loop.to_hold c.drain.new.hold c.loop.invariant.1
+          c.drain.ensures.hold c.drain.ensures.others c.drain.ensures.same c.drain.ensures.sees) in
+          (watched_then c.args.to.now c.args.colour c.args.to_hold.now c.drain.new.hold c.carry.new.hold d e.hold e.others e.same
+          (e.none (ap (λ (o : Option (At × ℕ)). Ok o) none)).sees),
+    )
 
 pub loop-preserved : goal.loop-preserved
-loop-preserved g c =
-    ((watched_then c.args.from.now c.args.colour c.args.from_hold.now c.loop.from_hold c.feed.new.hold c.loop.invariant.0
-    c.feed.ensures.hold c.feed.ensures.others c.feed.ensures.same c.feed.ensures.sees),
-    (watched_then c.args.to.now c.args.colour c.args.to_hold.now c.loop.to_hold c.drain.new.hold c.loop.invariant.1
-    c.drain.ensures.hold c.drain.ensures.others c.drain.ensures.same c.drain.ensures.sees))
+loop-preserved g c = (
+  (watched_then c.args.from.now c.args.colour c.args.from_hold.now c.loop.from_hold c.feed.new.hold c.loop.invariant.0
+      c.feed.ensures.hold c.feed.ensures.others c.feed.ensures.same c.feed.ensures.sees),
+  (watched_then c.args.to.now c.args.colour c.args.to_hold.now c.loop.to_hold c.drain.new.hold c.loop.invariant.1
+      c.drain.ensures.hold c.drain.ensures.others c.drain.ensures.same c.drain.ensures.sees),
+)
