@@ -12,8 +12,7 @@ use std::alloc::AllocError;
 use std::sync::Wait;
 
 // Sends and receives in turns, since a ring takes few nodes at once, until so many of `from`'s line are held or received in
-// `to`; then carries all that was received. Another client may have carried them meanwhile, and then it waits for its next
-// nodes no longer than they are lacking.
+// `to`; then carries all that was received. Nodes that another client received or carried count as well.
 pub(crate) fn bring<R: Wait>(
     rt: &R,
     from: &Region,
