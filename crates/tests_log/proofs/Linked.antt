@@ -5,14 +5,17 @@ use Rattle.std.proofs.lemmas.List.Elements.{All-cons, All-nil}
 use Rattle.std.proofs.lemmas.Option.{slice_get_within, get_or_from_slice_get}
 use Rattle.log_node.proofs.CallerLemmas.{same_some, get_within}
 use Rattle.ring_ends.specs.declared.rings.Rings.{Rings}
-use Rattle.ring_ends.specs.Rings.{names_of, RingNames}
+use Rattle.ring_ends.specs.Rings.{names_of, RingNames, IsForRegions}
 use Rattle.ring_ends.specs.NewRings.{AreAt, AreNewRings}
 use Rattle.chain_store.specs.declared.region.Region.{Region}
 use Rattle.chain_store.specs.declared.closed.ClosedRegion.{ClosedRegion}
+use Rattle.chain_store.specs.declared.hold.Hold.{Hold}
+use Rattle.chain_store.specs.Closing.{Closed}
+use Rattle.stamp_board.specs.declared.view.Size.{Size}
 use Rattle.chain_store.specs.Regions.{rings_at}
 use Rattle.chain_store.specs.Opening.{AreNewEnds}
 use Rattle.chain_store.specs.Joined.{ends_in, AreJoined, AreOfOneRing}
-use Rattle.tests_log.specs.Clients.{AreLinked, EndsSmall}
+use Rattle.tests_log.specs.Clients.{small, AreLinked, EndsSmall}
 
 -- a region's ends of new rings
 pub ends_new : (regions colours n : ℕ) (all : List (List Rings)) (ends : List Rings) → AreNewRings regions colours all
@@ -101,3 +104,12 @@ module _ (east west : Region) (x y : ClosedRegion) (linked : AreLinked east west
         ap (λ (n : RingNames). slice_get n.sends 0) first ∙ linked.back colour (omega (arith, lt, many))
         ∙ sym (ap (λ (n : RingNames). slice_get n.receives 0) second) in
         subst (λ (k : ℕ). AreOfOneRing k b r s) (sym is.0) (subst (λ (k : ℕ). AreOfOneRing 1 k r s) (sym is'.0) same)
+
+-- a small region ends with its columns' ends of rings
+pub ends_small : (r : Region) (hs : List Hold) (closed : ClosedRegion) → r.regions ≡ 2 → r.board.size ≡ small
+    → Closed r hs closed → EndsSmall r closed
+ends_small r hs closed two size ends = record {
+  count = ends.ends ∙ ap (λ (z : Size). z.colours) size;
+  rings = λ colour rings at. let k = ends.rings colour rings at in
+      (k.0, subst (λ (n : ℕ). IsForRegions n rings) two k.1);
+}
