@@ -1,25 +1,28 @@
 -- The rings between two regions of a test, from when they are made to the end.
-use Rattle.std.proofs.Common.{◌≡◌, ◌≢◌, ◌<◌, ◌⊎◌, ℕ, zero, suc, List, [], ◌∷◌, length, Some, slice_get, inl, inr, refl, ap, sym, subst, ◌∙◌, arith}
+use Rattle.std.proofs.Common.{◌≡◌, ◌≢◌, ◌<◌, ◌⊎◌, ℕ, zero, suc, List, [], ◌∷◌, ◌++◌, length, Some, slice_get, inl, inr, refl, ap, sym, subst, ◌∙◌, arith}
 use Rattle.std.specs.List.{All}
 use Rattle.std.proofs.lemmas.List.Elements.{All-cons, All-nil}
-use Rattle.std.proofs.lemmas.Option.{slice_get_within, get_or_from_slice_get}
+use Rattle.std.proofs.lemmas.Option.{slice_get_within}
 use Rattle.log_node.proofs.CallerLemmas.{same_some, get_within}
 use Rattle.ring_ends.specs.declared.rings.Rings.{Rings}
-use Rattle.ring_ends.specs.Rings.{names_of, RingNames}
+use Rattle.ring_ends.specs.Rings.{names_of, RingNames, IsForRegions}
 use Rattle.ring_ends.specs.NewRings.{AreAt, AreNewRings}
 use Rattle.chain_store.specs.declared.region.Region.{Region}
 use Rattle.chain_store.specs.declared.closed.ClosedRegion.{ClosedRegion}
+use Rattle.chain_store.specs.declared.hold.Hold.{Hold}
+use Rattle.chain_store.specs.Closing.{Closed}
+use Rattle.stamp_board.specs.declared.view.Size.{Size}
+use Rattle.stamp_board.proofs.CallerLemmas.{last_two}
 use Rattle.chain_store.specs.Regions.{rings_at}
 use Rattle.chain_store.specs.Opening.{AreNewEnds}
 use Rattle.chain_store.specs.Joined.{ends_in, AreJoined, AreOfOneRing}
-use Rattle.tests_log.specs.Clients.{AreLinked, EndsSmall}
+use Rattle.tests_log.specs.Clients.{small, AreLinked, EndsSmall}
 
 -- a region's ends of new rings
 pub ends_new : (regions colours n : ℕ) (all : List (List Rings)) (ends : List Rings) → AreNewRings regions colours all
     → slice_get all n ≡ Some ends → (length ends ≡ colours) × AreNewEnds regions ends
 ends_new regions colours n all ends new at = (
-  subst (λ (l : List Rings). length l ≡ colours) (get_or_from_slice_get all n ends ends at)
-      (new.colours_of n ends (slice_get_within all n ends at)),
+  new.colours_of n ends at,
   λ colour rings there. new.each n colour rings (ends, at, there),
 )
 
@@ -45,10 +48,19 @@ new_linked east west all xs ys new at_east at_west of_east of_west = record {
   got_y : (colour : ℕ) → colour < 2 → (y : Rings) × (slice_get ys colour ≡ Some y)
   got_y colour lt = let many = (ends_new 2 2 1 all ys new at_west).0 in get_within ys colour (omega (arith, lt, many))
 
+-- the two regions' ends, taken from the last on
+pub both_ends : (regions colours : ℕ) (all ys xs : List (List Rings)) (t s : List Rings) → regions ≡ 2 → colours ≡ 2
+    → AreNewRings regions colours all → all ≡ ys ++ t ∷ [] → ys ≡ xs ++ s ∷ []
+    → AreNewRings 2 2 all × (slice_get all 0 ≡ Some s) × (slice_get all 1 ≡ Some t)
+both_ends regions colours all ys xs t s two two' new e e' =
+    let new' = subst (λ (n : ℕ). AreNewRings n 2 all) two (subst (λ (n : ℕ). AreNewRings regions n all) two' new) in
+    let at = last_two all ys xs t s new'.regions_of e e' in
+    (new', at.0, at.1)
+
 -- The ends of two regions that are linked.
 module _ (east west : Region) (x y : ClosedRegion) (linked : AreLinked east west) (ends_x : EndsSmall east x)
     (ends_y : EndsSmall west y) where
-  all : List (List Rings)
+  abbrev all : List (List Rings)
   all = ends_in (x ∷ y ∷ [])
 
   two_at : (a : ℕ) (ends : List Rings) → slice_get all a ≡ Some ends
@@ -101,3 +113,12 @@ module _ (east west : Region) (x y : ClosedRegion) (linked : AreLinked east west
         ap (λ (n : RingNames). slice_get n.sends 0) first ∙ linked.back colour (omega (arith, lt, many))
         ∙ sym (ap (λ (n : RingNames). slice_get n.receives 0) second) in
         subst (λ (k : ℕ). AreOfOneRing k b r s) (sym is.0) (subst (λ (k : ℕ). AreOfOneRing 1 k r s) (sym is'.0) same)
+
+-- a small region ends with its columns' ends of rings
+pub ends_small : (r : Region) (hs : List Hold) (closed : ClosedRegion) → r.regions ≡ 2 → r.board.size ≡ small
+    → Closed r hs closed → EndsSmall r closed
+ends_small r hs closed two size ends = record {
+  count = ends.ends ∙ ap (λ (z : Size). z.colours) size;
+  rings = λ colour rings at. let k = ends.rings colour rings at in
+      (k.0, subst (λ (n : ℕ). IsForRegions n rings) two k.1);
+}

@@ -263,11 +263,12 @@ fn do_steps<R: Wait>(
 }
 
 // The item is the node of this count as it was appended.
-fn is_numbered(item: &Item, count: u64) -> bool {
+fn is_numbered(item: &Item, number: u8) -> bool {
+    let count = u64::from(number);
     item.head.key == key_of(count + 1, 0, count)
         && item.head.needs == Counts([count, 0, 0, 0])
         && item.node().id == item.head.key.id
-        && item.node().text.as_bytes() == [count as u8].as_slice()
+        && item.node().text.as_bytes() == [number].as_slice()
 }
 
 // A look in the west shows all nodes, as they were appended.
@@ -291,8 +292,8 @@ fn all_came<R: Wait>(
             && items.len() as u64 == NODES
             && items
                 .iter()
-                .zip(0..NODES)
-                .all(|(item, count)| is_numbered(item, count)),
+                .zip(0..NODES as u8)
+                .all(|(item, number)| is_numbered(item, number)),
     )
 }
 

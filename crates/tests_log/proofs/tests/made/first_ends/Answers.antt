@@ -1,4 +1,4 @@
-use Rattle.std.proofs.Common.{length, refl, sym, subst, ◌<◌, ℕ, ◌∙◌, arith}
+use Rattle.std.proofs.Common.{rules, length, refl, sym, subst, ◌<◌, ℕ, ◌∙◌, arith}
 use Rattle.std.proofs.lemmas.Option.{slice_get_read}
 use Rattle.ring_ends.specs.declared.rings.Rings.{Rings}
 use Rattle.std.specs.Prelude.{List}
