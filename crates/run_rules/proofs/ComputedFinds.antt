@@ -75,7 +75,7 @@ line_rising own regions h lawful i j d lt there =
       at_index n low = ap (λ (x : List Entry). slice_get (line x) n) (entries_dated own h) ∙ found (line h) n low
 
 -- each key has its node by the log
-nodes_there : (log : Log) (keys : List Key)
+pub nodes_there : (log : Log) (keys : List Key)
     → ((k : Key) → In k keys
     → (node : Node) × (slice_get (log.nodes k.id.client) k.id.count ≡ Some node) × (node.id ≡ k.id))
     → AreObjectNodes log keys (nodes_read log keys)
@@ -100,7 +100,7 @@ nodes_there log (k ∷ ks) f =
 abbrev last_from : ℕ → List ReplyLine → ℕ
 last_from stamp replies = fold (λ greatest (r : ReplyLine). max greatest (stamp_read r.answer)) stamp replies
 
-last_above : (rs : List ReplyLine) (z : ℕ)
+pub last_above : (rs : List ReplyLine) (z : ℕ)
     → (z ≤ last_from z rs) × ((r : ReplyLine) → In r rs → stamp_read r.answer ≤ last_from z rs)
 last_above [] z = (omega arith, λ r i. absurd i)
 last_above (x ∷ xs) z =
@@ -222,7 +222,7 @@ step_there log caller shown f a (c ∷ cs) (r ∷ rs) (suc k) d lt =
 -- ACCOUNTS
 
 -- keys stand above the nodes of one account where they do so above those of one that agrees
-keys_move : (script : Script) (report : Report) (a b : Account) → IsFitting script → IsTold script report a
+pub keys_move : (script : Script) (report : Report) (a b : Account) → IsFitting script → IsTold script report a
     → IsTold script report b → RulesTo script report a 5 → RulesTo script report b 5 → KeysStandAbove script report a.log
     → KeysStandAbove script report b.log
 keys_move script report a b fits ta tb ra rb above r k has key events i =

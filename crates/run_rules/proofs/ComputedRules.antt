@@ -62,7 +62,7 @@ module _ (unique : RegionOrderIsUnique) (lawful : RegionOrderIsLawful) (plain : 
   abbrev b : Account
   b = account_finding script report (finds_of script report) decided
 
-  told : IsWellFormed script report → IsTold script report b
+  pub told : IsWellFormed script report → IsTold script report b
   told well = finds_tell script report (nodes_with script report (finds_of script report) decided) (finds_of script report) well
       (found_keys_of script report)
 
@@ -70,17 +70,17 @@ module _ (unique : RegionOrderIsUnique) (lawful : RegionOrderIsLawful) (plain : 
     right : HasItsFinds script report b
     right = computed_finds_are_right lawful plain script report decided fits (a, ta, ra.0)
 
-    eight : IsWellFormed script report × RulesTo script report b 8
+    pub eight : IsWellFormed script report × RulesTo script report b 8
     eight = (found_account_decides script report (finds_of script report) decided fits (found_keys_of script report) 8 (omega arith)
         (omega arith)).0 (a, ta, ra.0.0)
 
-    five : RulesTo script report b 5
+    pub five : RulesTo script report b 5
     five = rules_fewer script report b 8 5 (omega arith) eight.1
 
-    five_told : RulesTo script report a 5
+    pub five_told : RulesTo script report a 5
     five_told = rules_fewer script report a 10 5 (omega arith) ra
 
-    agree : AgreeOnFinds report a b
+    pub agree : AgreeOnFinds report a b
     agree = finds_agree unique plain script report a b fits ta (told eight.0) ra.0 five (finds_are_right script report a ra) right
 
     read : TextsReadAlike ⊥ report a b

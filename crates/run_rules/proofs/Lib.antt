@@ -4,6 +4,7 @@ mod AppendsTold
 mod BareObjects
 mod CausalAlike
 mod CausesAlike
+mod ByNumber
 mod Computed
 mod ChosenFinds
 mod ComputedFinds
@@ -16,6 +17,8 @@ mod Explaining
 mod Facts
 mod Decided
 mod Deciding
+mod DecisionsAlike
+mod DecisionsSaid
 mod EndsTold
 mod FindsAlike
 mod FirstAlike
