@@ -31,7 +31,7 @@ use Rattle.col_core.specs.Laws.{RegionOrderIsUnique}
 use Rattle.col_core.specs.Legal.{IsColumnHistory}
 use Rattle.col_core.specs.Log.{Log}
 use Rattle.col_core.specs.Keeping.{Kept, updated, updated_at}
-use Rattle.col_core.proofs.CallerLemmas.{In, IsLawfulPast, any_in, by_test, clock, clock-of, contains_in, dated-is_dated, entries-of, entry_within, if_false, if_true, in_contains, in_filter-back, in_line, in_take, lawful_beginning, lawful_past, range_has, slice_in}
+use Rattle.col_core.proofs.CallerLemmas.{In, IsLawfulPast, any_in, by_test, clock, clock-of, contains_in, dated-is_dated, entries-of, entry_within, if_false, if_true, in_contains, in_filter-back, in_flat_map-back, in_line, in_take, lawful_beginning, lawful_past, range_has, slice_in}
 use Rattle.playback.specs.Laws.{RegionOrderIsLawful}
 use Rattle.script_text.specs.Apart.{colours_of}
 use Rattle.script_text.specs.Commands.{use_of}
@@ -59,20 +59,24 @@ use Rattle.run_rules.specs.Telling.{IsWellFormed, replies_in}
 use Rattle.run_rules.specs.Answering.{CanHave}
 use Rattle.run_rules.specs.Shown.{PartAnswers, SaysSo, Shows}
 use Rattle.run_rules.specs.Agreeing.{Agree, AreNodesAlike, HasColumn}
-use Rattle.run_rules.specs.Finding.{AgreeOnFinds, DecisionsSame}
-use Rattle.run_rules.specs.Computing.{answer_in, answer_to, nodes_read}
-use Rattle.run_rules.specs.Deciding.{ColoursDiffer, account_deciding, colours_named, colours_used, decided_at, decisions_below, decisions_of, key_or, place_in, waited_for}
-use Rattle.run_rules.specs.Keeping.{Keeps, RulesTo, rule_count}
+use Rattle.run_rules.specs.Finding.{AgreeOnFinds, DecideSame, DecisionsSame}
+use Rattle.run_rules.specs.Computing.{answer_in, answer_to, finds_of, nodes_read}
+use Rattle.run_rules.specs.Deciding.{ColoursDiffer, account_deciding, colours_named, colours_used, decided_at, decisions_below, decisions_of, key_or, last_decided, stamp_decided, place_in, waited_for}
+use Rattle.run_rules.specs.Keeping.{RulesTo, all_replies, rule_count}
 use Rattle.run_rules.specs.Laws.{ComputedDecisionsDecide, ToldDecisionsAgree}
 use Rattle.run_rules.proofs.AnswersAlike.{waits_same}
 use Rattle.run_rules.proofs.BareObjects.{AreAlike}
-use Rattle.run_rules.proofs.ComputedFinds.{keys_move, nodes_there}
-use Rattle.run_rules.proofs.ComputedRules.{agree, eight, five, five_told, told}
-use Rattle.run_rules.proofs.FindsAlike.{KeysStandAbove, keys_above, zip_both}
+use Rattle.run_rules.proofs.ByNumber.{Numbered, all_numbered, numbered_more}
+use Rattle.run_rules.proofs.ComputedFinds.{found_keys_of, keys_move, nodes_there}
+use Rattle.run_rules.proofs.ComputedRules.{agree, computed_finds_keep, eight, five, five_told, told}
+use Rattle.run_rules.proofs.Decided.{first}
+use Rattle.run_rules.proofs.FindsAlike.{KeysStandAbove, keys_above, zip_both, zip_each}
 use Rattle.run_rules.proofs.Deciding.{decide_synced}
+use Rattle.run_rules.proofs.DecisionTexts.{SaysBelow, TextBelow, texts_below}
+use Rattle.run_rules.proofs.DecisionsSaid.{decisions_said}
 use Rattle.run_rules.proofs.KeysTold.{column_of}
 use Rattle.run_rules.proofs.LeftOut.{Obeys}
-use Rattle.run_rules.proofs.Lists.{all_at, slice_mapped, zip_at}
+use Rattle.run_rules.proofs.Lists.{all_at, greatest_above, slice_mapped, zip_at}
 use Rattle.run_rules.proofs.NodesAlike.{told_nodes_agree}
 use Rattle.run_rules.proofs.Numbers.{AllRules, all_of, rules_fewer}
 use Rattle.run_rules.proofs.OneAccount.{obeys, told_accounts_agree}
@@ -154,15 +158,9 @@ alike_there one two k x y ix iy p q ep eq alike text =
 
 -- STEPS
 
--- a decision's node says this, where the stamp of the decision's read is below one
-abbrev SaysBelow : ℕ → Decision → Log → Caller → Kept → Answer → Type 0
-SaysBelow w decision log caller kept (answers.Decided commits stamp sync read_stamp raises syncs ended) =
-    read_stamp < w → SaysSo log caller (kept_deciding log caller kept sync read_stamp raises syncs) (decision_text decision) ended
-SaysBelow w decision log caller kept _ = Unit {0}
-
 seen_here : (seen : ℕ → ℕ → ℕ) (region colour events : ℕ) → updated_at seen region colour events region colour ≡ events
 seen_here seen region colour events =
-    ap (λ (b : Bool). cond b (updated (seen region) colour events colour) (seen region colour)) (eq-eqb region region refl)
+    ap (λ (b : Bool). cond b (updated (seen region) colour events) (seen region) colour) (eq-eqb region region refl)
     ∙ ap (λ (b : Bool). cond b events (seen region colour)) (eq-eqb colour colour refl)
 
 -- each colour of the object that a command names is there once
@@ -225,13 +223,9 @@ module _ (unique : RegionOrderIsUnique) (lawful : RegionOrderIsLawful) (plain : 
     above_b : KeysStandAbove script report b.log
     above_b = keys_move script report a b fits ta tb five_a five_b above_a
 
-    -- the floor of a node is at the stamp or above, or the other has its text
-    abbrev TextBelow : Node → Node → Type 0
-    TextBelow p q = (w ≤ p.floor) ⊎ (p.text ≡ q.text)
-
     abbrev TextsBelow : Type 0
     TextsBelow = (n : ℕ) (c : ClientReport) → slice_get report.clients n ≡ Some c
-        → AllZip TextBelow (a.log.nodes n) (b.log.nodes n)
+        → AllZip (TextBelow w) (a.log.nodes n) (b.log.nodes n)
 
     module _ (texts : TextsBelow) (n : ℕ) (c : ClientReport) (there : slice_get report.clients n ≡ Some c) where
       abbrev who : Caller
@@ -254,13 +248,13 @@ module _ (unique : RegionOrderIsUnique) (lawful : RegionOrderIsLawful) (plain : 
         node_alike k i x y ix iy =
             let above = above_a who.own sync.colour has k sync.events (in_column k i) in
             let m = k.id.client in
-            let beside = zip_at (λ (p q : Node). AreNodesAlike p q × TextBelow p q) (a.log.nodes m) (b.log.nodes m)
-            (zip_both AreNodesAlike TextBelow (a.log.nodes m) (b.log.nodes m)
+            let beside = zip_at (λ (p q : Node). AreNodesAlike p q × TextBelow w p q) (a.log.nodes m) (b.log.nodes m)
+            (zip_both AreNodesAlike (TextBelow w) (a.log.nodes m) (b.log.nodes m)
             (told_nodes_agree script report a b fits ta tb five_a five_b m above.client above.shown)
             (texts m above.client above.shown)) k.id.count above.node above.there in
             alike_there a.log b.log k x y ix iy above.node beside.0 above.there beside.1 beside.2.0
             (by above.node beside.0 beside.2.1 above.below) where
-              by : (p q : Node) → TextBelow p q → p.floor < k.stamp → p.text ≡ q.text
+              by : (p q : Node) → TextBelow w p q → p.floor < k.stamp → p.text ≡ q.text
               by p q (inl le) lt =
                   let u = until k (in_column k i) in absurd (let f : ⊥ = omega (arith, le, lt, u) in f)
               by p q (inr same) lt = same
@@ -387,8 +381,85 @@ module _ (unique : RegionOrderIsUnique) (lawful : RegionOrderIsLawful) (plain : 
             (rules.r14.part n c there))
             answer_at before
 
+  -- what the decisions of the account say whose reads have stamps below one
+  abbrev SaysAt : ℕ → ℕ → ℕ → ℕ → Step → Type 0
+  SaysAt w v n k s = SaysBelow w (decisions_below script report v n k) a.log (caller_of script n) (kept_at s) s.reply.answer
+
+  abbrev SaysTo : ℕ → ℕ → Type 0
+  SaysTo w v = (n : ℕ) (c : ClientReport) → slice_get report.clients n ≡ Some c → Numbered (SaysAt w v n) (a.steps n)
+
+  texts_at : (w v : ℕ) → SaysTo w v → (n : ℕ) (c : ClientReport) → slice_get report.clients n ≡ Some c
+      → AllZip (TextBelow w) (a.log.nodes n) ((b v).log.nodes n)
+  texts_at w v says n c there =
+      texts_below script report a (b v) fits ta (tb v) (five_a v) (five_b v) w n c there ((finding v).steps n c there)
+      (decisions_below script report v n) (says n c there)
+      (decisions_said script report (finds_of script report) (decisions_below script report v) fits (well v)
+      (found_keys_of script report) (first script report fits a ta (rules_fewer script report a 14 1 (omega arith) ra)) n c there)
+
+  none_below : (decision : Decision) (log : Log) (caller : Caller) (kept : Kept) (answer : Answer)
+      → SaysBelow 0 decision log caller kept answer
+  none_below decision log caller kept (answers.Decided commits stamp sync read_stamp raises syncs ended) =
+      λ lt. absurd (let f : ⊥ = omega (arith, lt) in f)
+  none_below decision log caller kept _ = tt
+
+  says_to : (w : ℕ) → SaysTo w w
+  says_to zero n c there =
+      all_numbered (SaysAt 0 0 n) (a.steps n)
+      (λ k s at. none_below (decisions_below script report 0 n k) a.log (caller_of script n) (kept_at s) s.reply.answer)
+  says_to (suc w) n c there =
+      numbered_more (SaysAt w w n) (SaysAt (suc w) (suc w) n) (a.steps n) (says_to w n c there)
+      (λ k s at before. next w (texts_at w w (says_to w)) n c there k s at before)
+
+  -- ALL DECISIONS
+
+  abbrev last : ℕ
+  last = last_decided (all_replies report)
+
+  decided_last : (n : ℕ) (c : ClientReport) → slice_get report.clients n ≡ Some c → (k : ℕ) (s : Step)
+      → slice_get (a.steps n) k ≡ Some s → stamp_decided s.reply.answer ≤ last
+  decided_last n c there k s at =
+      let reply = slice_mapped (λ (t : Step). t.reply) (a.steps n) k s at in
+      (greatest_above (λ (r : ReplyLine). stamp_decided r.answer) (all_replies report) 0).1 s.reply
+      (in_flat_map-back (λ (d : ClientReport). d.replies) report.clients c s.reply (slice_in report.clients n c there)
+      (slice_in c.replies k s.reply
+      (ap (λ (rs : List ReplyLine). slice_get rs k) (sym (ta.clients n c there).replied) ∙ reply)))
+
+  any_below : (w : ℕ) (decision : Decision) (log : Log) (caller : Caller) (kept : Kept) (answer : Answer)
+      → stamp_decided answer ≤ last → SaysBelow (suc last) decision log caller kept answer
+      → SaysBelow w decision log caller kept answer
+  any_below w decision log caller kept (answers.Decided commits stamp sync read_stamp raises syncs ended) le says =
+      λ lt. says (omega (arith, le))
+  any_below w decision log caller kept _ le says = tt
+
+  says_all : (w : ℕ) → SaysTo w (suc last)
+  says_all w n c there =
+      numbered_more (SaysAt (suc last) (suc last) n) (SaysAt w (suc last) n) (a.steps n) (says_to (suc last) n c there)
+      (λ k s at says. any_below w (decisions_below script report (suc last) n k) a.log (caller_of script n) (kept_at s)
+      s.reply.answer (decided_last n c there k s at) says)
+
+  same_decided : DecisionsSame report a (b (suc last))
+  same_decided n c there =
+      zip_each TextBelow DecideSame (a.log.nodes n) ((b (suc last)).log.nodes n)
+      (λ w. texts_at w (suc last) (says_all w) n c there) (λ p q f. by p q (f (suc p.floor))) where
+        by : (p q : Node) → TextBelow (suc p.floor) p q → DecideSame p q
+        by p q (inl le) = absurd (let f : ⊥ = omega (arith, le) in f)
+        by p q (inr same) = λ x y. same
+
 pub told_decisions_agree : RegionOrderIsUnique → RegionOrderIsLawful → DecisionsArePlain → ToldDecisionsAgree
-told_decisions_agree unique lawful plain script report fits differ a ta ra = ?todo
+told_decisions_agree unique lawful plain script report fits differ a ta ra =
+    same_decided unique lawful plain script report fits differ a ta ra
 
 pub computed_decisions_decide : RegionOrderIsUnique → RegionOrderIsLawful → DecisionsArePlain → ComputedDecisionsDecide
-computed_decisions_decide unique lawful plain script report fits differ = ?todo
+computed_decisions_decide unique lawful plain script report fits differ = (
+  λ k. (
+    (eight unique lawful plain script report (decisions_of script report) fits k.0 k.1
+        (rules_fewer script report k.0 rule_count 10 (omega arith) k.2)).0,
+    computed_finds_keep unique lawful plain script report (decisions_of script report) fits k.0 k.1
+        (same_decided unique lawful plain script report fits differ k.0 k.1 k.2) k.2,
+  ),
+  λ w. (
+    account_deciding script report (decisions_of script report),
+    told unique lawful plain script report (decisions_of script report) fits w.0,
+    w.1,
+  ),
+)

@@ -62,7 +62,7 @@ same_found : (w : ℕ) (what : What) (answer : Answer) (f g : List Version) → 
 same_found w (whats.Read object asked) (answers.GotKeys stamp shown raises syncs) f g e = λ lt. e
 same_found w _ _ f g e = tt
 
-before_keep : (what : What) (a b : Kept) → KeepReads a b → KeepReads (kept_before what a) (kept_before what b)
+pub before_keep : (what : What) (a b : Kept) → KeepReads a b → KeepReads (kept_before what a) (kept_before what b)
 before_keep what a b same = by (use_of what) where
   by : (u : Use) → KeepReads (before_by u a) (before_by u b)
   by (OfObject object Takes) = updated_same a b object None None refl same

@@ -17,6 +17,7 @@ mod Explaining
 mod Facts
 mod Decided
 mod Deciding
+mod DecisionTexts
 mod DecisionsAlike
 mod DecisionsSaid
 mod EndsTold

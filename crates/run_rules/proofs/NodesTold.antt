@@ -397,7 +397,7 @@ module _ (script : Script) (fits : IsFitting script) (n : ℕ) where
 
 -- STEPS
 
-behind_ids : (what : What) (kept : Kept) → (kept_behind what kept).ids ≡ kept.ids
+pub behind_ids : (what : What) (kept : Kept) → (kept_behind what kept).ids ≡ kept.ids
 behind_ids what kept = behind_is (λ (k : Kept). k.ids ≡ kept.ids) what kept refl (λ object. refl)
 
 slice_behind : (pre told rest : List Node) (m : Node) → slice_get told 0 ≡ Some m
