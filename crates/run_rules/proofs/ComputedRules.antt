@@ -39,7 +39,7 @@ no_change : (decision : Decision) → change_of (decision_text decision) ≡ Non
 no_change decision = refl
 
 -- objects read nodes alike whose texts are the same, or those of decisions
-read_alike : DecisionsArePlain → (p q : Node) → HaveText p q → ReadAlike ⊥ p q
+pub read_alike : DecisionsArePlain → (p q : Node) → HaveText p q → ReadAlike ⊥ p q
 read_alike plain p q h = record {
   form = form_same plain p.text q.text h;
   change = by h;
@@ -50,7 +50,7 @@ read_alike plain p q h = record {
   by (inr d) = ap change_of d.0.1 ∙ (no_change d.0.0 ∙ (sym (no_change d.1.0) ∙ ap change_of (sym d.1.1)))
 
 -- one id has one text
-one_text : (log : Log) (id other : Id) → other ≡ id → (t u : List ℕ) → HasText log id t → HasText log other u → t ≡ u
+pub one_text : (log : Log) (id other : Id) → other ≡ id → (t u : List ℕ) → HasText log id t → HasText log other u → t ≡ u
 one_text log id other e t u a b =
     let there = a.1 in
     let place = ap (λ (i : Id). slice_get (log.nodes i.client) i.count) (sym e) ∙ b.1 in

@@ -343,7 +343,7 @@ module _ (w : ℕ) (script : Script) (caller : Caller) (one two : Log) where
 -- NODES BELOW A STAMP
 
 -- the node's floor is at the stamp or above, or it has the other's text
-abbrev NodeBelow : ℕ → Node → Node → Type 0
+abbrev pub NodeBelow : ℕ → Node → Node → Type 0
 NodeBelow w p q = (w ≤ p.floor) ⊎ HaveText p q
 
 text_same : (own : List ℕ) (saying : Option Saying) (x y : Colours) (t u : List ℕ) → SaysNode own saying x t
@@ -567,7 +567,7 @@ module _ (plain : DecisionsArePlain) (script : Script) (report : Report) (a b : 
         (over_below w a.log b.log who (kept_at x) (kept_at z) x.command.what x.reply.answer
         (before_below w x.kept y.kept x.command.what r.1))) p q
 
-    nodes_below : (w : ℕ) → Found w → AllZip (NodeBelow w) (a.log.nodes n) (b.log.nodes n)
+    pub nodes_below : (w : ℕ) → Found w → AllZip (NodeBelow w) (a.log.nodes n) (b.log.nodes n)
     nodes_below w found =
         let of_a = (a5.own n c there).nodes in
         let of_b = (b5.own n c there).nodes in

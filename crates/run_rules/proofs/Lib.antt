@@ -51,6 +51,7 @@ mod RulesAlike
 mod RulesLawful
 mod SaidTexts
 mod SameKept
+mod ShownDecides
 mod ShowsAlike
 mod StepsTold
 mod TextsAlike

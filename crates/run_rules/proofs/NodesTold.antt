@@ -93,7 +93,7 @@ module _ (report : Report) (x y : ℕ → List Node) (caller : Caller) where
       (stamp_one kept row points)
   told_one untold kept what _ = refl
 
-  past_one : (step : Step) → kept_past one caller step ≡ kept_past two caller step
+  pub past_one : (step : Step) → kept_past one caller step ≡ kept_past two caller step
   past_one step =
       ap (kept_behind step.command.what) (told_one step.untold (kept_at step) step.command.what step.reply.answer)
 

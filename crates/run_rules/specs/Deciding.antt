@@ -1,7 +1,8 @@
 -- What decisions say, computed: one stamp after another, each by the texts that the decisions with reads of lower stamps leave.
-use Rattle.std.specs.Prelude.{◌≢◌, ℕ, zero, suc, max, ◌==◌, if◌then◌else◌, List, [], ◌∷◌, Option, Some, None, slice_get}
+use Rattle.std.specs.Prelude.{◌≢◌, ℕ, zero, suc, max, ◌==◌, if◌then◌else◌, List, [], ◌∷◌, map, Option, Some, None, slice_get}
 use Rattle.std.specs.List.{All, AllPairs, fold}
 use Rattle.log_node.specs.declared.ids.Key.{Key}
+use Rattle.log_node.specs.declared.node.Node.{Node}
 use Rattle.part_fold.specs.declared.decision.Decision.{Decision}
 use Rattle.part_fold.specs.Agreement.{part_at}
 use Rattle.part_fold.specs.Parts.{undecided_after}
@@ -19,8 +20,10 @@ use Rattle.lawful_run.specs.Asks.{kind_asked, object_colours}
 use Rattle.lawful_run.specs.Callers.{Caller, caller_of, commands_of}
 use Rattle.lawful_run.specs.Objects.{own_played}
 use Rattle.run_rules.specs.Told.{Account}
-use Rattle.run_rules.specs.Nodes.{any_decision}
-use Rattle.run_rules.specs.Computing.{account_finding, answer_to, finds_of, nodes_read}
+use Rattle.run_rules.specs.Telling.{account_with}
+use Rattle.run_rules.specs.Nodes.{any_decision, nodes_with}
+use Rattle.run_rules.specs.Said.{shown_text, with_text}
+use Rattle.run_rules.specs.Computing.{account_finding, answer_to, any_decisions, finds_of, nodes_read}
 use Rattle.run_rules.specs.Keeping.{all_replies}
 
 -- each colour of an object is there once, as the grammar makes sure
@@ -85,3 +88,15 @@ last_decided replies = fold (λ stamp (r : ReplyLine). max stamp (stamp_decided 
 -- what the decisions of a report say
 abbrev pub decisions_of : Script → Report → ℕ → ℕ → Decision
 decisions_of script report = decisions_below script report (suc (last_decided (all_replies report)))
+
+-- BY THE TEXTS THAT ARE SHOWN
+
+-- the nodes of each client's commands by what reads found, each with the text that is shown of it, where one is
+abbrev pub nodes_showing : Script → Report → ℕ → List Node
+nodes_showing script report client =
+    map (λ (node : Node). with_text (shown_text report node.id) node)
+    (nodes_with script report (finds_of script report) any_decisions client)
+
+-- the account that is computed with these nodes: below the last rule decisions that no node line shows may say anything
+abbrev pub account_showing : Script → Report → Account
+account_showing script report = account_with script report (nodes_showing script report) (finds_of script report)
