@@ -1,5 +1,5 @@
 -- Where decisions say the same below a stamp, so do the nodes of which the floors are below it.
-use Rattle.std.proofs.Common.{◌≡◌, ◌∙◌, refl, ap, sym, subst, Bool, true, false, ℕ, zero, suc, ◌+◌, ◌<◌, ◌≤◌, List, [], ◌∷◌, length, Option, Some, None, ◌⊎◌, inl, inr, arith}
+use Rattle.std.proofs.Common.{◌≡◌, ◌∙◌, refl, ap, sym, subst, Bool, true, false, ℕ, ◌+◌, ◌<◌, ◌≤◌, List, length, Option, Some, None, ◌⊎◌, inl, inr, arith}
 use Rattle.std.specs.Prelude.{slice_get}
 use Rattle.std.specs.List.{AllZip}
 use Rattle.std.proofs.lemmas.Bool.{cases_lt, ltb-true}
@@ -22,14 +22,13 @@ use Rattle.script_text.specs.Fitting.{IsFitting}
 use Rattle.report_text.specs.declared.report.Answer.{Answer}
 use Rattle.report_text.specs.declared.report.Answer.TheVariants as answers
 use Rattle.report_text.specs.declared.report.ClientReport.{ClientReport}
-use Rattle.report_text.specs.declared.report.Ended.{Ended}
 use Rattle.report_text.specs.declared.report.Ended.TheVariants as ends
 use Rattle.report_text.specs.declared.report.Report.{Report}
 use Rattle.lawful_run.specs.Asks.{Appending, Deciding, Guarding, colours_of_object, kind_asked, object_colours}
 use Rattle.lawful_run.specs.Callers.{Caller, caller_of, node_of}
 use Rattle.lawful_run.specs.Deeds.{TextSaid, Exactly, ADecision, Saying, SaysNode, IsText, found_by, manner_of, saying_of, says_change}
 use Rattle.lawful_run.specs.Reads.{kept_after_piece}
-use Rattle.lawful_run.proofs.CallerLemmas.{behind_is, not_several}
+use Rattle.lawful_run.proofs.CallerLemmas.{not_several}
 use Rattle.run_rules.specs.Told.{Account, IsTold, Step, Untold, colours_asked, is_several, kept_after_read, kept_after_row, kept_appending, kept_at, kept_deciding, kept_past, kept_told, kept_where}
 use Rattle.run_rules.specs.Answering.{CanHave}
 use Rattle.run_rules.specs.Rules.{HasNode}

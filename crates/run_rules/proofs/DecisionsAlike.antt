@@ -1,17 +1,13 @@
 -- What decisions say is one family: each account that keeps all rules has what is computed, one stamp after another.
-use Rattle.std.proofs.Common.{◌≡◌, ◌∙◌, refl, ap, sym, subst, Bool, true, false, cond, ℕ, zero, suc, ◌+◌, ◌<◌, ◌≤◌, List, [], ◌∷◌, length, map, take, drop, take-append-drop, reverse, Option, Some, None, ◌⊎◌, inl, inr, arith}
-use Rattle.std.specs.Prelude.{◌==◌, ◌≢◌, max, slice_get}
-use Rattle.std.specs.List.{All, AllPairs, AllZip, list_any, range_with_len}
+use Rattle.std.proofs.Common.{◌≡◌, ◌∙◌, refl, ap, sym, subst, Bool, false, cond, ℕ, zero, suc, ◌<◌, ◌≤◌, List, [], ◌∷◌, length, take, drop, take-append-drop, reverse, Option, Some, None, ◌⊎◌, inl, inr, arith}
+use Rattle.std.specs.Prelude.{◌==◌, ◌≢◌, slice_get}
+use Rattle.std.specs.List.{AllPairs, AllZip, list_any, range_with_len}
 use Rattle.std.specs.Option.{option_map}
 use Rattle.std.proofs.lemmas.Bool.{cases_lt, eq-eqb, eqb-true}
 use Rattle.std.proofs.lemmas.List.Elements.{All-contains}
-use Rattle.log_node.specs.declared.forms.Version.{Version}
-use Rattle.log_node.specs.declared.ids.Colours.{Colours}
-use Rattle.log_node.specs.declared.ids.Id.{Id}
 use Rattle.log_node.specs.declared.ids.Key.{Key}
 use Rattle.log_node.specs.declared.limits.TheConstants.{MAX_COLOURS}
 use Rattle.log_node.specs.declared.node.Node.{Node}
-use Rattle.log_node.specs.Seen.{PlacedNode}
 use Rattle.log_node.specs.Sets.{members}
 use Rattle.log_node.specs.Standings.{Standing}
 use Rattle.log_node.specs.Vectors.{at}
@@ -31,7 +27,7 @@ use Rattle.col_core.specs.Laws.{RegionOrderIsUnique}
 use Rattle.col_core.specs.Legal.{IsColumnHistory}
 use Rattle.col_core.specs.Log.{Log}
 use Rattle.col_core.specs.Keeping.{Kept, updated, updated_at}
-use Rattle.col_core.proofs.CallerLemmas.{In, IsLawfulPast, any_in, by_test, clock, clock-of, contains_in, dated-is_dated, entries-of, entry_within, if_false, if_true, in_contains, in_filter-back, in_flat_map-back, in_line, in_take, lawful_beginning, lawful_past, range_has, slice_in}
+use Rattle.col_core.proofs.CallerLemmas.{In, IsLawfulPast, any_in, by_test, clock, clock-of, contains_in, dated-is_dated, entries-of, entry_within, if_false, if_true, in_filter-back, in_flat_map-back, in_line, in_take, lawful_beginning, lawful_past, range_has, slice_in}
 use Rattle.playback.specs.Laws.{RegionOrderIsLawful}
 use Rattle.script_text.specs.Apart.{colours_of}
 use Rattle.script_text.specs.Commands.{use_of}

@@ -1,5 +1,5 @@
 -- With the texts that node lines show the account of computed finds decides the rules from the tenth to the thirteenth.
-use Rattle.std.proofs.Common.{◌≡◌, ◌∙◌, refl, ap, sym, subst, ℕ, zero, suc, ◌<◌, ◌≤◌, List, [], ◌∷◌, length, map, Option, Some, None, ◌⊎◌, inl, inr, arith}
+use Rattle.std.proofs.Common.{◌≡◌, ◌∙◌, refl, ap, sym, subst, ℕ, zero, suc, ◌<◌, ◌≤◌, List, [], ◌∷◌, Option, Some, None, inl, inr, arith}
 use Rattle.std.specs.Prelude.{IsTrue, slice_get}
 use Rattle.std.specs.List.{All, AllZip}
 use Rattle.std.proofs.lemmas.List.{length-map}
@@ -7,12 +7,10 @@ use Rattle.log_node.specs.declared.forms.Version.{Version}
 use Rattle.log_node.specs.declared.ids.Colours.{Colours}
 use Rattle.log_node.specs.declared.ids.Id.{Id}
 use Rattle.log_node.specs.declared.node.Node.{Node}
-use Rattle.log_node.specs.Seen.{PlacedNode}
 use Rattle.part_fold.specs.Laws.{DecisionsArePlain}
 use Rattle.col_core.specs.Laws.{RegionOrderIsUnique}
 use Rattle.col_core.specs.Log.{Log, HasText}
 use Rattle.col_core.specs.Keeping.{Kept, nothing_kept}
-use Rattle.col_core.proofs.CallerLemmas.{In}
 use Rattle.playback.specs.Laws.{RegionOrderIsLawful}
 use Rattle.script_text.specs.declared.commands.What.{What}
 use Rattle.script_text.specs.declared.script.Command.{Command}
@@ -30,13 +28,13 @@ use Rattle.lawful_run.specs.Asks.{kind_asked, object_colours}
 use Rattle.lawful_run.specs.Callers.{Caller, caller_of, commands_of, node_of}
 use Rattle.lawful_run.specs.Deeds.{Saying, SaysNode, found_by, saying_of}
 use Rattle.lawful_run.specs.Reads.{kept_after_piece}
-use Rattle.run_rules.specs.Told.{Account, IsTold, Step, is_several, kept_at, kept_deciding, kept_past}
-use Rattle.run_rules.specs.Telling.{IsWellFormed, last_finding, log_of, no_nodes, places_shown, replies_to, step_finding, steps_finding}
+use Rattle.run_rules.specs.Told.{Account, IsTold, Step, kept_at, kept_deciding, kept_past}
+use Rattle.run_rules.specs.Telling.{IsWellFormed, last_finding, log_of, places_shown, replies_to, step_finding}
 use Rattle.run_rules.specs.Rules.{HasNode, UsesEnd, UsesNode}
-use Rattle.run_rules.specs.Nodes.{HasItsNode, HasItsNodes, HasNodeAtEnd, nodes_with}
+use Rattle.run_rules.specs.Nodes.{HasItsNode, HasItsNodes, HasNodeAtEnd}
 use Rattle.run_rules.specs.Agreeing.{Agree, AreNodesAlike, AreStepsAlike, KeepSame}
 use Rattle.run_rules.specs.Finding.{AgreeOnFinds, FoundSame, KeepReads}
-use Rattle.run_rules.specs.Said.{node_lines, shown_text, with_text}
+use Rattle.run_rules.specs.Said.{shown_text, with_text}
 use Rattle.run_rules.specs.Computing.{account_finding, any_decisions, finds_of}
 use Rattle.run_rules.specs.Deciding.{account_showing, nodes_showing}
 use Rattle.run_rules.specs.Keeping.{RulesTo}
