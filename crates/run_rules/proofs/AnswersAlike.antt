@@ -83,7 +83,7 @@ take_all : (h : List Entry) → take (length h) h ≡ h
 take_all [] = refl
 take_all (e ∷ es) = ap (λ (l : List Entry). e ∷ l) (take_all es)
 
-waits_same : (D : Type 0) → D → (colours : List ℕ) (colour : ℕ) (key : Option Key) (xs ys : List ObjectNode)
+pub waits_same : (D : Type 0) → D → (colours : List ℕ) (colour : ℕ) (key : Option Key) (xs ys : List ObjectNode)
     → AllZip (AreAlike D) xs ys → OfPart colours colour (WaitsFor key) xs → OfPart colours colour (WaitsFor key) ys
 waits_same D d colours colour key xs ys alike p =
     (p.0, p.1, ap (λ (k : Known). k.undecided) (sym (known_same D xs ys alike d (part_at colours p.0))) ∙ p.2)

@@ -1,6 +1,6 @@
 -- What reads found, computed one stamp after another, is what they had to find.
 use Rattle.std.proofs.Common.{◌≡◌, ◌∙◌, refl, ap, sym, subst, false, ℕ, zero, suc, ◌<◌, ◌≤◌, List, [], ◌∷◌, ◌++◌, length, map, take, drop, take-append-drop, Option, Some, None, ◌⊎◌, inl, inr, arith}
-use Rattle.std.specs.Prelude.{◌==◌, max, slice_get, slice_index_or}
+use Rattle.std.specs.Prelude.{◌==◌, slice_get, slice_index_or}
 use Rattle.std.specs.List.{AllZip, fold}
 use Rattle.std.proofs.lemmas.Bool.{cases_lt, eq-eqb, eqb-true}
 use Rattle.log_node.specs.declared.ids.Key.{Key}
@@ -48,7 +48,7 @@ use Rattle.run_rules.specs.Finding.{HasItsFinds, IsFound}
 use Rattle.run_rules.specs.Keeping.{Keeps, RulesTo, all_replies}
 use Rattle.run_rules.specs.Computing.{account_finding, answer_in, answer_to, any_decisions, finds_below, finds_of, found_at, keys_shown, last_read, node_read, nodes_read, stamp_read, versions_told}
 use Rattle.run_rules.specs.Laws.{ComputedFindsAreRight}
-use Rattle.run_rules.proofs.Lists.{map_map, zip_at}
+use Rattle.run_rules.proofs.Lists.{greatest_above, map_map, zip_at}
 use Rattle.run_rules.proofs.Numbers.{keeps_fewer, rule1, rule2, rule3, rule4, rule5, rule9}
 use Rattle.run_rules.proofs.Decided.{found_account_decides}
 use Rattle.run_rules.proofs.FindsAlike.{FoundBelow, KeysStandAbove, SameFound, form_there, keys_above, write, writes_same}
@@ -75,7 +75,7 @@ line_rising own regions h lawful i j d lt there =
       at_index n low = ap (λ (x : List Entry). slice_get (line x) n) (entries_dated own h) ∙ found (line h) n low
 
 -- each key has its node by the log
-nodes_there : (log : Log) (keys : List Key)
+pub nodes_there : (log : Log) (keys : List Key)
     → ((k : Key) → In k keys
     → (node : Node) × (slice_get (log.nodes k.id.client) k.id.count ≡ Some node) × (node.id ≡ k.id))
     → AreObjectNodes log keys (nodes_read log keys)
@@ -95,27 +95,6 @@ nodes_there log (k ∷ ks) f =
     (is, nodes_there log ks (λ m i. f m (inr i)))
 
 -- STAMPS
-
--- the greatest stamp from one on is no less than that, and than any
-abbrev last_from : ℕ → List ReplyLine → ℕ
-last_from stamp replies = fold (λ greatest (r : ReplyLine). max greatest (stamp_read r.answer)) stamp replies
-
-last_above : (rs : List ReplyLine) (z : ℕ)
-    → (z ≤ last_from z rs) × ((r : ReplyLine) → In r rs → stamp_read r.answer ≤ last_from z rs)
-last_above [] z = (omega arith, λ r i. absurd i)
-last_above (x ∷ xs) z =
-    let rest = last_above xs (max z (stamp_read x.answer)) in
-    let low = rest.0 in
-    let left : z ≤ max z (stamp_read x.answer) = omega arith in
-    let right : stamp_read x.answer ≤ max z (stamp_read x.answer) = omega arith in
-    (omega (arith, low, left), λ r i. by r i rest.1 (omega (arith, low, right))) where
-      by : (r : ReplyLine) → (x ≡ r) ⊎ In r xs
-          → ((y : ReplyLine) → In y xs → stamp_read y.answer ≤ last_from (max z (stamp_read x.answer)) xs)
-          → stamp_read x.answer ≤ last_from (max z (stamp_read x.answer)) xs
-          → stamp_read r.answer ≤ last_from (max z (stamp_read x.answer)) xs
-      by r (inl e) more here =
-          subst (λ (y : ReplyLine). stamp_read y.answer ≤ last_from (max z (stamp_read x.answer)) xs) e here
-      by r (inr i) more here = more r i
 
 -- of what was found the keys are those that are shown
 keys_at : (now : ℕ) (log : Log) (caller : Caller) (answer : Answer) (found : List Version) → AreKeysFound found answer
@@ -187,7 +166,7 @@ module _ (script : Script) (report : Report) where
         → stamp_read (answer_in o) ≤ last_read (all_replies report)
     by None e = omega arith
     by (Some r) e =
-        (last_above (all_replies report) 0).1 r
+        (greatest_above (λ (x : ReplyLine). stamp_read x.answer) (all_replies report) 0).1 r
         (in_flat_map-back (λ (d : ClientReport). d.replies) report.clients c r (slice_in report.clients n c there)
         (slice_in c.replies k r (ap (λ (rs : List ReplyLine). slice_get rs k) (sym (ap replies_in there)) ∙ e)))
 
@@ -222,7 +201,7 @@ step_there log caller shown f a (c ∷ cs) (r ∷ rs) (suc k) d lt =
 -- ACCOUNTS
 
 -- keys stand above the nodes of one account where they do so above those of one that agrees
-keys_move : (script : Script) (report : Report) (a b : Account) → IsFitting script → IsTold script report a
+pub keys_move : (script : Script) (report : Report) (a b : Account) → IsFitting script → IsTold script report a
     → IsTold script report b → RulesTo script report a 5 → RulesTo script report b 5 → KeysStandAbove script report a.log
     → KeysStandAbove script report b.log
 keys_move script report a b fits ta tb ra rb above r k has key events i =

@@ -39,7 +39,7 @@ no_change : (decision : Decision) → change_of (decision_text decision) ≡ Non
 no_change decision = refl
 
 -- objects read nodes alike whose texts are the same, or those of decisions
-read_alike : DecisionsArePlain → (p q : Node) → HaveText p q → ReadAlike ⊥ p q
+pub read_alike : DecisionsArePlain → (p q : Node) → HaveText p q → ReadAlike ⊥ p q
 read_alike plain p q h = record {
   form = form_same plain p.text q.text h;
   change = by h;
@@ -50,7 +50,7 @@ read_alike plain p q h = record {
   by (inr d) = ap change_of d.0.1 ∙ (no_change d.0.0 ∙ (sym (no_change d.1.0) ∙ ap change_of (sym d.1.1)))
 
 -- one id has one text
-one_text : (log : Log) (id other : Id) → other ≡ id → (t u : List ℕ) → HasText log id t → HasText log other u → t ≡ u
+pub one_text : (log : Log) (id other : Id) → other ≡ id → (t u : List ℕ) → HasText log id t → HasText log other u → t ≡ u
 one_text log id other e t u a b =
     let there = a.1 in
     let place = ap (λ (i : Id). slice_get (log.nodes i.client) i.count) (sym e) ∙ b.1 in
@@ -62,7 +62,7 @@ module _ (unique : RegionOrderIsUnique) (lawful : RegionOrderIsLawful) (plain : 
   abbrev b : Account
   b = account_finding script report (finds_of script report) decided
 
-  told : IsWellFormed script report → IsTold script report b
+  pub told : IsWellFormed script report → IsTold script report b
   told well = finds_tell script report (nodes_with script report (finds_of script report) decided) (finds_of script report) well
       (found_keys_of script report)
 
@@ -70,17 +70,17 @@ module _ (unique : RegionOrderIsUnique) (lawful : RegionOrderIsLawful) (plain : 
     right : HasItsFinds script report b
     right = computed_finds_are_right lawful plain script report decided fits (a, ta, ra.0)
 
-    eight : IsWellFormed script report × RulesTo script report b 8
+    pub eight : IsWellFormed script report × RulesTo script report b 8
     eight = (found_account_decides script report (finds_of script report) decided fits (found_keys_of script report) 8 (omega arith)
         (omega arith)).0 (a, ta, ra.0.0)
 
-    five : RulesTo script report b 5
+    pub five : RulesTo script report b 5
     five = rules_fewer script report b 8 5 (omega arith) eight.1
 
-    five_told : RulesTo script report a 5
+    pub five_told : RulesTo script report a 5
     five_told = rules_fewer script report a 10 5 (omega arith) ra
 
-    agree : AgreeOnFinds report a b
+    pub agree : AgreeOnFinds report a b
     agree = finds_agree unique plain script report a b fits ta (told eight.0) ra.0 five (finds_are_right script report a ra) right
 
     read : TextsReadAlike ⊥ report a b

@@ -30,10 +30,10 @@ module _ (script : Script) (report : Report) (fits : IsFitting script) (a : Acco
   bare = account_of script report no_nodes
 
   module _ (rules : RulesTo script report a 1) where
-    formed : IsWellFormed script report
+    pub formed : IsWellFormed script report
     formed = rule_one_forms script report a told rules
 
-    first : Rule1 script report bare
+    pub first : Rule1 script report bare
     first = first_alike script report a bare told (reports_tell script report no_nodes formed) (rule1 rules.1)
 
   at_bare : (n : ℕ) → n ≤ 4 → RulesTo script report a n → RulesTo script report bare n

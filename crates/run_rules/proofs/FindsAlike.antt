@@ -1,5 +1,5 @@
 -- What reads found is the same by two told accounts.
-use Rattle.std.proofs.Common.{◌≡◌, ◌∙◌, refl, ap, sym, subst, Bool, true, false, cond, ℕ, zero, suc, ◌<◌, ◌≤◌, List, [], ◌∷◌, map, take, Option, Some, None, ◌⊎◌, inl, inr, arith}
+use Rattle.std.proofs.Common.{◌≡◌, ◌∙◌, refl, ap, sym, subst, Bool, true, false, cond, ℕ, zero, suc, ◌+◌, ◌<◌, ◌≤◌, List, [], ◌∷◌, map, take, Option, Some, None, ◌⊎◌, inl, inr, arith}
 use Rattle.std.specs.Prelude.{◌==◌, max, slice_get, slice_index_or}
 use Rattle.std.specs.List.{All, AllZip, fold}
 use Rattle.std.proofs.lemmas.Bool.{cases_lt, eq-eqb}
@@ -135,7 +135,7 @@ points_floor : (own : ℕ) (kept : Kept) (points : List PointPiece) → (kept_af
 points_floor own kept [] = refl
 points_floor own kept (p ∷ ps) = points_floor own (kept_after_point kept own p.colour p.at p.position) ps
 
-read_floor : (log : Log) (caller : Caller) (kept : Kept) (stamp : ℕ) (raises : List RaisePiece) (syncs : List SyncPiece)
+pub read_floor : (log : Log) (caller : Caller) (kept : Kept) (stamp : ℕ) (raises : List RaisePiece) (syncs : List SyncPiece)
     → (kept.floor ≤ (kept_after_read log caller kept stamp raises syncs).floor)
     × (stamp ≤ (kept_after_read log caller kept stamp raises syncs).floor)
 read_floor log caller kept stamp raises syncs =
@@ -343,7 +343,7 @@ module _ (w : ℕ) (script : Script) (caller : Caller) (one two : Log) where
 -- NODES BELOW A STAMP
 
 -- the node's floor is at the stamp or above, or it has the other's text
-abbrev NodeBelow : ℕ → Node → Node → Type 0
+abbrev pub NodeBelow : ℕ → Node → Node → Type 0
 NodeBelow w p q = (w ≤ p.floor) ⊎ HaveText p q
 
 text_same : (own : List ℕ) (saying : Option Saying) (x y : Colours) (t u : List ℕ) → SaysNode own saying x t
@@ -358,7 +358,7 @@ pub found_by_same : (u : Use) (a b : Kept) → KeepReads a b → found_by u a �
 found_by_same (OfObject object UsesUp) a b same = same object
 found_by_same _ a b same = refl
 
-over_reads : (log : Log) (caller : Caller) (kept : Kept) (answer : Answer)
+pub over_reads : (log : Log) (caller : Caller) (kept : Kept) (answer : Answer)
     → (kept_appending log caller kept answer).reads ≡ kept.reads
 over_reads log caller kept (answers.Decided commits stamp sync read_stamp raises syncs ended) =
     read_reads log caller (kept_after_piece log caller kept sync) read_stamp raises syncs
@@ -556,9 +556,9 @@ module _ (plain : DecisionsArePlain) (script : Script) (report : Report) (a b : 
     AlikeBelow w x y = AreStepsAlike script who x y × SameBelow w x.kept y.kept
 
     at_node : (w : ℕ) (x y : Step) → AlikeBelow w x y → Obeys script a.log who x
-        → HasNode a.log who (over a.log who x) x.command.what → HasNode b.log who (over b.log who y) x.command.what
+        → (kept_past a.log who x).ids ≡ (kept_at x).ids + 1 → HasNode a.log who (over a.log who x) x.command.what → HasNode b.log who (over b.log who y) x.command.what
         → NodesAt (NodeBelow w) (a.log.nodes n) (b.log.nodes n) (over a.log who x).ids
-    at_node w x y r o p q =
+    at_node w x y r o e p q =
         let z : Step = record { command = x.command; reply = x.reply; kept = y.kept; untold = y.untold } in
         let is : y ≡ z = step_with y x.command x.reply r.0.command r.0.reply in
         node_below w who a.log b.log x.command.what (over a.log who x) (over b.log who y)
@@ -567,7 +567,7 @@ module _ (plain : DecisionsArePlain) (script : Script) (report : Report) (a b : 
         (over_below w a.log b.log who (kept_at x) (kept_at z) x.command.what x.reply.answer
         (before_below w x.kept y.kept x.command.what r.1))) p q
 
-    nodes_below : (w : ℕ) → Found w → AllZip (NodeBelow w) (a.log.nodes n) (b.log.nodes n)
+    pub nodes_below : (w : ℕ) → Found w → AllZip (NodeBelow w) (a.log.nodes n) (b.log.nodes n)
     nodes_below w found =
         let of_a = (a5.own n c there).nodes in
         let of_b = (b5.own n c there).nodes in

@@ -57,12 +57,12 @@ use Rattle.run_rules.proofs.ToldAlike.{several_same}
 abbrev IsFoundSame : Step → Step → Type 0
 IsFoundSame x y = FoundSame x.command.what x.reply.answer x.untold.found y.untold.found
 
-same_found : (w : ℕ) (what : What) (answer : Answer) (f g : List Version) → FoundSame what answer f g
+pub same_found : (w : ℕ) (what : What) (answer : Answer) (f g : List Version) → FoundSame what answer f g
     → SameFound w what answer f g
 same_found w (whats.Read object asked) (answers.GotKeys stamp shown raises syncs) f g e = λ lt. e
 same_found w _ _ f g e = tt
 
-before_keep : (what : What) (a b : Kept) → KeepReads a b → KeepReads (kept_before what a) (kept_before what b)
+pub before_keep : (what : What) (a b : Kept) → KeepReads a b → KeepReads (kept_before what a) (kept_before what b)
 before_keep what a b same = by (use_of what) where
   by : (u : Use) → KeepReads (before_by u a) (before_by u b)
   by (OfObject object Takes) = updated_same a b object None None refl same

@@ -4,6 +4,7 @@ mod AppendsTold
 mod BareObjects
 mod CausalAlike
 mod CausesAlike
+mod ByNumber
 mod Computed
 mod ChosenFinds
 mod ComputedFinds
@@ -16,6 +17,9 @@ mod Explaining
 mod Facts
 mod Decided
 mod Deciding
+mod DecisionTexts
+mod DecisionsAlike
+mod DecisionsSaid
 mod EndsTold
 mod FindsAlike
 mod FirstAlike
@@ -47,6 +51,7 @@ mod RulesAlike
 mod RulesLawful
 mod SaidTexts
 mod SameKept
+mod ShownDecides
 mod ShowsAlike
 mod StepsTold
 mod TextsAlike

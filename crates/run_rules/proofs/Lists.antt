@@ -1,7 +1,7 @@
 -- Facts on lists.
-use Rattle.std.proofs.Common.{◌≡◌, ℕ, zero, suc, Bool, true, false, List, [], ◌∷◌, ◌++◌, map, Some, None, refl, ap, sym, ◌∙◌, ◌⊎◌, inl, inr, arith, append-nil, cond, subst}
-use Rattle.std.specs.Prelude.{◌≢◌, slice_get}
-use Rattle.std.specs.List.{All, AllPairs, AllZip, filter, find}
+use Rattle.std.proofs.Common.{◌≡◌, ℕ, zero, suc, ◌≤◌, Bool, true, false, List, [], ◌∷◌, ◌++◌, map, Some, None, refl, ap, sym, ◌∙◌, ◌⊎◌, inl, inr, arith, append-nil, cond, subst}
+use Rattle.std.specs.Prelude.{◌≢◌, max, slice_get}
+use Rattle.std.specs.List.{All, AllPairs, AllZip, filter, find, fold}
 use Rattle.std.proofs.lemmas.List.Elements.{All-nil, All-cons, All-head, All-tail, All-contains}
 use Rattle.col_core.proofs.CallerLemmas.{In, contains_in, slice_in, by_test, if_true, if_false}
 
@@ -123,3 +123,21 @@ zip_at R (z ∷ zs) [] r i x e = absurd r
 zip_at {A} R (z ∷ zs) (y ∷ ys) r zero x e =
     let same : z ≡ x = cc (e) in (y, refl, subst (λ (v : A). R v y) same r.0)
 zip_at R (z ∷ zs) (y ∷ ys) r (suc i) x e = zip_at R zs ys r.1 i x e
+
+-- the greatest of a number and those of items is no less than any
+pub greatest_above : {A : Type 0} (number : A → ℕ) (xs : List A) (from : ℕ)
+    → (from ≤ fold (λ (m : ℕ) (x : A). max m (number x)) from xs)
+    × ((x : A) → In x xs → number x ≤ fold (λ (m : ℕ) (y : A). max m (number y)) from xs)
+greatest_above number [] from = (omega arith, λ x i. absurd i)
+greatest_above {A} number (x ∷ xs) from =
+    let rest = greatest_above number xs (max from (number x)) in
+    let low = rest.0 in
+    let left : from ≤ max from (number x) = omega arith in
+    let right : number x ≤ max from (number x) = omega arith in
+    (omega (arith, low, left), λ y i. by y i rest.1 (omega (arith, low, right))) where
+      all : ℕ
+      all = fold (λ (m : ℕ) (y : A). max m (number y)) (max from (number x)) xs
+
+      by : (y : A) → (x ≡ y) ⊎ In y xs → ((z : A) → In z xs → number z ≤ all) → number x ≤ all → number y ≤ all
+      by y (inl e) more here = subst (λ (z : A). number z ≤ all) e here
+      by y (inr i) more here = more y i

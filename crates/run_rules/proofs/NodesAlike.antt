@@ -210,7 +210,8 @@ of_command script caller {a} {b} s x y t u colours = record {
 -- the nodes that steps use, of steps that are alike
 module _ (script : Script) (caller : Caller) (one two : Log) (Q : Node → Node → Type 0) (R : Step → Step → Type 0)
     (alike : (x y : Step) → R x y → AreStepsAlike script caller x y)
-    (its_node : (x y : Step) → R x y → Obeys script one caller x → HasNode one caller (over one caller x) x.command.what
+    (its_node : (x y : Step) → R x y → Obeys script one caller x → (kept_past one caller x).ids ≡ (kept_at x).ids + 1
+    → HasNode one caller (over one caller x) x.command.what
     → HasNode two caller (over two caller y) x.command.what
     → NodesAt Q (one.nodes caller.client) (two.nodes caller.client) (over one caller x).ids) where
   abbrev ThereAt : ℕ → Type 0
@@ -269,7 +270,7 @@ module _ (script : Script) (caller : Caller) (one two : Log) (Q : Node → Node 
             let o = over_ids one caller (kept_at x) x.reply.answer in
             let is : (over one caller x).ids ≡ i = omega (arith, g, h, o, le, most) in
             subst ThereAt is
-            (its_node x y all.0 (All-head (Obeys script one caller) x xs ox) e.1
+            (its_node x y all.0 (All-head (Obeys script one caller) x xs ox) e.0 e.1
             (subst (λ (c : Command). HasNode two caller (over two caller y) c.what) (sym its.command) f.1))
 
 -- what is kept when a step's node is appended is the same by both
@@ -319,7 +320,7 @@ nodes_agree script report a b fits ta tb a1 a4 agree uses_a uses_b n c there of_
     let home = home_within script report fits a1.names n c there in
     all_at_places AreNodesAlike (a.log.nodes n) (b.log.nodes n) (of_a ∙ (same ∙ sym of_b))
     (λ i lt. nodes_from script caller a.log b.log AreNodesAlike (AreStepsAlike script caller) (λ x y s. s)
-    (λ x y s o p q. node_alike script caller a.log b.log x.command.what
+    (λ x y s o e p q. node_alike script caller a.log b.log x.command.what
     (over_same script fits n a.log b.log agree.histories home (agree.rows caller.own home) x y s o) p q)
     (a.steps n) (b.steps n) _ _ (a.last n) (b.last n)
     (agree.steps n c there) (obeys script fits report a ta a1 a4 n c there) (uses_a n c there)

@@ -53,6 +53,7 @@ use Rattle.run_rules.specs.Answering.{HasPoints, CanEnd, CanHave}
 use Rattle.run_rules.specs.Rules.{HasNode, IsReplyTo, Rule1}
 use Rattle.run_rules.specs.Nodes.{HasItsNodes, nodes_with, HasItsNode, HasNodeAtEnd, any_decision, node_asked, node_at_end, node_said, node_told, nodes_of, nodes_told, set_reached, text_told}
 use Rattle.run_rules.specs.Laws.{NodesAreFound, NodesAreTold, NodesChangeNoStep}
+use Rattle.run_rules.proofs.ByNumber.{Numbered}
 use Rattle.run_rules.proofs.Deciding.{decide_asked}
 use Rattle.run_rules.proofs.Lists.{all_at, all_mapped}
 use Rattle.run_rules.proofs.SameKept.{last_same}
@@ -92,7 +93,7 @@ module _ (report : Report) (x y : ℕ → List Node) (caller : Caller) where
       (stamp_one kept row points)
   told_one untold kept what _ = refl
 
-  past_one : (step : Step) → kept_past one caller step ≡ kept_past two caller step
+  pub past_one : (step : Step) → kept_past one caller step ≡ kept_past two caller step
   past_one step =
       ap (kept_behind step.command.what) (told_one step.untold (kept_at step) step.command.what step.reply.answer)
 
@@ -396,7 +397,7 @@ module _ (script : Script) (fits : IsFitting script) (n : ℕ) where
 
 -- STEPS
 
-behind_ids : (what : What) (kept : Kept) → (kept_behind what kept).ids ≡ kept.ids
+pub behind_ids : (what : What) (kept : Kept) → (kept_behind what kept).ids ≡ kept.ids
 behind_ids what kept = behind_is (λ (k : Kept). k.ids ≡ kept.ids) what kept refl (λ object. refl)
 
 slice_behind : (pre told rest : List Node) (m : Node) → slice_get told 0 ≡ Some m
@@ -431,17 +432,26 @@ module _ (script : Script) (fits : IsFitting script) (n : ℕ) (report : Report)
   abbrev Has : Step → Type 0
   Has s = HasItsNode after it (kept_at s) s.command.what s.reply.answer
 
-  steps_have : (decided : ℕ → Decision) (xs : List Step) (kept last : Kept) → Follow after it kept xs last
+  -- what a step is told to append, where decisions say this
+  abbrev told_by : Decision → Step → List Node
+  told_by decision s = node_told decision before it (kept_at s) s.command.what s.reply.answer
+
+  -- that is there under the client's next id
+  abbrev pub IsToldThere : Decision → Step → Type 0
+  IsToldThere decision s = (m : Node) → slice_get (told_by decision s) 0 ≡ Some m → slice_get (y n) (kept_at s).ids ≡ Some m
+
+  steps_there : (decided : ℕ → Decision) (xs : List Step) (kept last : Kept) → Follow after it kept xs last
       → All (IsReplyTo it) xs
       → All (λ (s : Step). IsFit script s.command) xs → (pre : List Node) → length pre ≡ kept.ids
-      → y n ≡ pre ++ nodes_of decided before it xs → All Has xs × (length (y n) ≡ last.ids)
-  steps_have decided [] kept last follow replies fit pre e all = (
-    All-nil Has,
+      → y n ≡ pre ++ nodes_of decided before it xs
+      → Numbered (λ k s. IsToldThere (decided k) s) xs × (length (y n) ≡ last.ids)
+  steps_there decided [] kept last follow replies fit pre e all = (
+    tt,
     ap length (all ∙ append-nil pre) ∙ (e ∙ ap (λ (k : Kept). k.ids) (sym follow)),
   )
-  steps_have decided (s ∷ ss) kept last follow replies fit pre e all =
+  steps_there decided (s ∷ ss) kept last follow replies fit pre e all =
       let more : ℕ → Decision = λ k. decided (suc k) in
-      let told = node_told (decided 0) before it (kept_at s) s.command.what s.reply.answer in
+      let told = told_by (decided 0) s in
       let reply = All-head (IsReplyTo it) s ss replies in
       let its = All-head (λ (t : Step). IsFit script t.command) s ss fit in
       let same : (kept_at s).ids ≡ kept.ids = ids_at s ∙ ap (λ (k : Kept). k.ids) follow.0 in
@@ -452,18 +462,28 @@ module _ (script : Script) (fits : IsFitting script) (n : ℕ) (report : Report)
       ∙ (adds ∙ ap (λ (k : ℕ). k + length told) same) in
       let long : length (pre ++ told) ≡ (kept_past after it s).ids =
       let l = length-append pre told in omega (arith, l, e, past) in
-      let rest = steps_have more ss (kept_past after it s) last follow.1 (All-tail (IsReplyTo it) s ss replies)
+      let rest = steps_there more ss (kept_past after it s) last follow.1 (All-tail (IsReplyTo it) s ss replies)
       (All-tail (λ (t : Step). IsFit script t.command) s ss fit) (pre ++ told) long
       (all ∙ sym (append_assoc pre told (nodes_of more before it ss))) in (
-        All-cons Has s ss
-            (told_has script fits n (decided 0) s.command.what its.within its.uses report x y s.untold (kept_at s) s.reply.nodes
-            s.reply.answer reply.answer
-            (λ m h. ap (λ (l : List Node). slice_get l (kept_at s).ids) all
-            ∙ (ap (slice_get (pre ++ (told ++ nodes_of more before it ss))) (same ∙ sym e)
-            ∙ slice_behind pre told (nodes_of more before it ss) m h)))
-            rest.0,
+        (
+          λ m h. ap (λ (l : List Node). slice_get l (kept_at s).ids) all
+              ∙ (ap (slice_get (pre ++ (told ++ nodes_of more before it ss))) (same ∙ sym e)
+              ∙ slice_behind pre told (nodes_of more before it ss) m h),
+          rest.0,
+        ),
         rest.1,
       )
+
+  steps_have : (decided : ℕ → Decision) (xs : List Step) → All (IsReplyTo it) xs
+      → All (λ (s : Step). IsFit script s.command) xs → Numbered (λ k s. IsToldThere (decided k) s) xs → All Has xs
+  steps_have decided [] replies fit there = All-nil Has
+  steps_have decided (s ∷ ss) replies fit there =
+      let its = All-head (λ (t : Step). IsFit script t.command) s ss fit in
+      All-cons Has s ss
+      (told_has script fits n (decided 0) s.command.what its.within its.uses report x y s.untold (kept_at s) s.reply.nodes
+      s.reply.answer (All-head (IsReplyTo it) s ss replies).answer there.0)
+      (steps_have (λ k. decided (suc k)) ss (All-tail (IsReplyTo it) s ss replies)
+      (All-tail (λ (t : Step). IsFit script t.command) s ss fit) there.1)
 
 module _ (script : Script) (report : Report) (found : ℕ → ℕ → List Version) (decided : ℕ → ℕ → Decision)
     (fits : IsFitting script) (well : IsWellFormed script report)
@@ -478,26 +498,33 @@ module _ (script : Script) (report : Report) (found : ℕ → ℕ → List Versi
   told : IsTold script report full
   told = finds_tell script report nodes found well keys
 
-  replies : Rule1 script report full
+  pub replies : Rule1 script report full
   replies = first_alike script report (account_of script report no_nodes) full (reports_tell script report no_nodes well) told
       first
 
-  of_client : (n : ℕ) (c : ClientReport) → slice_get report.clients n ≡ Some c
-      → All (Has script fits n report no_nodes nodes) (full.steps n) × (length (nodes n) ≡ (full.last n).ids)
-  of_client n c there =
-      let its = told.clients n c there in
-      let same = finding_one report nodes no_nodes (caller_of script n) (places_shown script report n) (found n) nothing_kept
-      (commands_of script n) (replies_to report n) in
-      steps_have script fits n report no_nodes nodes (decided n) (full.steps n) nothing_kept (full.last n) its.follow
-      (replies.replies n c there)
-      (all_mapped (IsFit script) (λ (s : Step). s.command) (full.steps n)
-      (subst (All (IsFit script)) (sym its.commands) (commands_fit script fits n)))
-      [] refl
-      (ap (nodes_of (decided n) (log_of report no_nodes) (caller_of script n)) (sym same))
+  module _ (n : ℕ) (c : ClientReport) (there : slice_get report.clients n ≡ Some c) where
+    fit : All (λ (s : Step). IsFit script s.command) (full.steps n)
+    fit = all_mapped (IsFit script) (λ (s : Step). s.command) (full.steps n)
+        (subst (All (IsFit script)) (sym (told.clients n c there).commands) (commands_fit script fits n))
+
+    -- the nodes of the client's steps are there, where its decisions say this
+    pub of_client : Numbered (λ k s. IsToldThere script fits n report no_nodes nodes (decided n k) s) (full.steps n)
+        × (length (nodes n) ≡ (full.last n).ids)
+    of_client =
+        let same = finding_one report nodes no_nodes (caller_of script n) (places_shown script report n) (found n) nothing_kept
+        (commands_of script n) (replies_to report n) in
+        steps_there script fits n report no_nodes nodes (decided n) (full.steps n) nothing_kept (full.last n)
+        (told.clients n c there).follow (replies.replies n c there) fit [] refl
+        (ap (nodes_of (decided n) (log_of report no_nodes) (caller_of script n)) (sym same))
 
 pub nodes_are_found : NodesAreFound
 nodes_are_found script report found decided fits well keys first = record {
-  steps = λ n c there. (of_client script report found decided fits well keys first n c there).0;
+  steps = λ n c there.
+      steps_have script fits n report no_nodes (nodes script report found decided fits well keys first) (decided n)
+      ((full script report found decided fits well keys first).steps n)
+      ((replies script report found decided fits well keys first).replies n c there)
+      (fit script report found decided fits well keys first n c there)
+      (of_client script report found decided fits well keys first n c there).0;
   all = λ n c there. (of_client script report found decided fits well keys first n c there).1;
 }
 

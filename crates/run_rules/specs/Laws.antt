@@ -16,6 +16,7 @@ use Rattle.run_rules.specs.Said.{DecisionsShown, ShownCouldBeSaid, nodes_shown}
 use Rattle.run_rules.specs.Nodes.{HasItsNodes, nodes_told, nodes_with}
 use Rattle.run_rules.specs.Finding.{HasItsFinds, AgreeOnFinds, DecisionsSame, FindSame}
 use Rattle.run_rules.specs.Computing.{account_finding, finds_of}
+use Rattle.run_rules.specs.Deciding.{ColoursDiffer, account_deciding, account_showing, decisions_of}
 use Rattle.run_rules.specs.Keeping.{Keeps, RulesTo, IsLeastBroken, HidesNothing, rule_count}
 use Rattle.run_rules.specs.Agreeing.{Agree, AgreeOnNodes}
 
@@ -224,3 +225,22 @@ ComputedFindsKeep = (script : Script) (report : Report) (decided : ℕ → ℕ �
     → DecisionsSame report a (account_finding script report (finds_of script report) decided)
     → RulesTo script report a rule_count
     → RulesTo script report (account_finding script report (finds_of script report) decided) rule_count
+
+-- With the texts that node lines show it decides the rules from the tenth to the thirteenth, whatever decisions say that no line
+-- shows: a report keeps those up to a number where they hold at it.
+abbrev pub ShownFindsDecide : Type 0
+ShownFindsDecide = (script : Script) (report : Report) → IsFitting script → (n : ℕ) → 10 ≤ n → n ≤ 13
+    → Keeps script report n ↔ (IsWellFormed script report × RulesTo script report (account_showing script report) n)
+
+-- There is one family of decisions: each told account that keeps all rules has the texts of those that are computed.
+abbrev pub ToldDecisionsAgree : Type 0
+ToldDecisionsAgree = (script : Script) (report : Report) → IsFitting script → ColoursDiffer script
+    → (a : Account) → IsTold script report a → RulesTo script report a rule_count
+    → DecisionsSame report a (account_deciding script report (decisions_of script report))
+
+-- So the account that is computed with these decides the last rule: a report keeps all rules where they hold at it.
+abbrev pub ComputedDecisionsDecide : Type 0
+ComputedDecisionsDecide = (script : Script) (report : Report) → IsFitting script → ColoursDiffer script
+    → Keeps script report rule_count
+    ↔ (IsWellFormed script report
+    × RulesTo script report (account_deciding script report (decisions_of script report)) rule_count)

@@ -11,4 +11,5 @@ pub mod Keeping
 pub mod Agreeing
 pub mod Said
 pub mod Computing
+pub mod Deciding
 pub mod Laws

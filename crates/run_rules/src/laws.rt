@@ -1,5 +1,5 @@
 // Laws of the rules. Each function does nothing, and its contract is the law.
-ghost use Rattle.run_rules.specs.Laws.{BrokenIsUnlawful, ComputedAccountAgrees, ComputedAccountDecides, ComputedAccountKeeps, ComputedFindsAreRight, ComputedFindsDecide, ComputedFindsKeep, FindsAreRight, FindsDecide, FindsKeep, FindsTell, FirstRulesDecided, FoundAccountDecides, FoundAccountKeeps, LaterRulesDecided, LawfulRunsKeepRules, LeastIsOne, NinthRuleDecided, NodesAreFound, NodesAreTold, NodesChangeNoStep, OneAccountDecides, ReportsTell, RightFindsDecide, RuleOneForms, RulesMakeLawful, SameFindsDecide, ToldAccountsAgree, ToldFindsAgree, ToldNodesAgree};
+ghost use Rattle.run_rules.specs.Laws.{BrokenIsUnlawful, ComputedAccountAgrees, ComputedAccountDecides, ComputedAccountKeeps, ComputedDecisionsDecide, ComputedFindsAreRight, ComputedFindsDecide, ComputedFindsKeep, FindsAreRight, FindsDecide, FindsKeep, FindsTell, FirstRulesDecided, FoundAccountDecides, FoundAccountKeeps, LaterRulesDecided, LawfulRunsKeepRules, LeastIsOne, NinthRuleDecided, NodesAreFound, NodesAreTold, NodesChangeNoStep, OneAccountDecides, ReportsTell, RightFindsDecide, RuleOneForms, RulesMakeLawful, SameFindsDecide, ShownFindsDecide, ToldAccountsAgree, ToldDecisionsAgree, ToldFindsAgree, ToldNodesAgree};
 
 use col_core::region_order_is_unique;
 use part_fold::decisions_are_plain;
@@ -169,6 +169,33 @@ pub fn computed_finds_decide()
 /// It keeps all rules where some told account does that has the texts of its decisions.
 pub fn computed_finds_keep()
     ensures { ComputedFindsKeep }
+{
+    region_order_is_unique();
+    region_order_is_lawful();
+    decisions_are_plain();
+}
+
+/// With the texts that node lines show it decides them whatever other decisions say.
+pub fn shown_finds_decide()
+    ensures { ShownFindsDecide }
+{
+    region_order_is_unique();
+    region_order_is_lawful();
+    decisions_are_plain();
+}
+
+/// What decisions say is computed, one stamp after another: each account that keeps all rules has their texts.
+pub fn told_decisions_agree()
+    ensures { ToldDecisionsAgree }
+{
+    region_order_is_unique();
+    region_order_is_lawful();
+    decisions_are_plain();
+}
+
+/// The account that is computed with what reads found and decisions say decides the last rule.
+pub fn computed_decisions_decide()
+    ensures { ComputedDecisionsDecide }
 {
     region_order_is_unique();
     region_order_is_lawful();
