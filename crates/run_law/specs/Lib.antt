@@ -1,4 +1,5 @@
 pub mod Answered
+pub mod Behind
 pub mod Asking
 pub mod Columns
 pub mod Journals
@@ -6,7 +7,10 @@ pub mod Keepings
 pub mod LeftOpen
 pub mod Listed
 pub mod Lists
+pub mod PlaceTables
 pub mod Proposals
 pub mod RowsBeside
+pub mod Subjects
 pub mod Tables
 pub mod Third
+pub mod Walking

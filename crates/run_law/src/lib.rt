@@ -2,8 +2,11 @@
 #![tactic(auto)]
 
 mod asked;
+mod behind;
 mod can_have;
+mod column_places;
 mod copies;
+mod finals;
 mod going_on;
 mod journals;
 mod keeping;
@@ -13,13 +16,20 @@ mod listing;
 mod made;
 mod object_colours;
 mod pieces;
+mod place_lists;
+mod printed;
 mod row_table;
 mod rows;
+mod step_table;
+mod subject;
 mod texts;
 mod third;
+mod walking;
 
 pub use journals::tracks_of;
 pub use keeping::Keeping;
 pub use laws::{listed_have_lists, lists_are_listed};
 pub use left_open::keeps_eighth;
+pub use subject::Subject;
 pub use third::keeps_third;
+pub use walking::{Check, each_step, walk};

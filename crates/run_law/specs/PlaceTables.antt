@@ -1,0 +1,97 @@
+-- Tables of places: by a number, by an id, and those that replies print.
+use Rattle.std.specs.Prelude.{◌≡◌, Bool, ◌==◌, ◌&&◌, ℕ, ◌+◌, ◌<◌, List, [], ◌∷◌, Option, Some, None, length, map, slice_get, slice_index_or, if◌then◌else◌}
+use Rattle.std.specs.List.{filter, find, list_any}
+use Rattle.log_node.specs.declared.ids.Id.{Id}
+use Rattle.log_node.specs.Order.{same_id}
+use Rattle.log_node.specs.Outcomes.{final_number}
+use Rattle.col_core.specs.declared.Entry.{Entry}
+use Rattle.col_core.specs.Log.{places_of}
+use Rattle.script_text.specs.declared.script.Command.{Command}
+use Rattle.report_text.specs.declared.report.RowReport.{RowReport}
+use Rattle.run_rules.specs.Telling.{is_step_at}
+use Rattle.run_law.specs.declared.finals.Finals.{Finals}
+use Rattle.run_law.specs.declared.finals.RowId.{RowId}
+use Rattle.run_law.specs.declared.printed.Print.{Print}
+use Rattle.run_law.specs.declared.printed.Printed.{Printed}
+use Rattle.run_law.specs.declared.step_table.StepTable.{StepTable}
+
+-- BY A NUMBER
+
+-- the places under a number
+abbrev pub places_at : List (List ℕ) → ℕ → List ℕ
+places_at lists number = slice_index_or lists number []
+
+-- the places of a client's commands, where the first of these has this place
+abbrev pub commands_from : ℕ → ℕ → List Command → List ℕ
+commands_from place client [] = []
+commands_from place client (c ∷ cs) =
+    if c.client == client then place ∷ commands_from (place + 1) client cs else commands_from (place + 1) client cs
+
+-- under each number the places of that client's commands
+pub record AreOfClients (clients : ℕ) (commands : List Command) (lists : List (List ℕ)) : Type 0 where
+  pub many : length lists ≡ clients
+  pub each : (client : ℕ) → client < clients → places_at lists client ≡ commands_from 0 client commands
+
+-- under each number the places of that client's own events
+pub record AreOfMakers (clients : ℕ) (journal : List Entry) (lists : List (List ℕ)) : Type 0 where
+  pub many : length lists ≡ clients
+  pub each : (client : ℕ) → client < clients → places_at lists client ≡ places_of client journal
+
+-- BY AN ID
+
+-- the places of its client's own steps of an id
+abbrev pub own_steps : Id → List Entry → List ℕ
+own_steps id journal = filter (λ p. is_step_at id (slice_get journal p)) (places_of id.client journal)
+
+-- what is found
+abbrev pub listed_or : Option (Id × List ℕ) → List ℕ
+listed_or None = []
+listed_or (Some found) = found.1
+
+-- the places that are kept for an id
+abbrev pub steps_in : StepTable → Id → List ℕ
+steps_in table id = listed_or (find (λ e. same_id e.0 id) table.by_id.entries)
+
+-- those of the own steps of each id
+abbrev pub AreSteps : List Entry → StepTable → Type 0
+AreSteps journal table = (id : Id) → steps_in table id ≡ own_steps id journal
+
+-- WHAT IS PRINTED
+
+-- the same client, column and place
+abbrev pub same_print : Print → Print → Bool
+same_print a b = (a.client == b.client) && ((a.region == b.region) && ((a.colour == b.colour) && (a.place == b.place)))
+
+-- this was put in
+abbrev pub is_printed : Printed → ℕ → ℕ → ℕ → ℕ → Bool
+is_printed table client region colour place =
+    list_any (same_print (record { client = client; region = region; colour = colour; place = place })) table.prints.keys
+
+-- OF ROWS
+
+-- the first row of a region with an id
+abbrev pub row_with : ℕ → Id → List RowReport → Option RowReport
+row_with region id rows = find (λ (r : RowReport). (r.region == region) && same_id id r.id) rows
+
+-- its final number; 0 where there is none
+abbrev pub final_of : Option RowReport → ℕ
+final_of None = 0
+final_of (Some r) = final_number r.last
+
+-- the same region and id
+abbrev pub same_row : ℕ → Id → ℕ → Id → Bool
+same_row r other region id = (region == r) && same_id other id
+
+-- a number that is kept; 0 where none is
+abbrev pub number_or : Option (RowId × ℕ) → ℕ
+number_or None = 0
+number_or (Some found) = found.1
+
+-- the number that is kept for a row
+abbrev pub final_in : Finals → ℕ → Id → ℕ
+final_in finals region id =
+    number_or (find (λ (e : RowId × ℕ). same_row region id e.0.region e.0.id) finals.by_row.entries)
+
+-- those of the first row of each region and id
+abbrev pub AreFinals : List RowReport → Finals → Type 0
+AreFinals rows finals = (region : ℕ) (id : Id) → final_in finals region id ≡ final_of (row_with region id rows)
