@@ -4,12 +4,14 @@ mod ClosingLemmas
 mod ColumnPlaces
 mod CopiesLemmas
 mod CopyLemmas
+mod FifthLaws
 mod HeadLemmas
 mod LeftLemmas
 mod ListedLaws
 mod ListedLemmas
 mod Lists
 mod Members
+mod NodeRows
 mod Once
 mod OrderLemmas
 mod PastLemmas
@@ -21,3 +23,4 @@ mod Shards
 mod TableLemmas
 mod ThirdLemmas
 mod ToldLemmas
+mod UsedIds

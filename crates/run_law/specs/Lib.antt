@@ -2,6 +2,7 @@ pub mod Answered
 pub mod Behind
 pub mod Asking
 pub mod Columns
+pub mod Fifth
 pub mod Journals
 pub mod Keepings
 pub mod LeftOpen

@@ -6,6 +6,7 @@ mod behind;
 mod can_have;
 mod column_places;
 mod copies;
+mod fifth;
 mod finals;
 mod going_on;
 mod journals;

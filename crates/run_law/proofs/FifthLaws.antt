@@ -1,0 +1,278 @@
+-- The fifth rule, at the account with the nodes of the commands, is what is looked at of steps and rows.
+use Rattle.std.proofs.Common.{◌≡◌, ◌⊎◌, ◌∙◌, refl, ap, sym, subst, Bool, true, false, ℕ, zero, suc, ◌+◌, ◌<◌, ◌≤◌, List, [], ◌∷◌, length, map, get_or, Option, Some, None, inl, inr, arith}
+use Rattle.std.specs.Prelude.{◌≢◌, ◌↔◌, ◌==◌, IsTrue, nat_lt, slice_get}
+use Rattle.std.specs.List.{All, AllPairs, filter, list_any, range_with_len}
+use Rattle.std.proofs.lemmas.Bool.{lt-ltb, eqb-true, eq-eqb}
+use Rattle.std.proofs.lemmas.List.{length-map}
+use Rattle.std.proofs.lemmas.List.Elements.{All-contains}
+use Rattle.std.proofs.lemmas.Option.{slice_get_within}
+use Rattle.log_node.specs.declared.ids.Id.{Id}
+use Rattle.log_node.specs.declared.ids.Row.{Row}
+use Rattle.log_node.specs.declared.ids.Colours.{Colours}
+use Rattle.log_node.specs.declared.ids.Counts.{Counts}
+use Rattle.log_node.specs.declared.node.Node.{Node}
+use Rattle.log_node.specs.declared.marks.Mark.{Mark}
+use Rattle.log_node.specs.declared.marks.Mark.TheVariants as marks
+use Rattle.log_node.specs.declared.marks.Why.TheVariants.{Memory, StampEnd}
+use Rattle.log_node.specs.declared.marks.ColourMark.{ColourMark}
+use Rattle.log_node.specs.Sets.{members}
+use Rattle.log_node.proofs.CallerLemmas.{get_within, same_some}
+use Rattle.col_core.specs.declared.Event.{Event}
+use Rattle.col_core.specs.declared.Event.TheVariants.{Single, Propose, Settle, Raise, Give, Carry, Trim}
+use Rattle.col_core.specs.declared.Entry.{Entry}
+use Rattle.col_core.specs.History.{IsAtEnd}
+use Rattle.col_core.specs.Ids.{Proposes}
+use Rattle.col_core.specs.Log.{Log}
+use Rattle.col_core.specs.Keeping.{Kept, nothing_kept}
+use Rattle.col_core.specs.Rows.{BegunRow, AreLawfulRows, FitsMarks, FitsRow, FitsRows, IsMarkOf, is_of, node_wants, wants_of}
+use Rattle.col_core.proofs.CallerLemmas.{In, all_in, any_in, contains_in, in_contains, in_filter, in_filter-back, in_map, in_map-back, in_slice, slice_in}
+use Rattle.script_text.specs.declared.commands.What.{What}
+use Rattle.script_text.specs.declared.script.Script.{Script}
+use Rattle.script_text.specs.Commands.{use_of}
+use Rattle.script_text.specs.Fitting.{IsFitting}
+use Rattle.report_text.specs.declared.report.Answer.{Answer}
+use Rattle.report_text.specs.declared.report.Answer.TheVariants as answers
+use Rattle.report_text.specs.declared.report.Ended.{Ended}
+use Rattle.report_text.specs.declared.report.Ended.TheVariants as ends
+use Rattle.report_text.specs.declared.report.PointPiece.{PointPiece}
+use Rattle.report_text.specs.declared.report.ClientReport.{ClientReport}
+use Rattle.report_text.specs.declared.report.Report.{Report}
+use Rattle.report_text.specs.declared.report.RowReport.{RowReport}
+use Rattle.lawful_run.specs.Callers.{Caller, caller_of, commands_of, node_of, row_taken}
+use Rattle.lawful_run.specs.Asks.{object_colours, kind_asked}
+use Rattle.lawful_run.specs.Columns.{IsClientIn}
+use Rattle.lawful_run.specs.Deeds.{Reach, NoColours, Named, One, ShardsOf, Whole, Listed, ShardThenWhole, Reaches, Saying, SaysNode, AsksToAppend, colours_reached, found_by, saying_of}
+use Rattle.run_rules.specs.Told.{Account, Step, OfEachStep, colours_asked, colours_said, is_several, kept_at, kept_deciding}
+use Rattle.run_rules.specs.Telling.{IsWellFormed, account_of, is_in, journal_among, log_of, marked_colours, no_nodes, places_shown, replies_to, row_of}
+use Rattle.run_rules.specs.Rules.{EntersAsNode, HasNode, HasOwnNodes, Rule1, Rule3, Rule5, UsesEnd, UsesNode}
+use Rattle.run_rules.specs.Nodes.{HasItsNode, HasItsNodes, HasNodeAtEnd, nodes_told}
+use Rattle.run_rules.specs.Keeping.{RulesTo, five}
+use Rattle.run_rules.specs.Laws.{ComputedAccountAgrees, NodesAreTold, NodesChangeNoStep}
+use Rattle.run_rules.proofs.CallerLemmas.{reports_tell, rule1, rule3, rule5}
+use Rattle.run_law.specs.Fifth.{EntersBeside, EntersItsNodes, EntersNode, FencesNode, FifthIsEntering, Finding, HasItsRows, HasNextRow, IsNextRow, MarksNext, OfEnd, OfNode, ProposesNode, next_id, row_ids}
+use Rattle.run_law.specs.PlaceTables.{row_with}
+use Rattle.run_law.specs.Proposals.{proposal, proposes}
+use Rattle.run_law.specs.RowsBeside.{HaveOwnIds, is_by, rows_by}
+use Rattle.run_law.specs.Third.{rows_in}
+use Rattle.run_law.specs.Walking.{Walked}
+use Rattle.run_law.proofs.Lists.{Finds, find_cases}
+use Rattle.run_law.proofs.NodeRows.{found_row, full, full_id, full_node, pairs_onto, row_found, rows_mapped}
+use Rattle.run_law.proofs.NodeRows as beside
+use Rattle.run_law.proofs.ProposalLemmas.{proposes_is}
+use Rattle.run_law.proofs.RowLemmas.{mapped_back, wants_among}
+use Rattle.run_law.proofs.UsedIds.{each_used}
+
+-- WHAT IS ASKED OF A NODE
+
+-- a node that a command appends has the colours that are asked for
+reached_colours : (own : List ℕ) (reach : Reach) (colours : Colours) → Reaches own reach colours
+    → members colours ≡ colours_reached own reach
+reached_colours own (Named asked) colours is = ap members is
+reached_colours own NoColours colours is = is
+reached_colours own (One colour) colours is = is
+reached_colours own (ShardsOf keys) colours is = is
+reached_colours own Whole colours is = is
+reached_colours own Listed colours is = is
+reached_colours own (ShardThenWhole key) colours is = is
+
+said_colours : (own : List ℕ) (saying : Option Saying) (colours : Colours) (text : List ℕ) → SaysNode own saying colours text
+    → members colours ≡ colours_said own saying
+said_colours own None colours text says = absurd says
+said_colours own (Some saying) colours text says = reached_colours own saying.reach colours says.0
+
+pub node_colours : (caller : Caller) (kept : Kept) (what : What) (colours : Colours) (text : List ℕ)
+    → AsksToAppend caller kept what colours text → members colours ≡ colours_asked caller kept what
+node_colours caller kept what colours text asks =
+    said_colours (object_colours (kind_asked caller what))
+    (saying_of (kind_asked caller what) (found_by (use_of what) kept) what) colours text asks
+
+-- of a report, with these nodes
+module _ (script : Script) (report : Report) (nodes : ℕ → List Node) (caller : Caller) (what : What) (find : Finding) where
+  abbrev bare_log : Log
+  bare_log = log_of report no_nodes
+
+  abbrev full_log : Log
+  full_log = log_of report nodes
+
+  abbrev Beside : Kept → Option ℕ → List PointPiece → Type 0
+  Beside = EntersBeside find script.shape.colours bare_log caller what
+
+  -- the command's node is there, and what is asked of it holds
+  abbrev pub IsThere : Kept → Option ℕ → List PointPiece → Type 0
+  IsThere kept row points = HasNode full_log caller kept what × Beside kept row points
+
+  module _ (kept : Kept) where
+    end_there : (middle : Kept) (ended : Ended) → HasNodeAtEnd full_log caller middle what ended → OfEnd Beside middle ended
+        → OfEnd IsThere middle ended
+    end_there middle (ends.Stood stamp point) has asked = (has, asked)
+    end_there middle _ has asked = tt
+
+    pub there : (answer : Answer) → HasItsNode full_log caller kept what answer → OfNode Beside bare_log caller kept what answer
+        → OfNode IsThere bare_log caller kept what answer
+    there (answers.Stood stamp row points) has asked = (has, asked)
+    there (answers.StampEnd colour) has asked = λ t. (has t, asked t)
+    there (answers.Stopped zero) has asked = tt
+    there (answers.Stopped (suc steps)) has asked = (has, asked)
+    there (answers.Ruled conflict stamp row points read_stamp raises syncs) has asked = (has, asked)
+    there (answers.Changed failed stamp row points read_stamp raises syncs) has asked = (has, asked)
+    there (answers.Took value point sync) has asked = (has, asked)
+    there (answers.Decided commits stamp sync read_stamp raises syncs ended) has asked =
+        end_there (kept_deciding full_log caller kept sync read_stamp raises syncs) ended has asked
+    there _ has asked = tt
+
+    -- then it is used as the rule asks
+    end_uses : (middle : Kept) (ended : Ended) → OfEnd IsThere middle ended → UsesEnd full_log caller middle what ended
+    end_uses middle (ends.Stood stamp point) is = (is.0, is.1.enters)
+    end_uses middle _ is = tt
+
+    pub uses : (answer : Answer) → OfNode IsThere bare_log caller kept what answer → UsesNode full_log caller kept what answer
+    uses (answers.Stood stamp row points) is = (is.0, is.1.enters)
+    uses (answers.StampEnd colour) is = λ t. (is t).0
+    uses (answers.Stopped zero) is = tt
+    uses (answers.Stopped (suc steps)) is = is.0
+    uses (answers.Ruled conflict stamp row points read_stamp raises syncs) is = (is.0, is.1.enters)
+    uses (answers.Changed failed stamp row points read_stamp raises syncs) is = (is.0, is.1.enters)
+    uses (answers.Took value point sync) is = (is.0, is.1.enters)
+    uses (answers.Decided commits stamp sync read_stamp raises syncs ended) is =
+        end_uses (kept_deciding full_log caller kept sync read_stamp raises syncs) ended is
+    uses _ is = tt
+
+    -- and where it is used so, all that is asked holds where rows do
+    module _ (rows : (k : Kept) → HasNode full_log caller k what
+        → HasNextRow script.shape.colours bare_log caller k (colours_asked caller k what) (find caller.own (next_id caller k))) where
+      beside_of : (k : Kept) (row : Option ℕ) (points : List PointPiece) → HasNode full_log caller k what
+          → EntersAsNode full_log caller k row points → Beside k row points
+      beside_of k row points has enters = record { enters = enters; beside = rows k has }
+
+      end_asked : (middle : Kept) (ended : Ended) → UsesEnd full_log caller middle what ended → OfEnd Beside middle ended
+      end_asked middle (ends.Stood stamp point) is = beside_of middle None (point ∷ []) is.0 is.1
+      end_asked middle _ is = tt
+
+      pub asked : (answer : Answer) → UsesNode full_log caller kept what answer → OfNode Beside bare_log caller kept what answer
+      asked (answers.Stood stamp row points) is = beside_of kept row points is.0 is.1
+      asked (answers.StampEnd colour) is = λ t. beside_of kept None [] (is t) tt
+      asked (answers.Stopped zero) is = tt
+      asked (answers.Stopped (suc steps)) is = beside_of kept None [] is tt
+      asked (answers.Ruled conflict stamp row points read_stamp raises syncs) is = beside_of kept row points is.0 is.1
+      asked (answers.Changed failed stamp row points read_stamp raises syncs) is = beside_of kept row points is.0 is.1
+      asked (answers.Took value point sync) is = beside_of kept None (point ∷ []) is.0 is.1
+      asked (answers.Decided commits stamp sync read_stamp raises syncs ended) is =
+          end_asked (kept_deciding full_log caller kept sync read_stamp raises syncs) ended is
+      asked _ is = tt
+
+-- what a node wants of a colour of its own
+wants_own : (w : ℕ → Counts) (cs : List ℕ) (c : ℕ) → In c cs → wants_of cs (map w cs) c ≡ w c
+wants_own w cs c i = wants_among cs w c (any_in (λ (m : ℕ). m == c) cs c i (eq-eqb c c refl))
+
+-- THE RULE FROM WHAT IS ASKED
+
+module _ (are_told : NodesAreTold) (same_steps : NodesChangeNoStep) (agrees : ComputedAccountAgrees) (script : Script)
+    (report : Report) (fits : IsFitting script) (well : IsWellFormed script report)
+    (rules : RulesTo script report (account_of script report no_nodes) 4) where
+  abbrev own_nodes : ℕ → List Node
+  own_nodes = nodes_told script report
+
+  abbrev bare : Account
+  bare = account_of script report no_nodes
+
+  abbrev whole : Account
+  whole = account_of script report own_nodes
+
+  abbrev walked : Walked
+  walked = record { script = script; report = report }
+
+  abbrev finding : Finding
+  finding region id = row_with region id report.rows
+
+  abbrev C : ℕ
+  C = script.shape.colours
+
+  first : Rule1 script report bare
+  first = rule1 rules.0.0.0.1
+
+  third : Rule3 script bare
+  third = rule3 rules.0.1
+
+  has_nodes : HasItsNodes script report whole
+  has_nodes = are_told script report fits well first
+
+  -- a client of the script has replies
+  client_there : (region client : ℕ) → IsClientIn script region client → (c : ClientReport) × (slice_get report.clients client ≡ Some c)
+  client_there region client is =
+      let names = ap length first.names in
+      let long = length-map report.clients (λ (c : ClientReport). c.name) in
+      let many = fits.clients in
+      let lt = is.0 in
+      get_within report.clients client (omega (arith, names, long, many, lt))
+
+  -- both accounts have the same steps
+  of_steps : (P : Step → Type 0) (n : ℕ) → All P (bare.steps n) → All P (whole.steps n)
+  of_steps P n all = subst (All P) (sym (same_steps script report own_nodes n).0) all
+
+  to_steps : (P : Step → Type 0) (n : ℕ) → All P (whole.steps n) → All P (bare.steps n)
+  to_steps P n all = subst (All P) (same_steps script report own_nodes n).0 all
+
+  -- rows of a client, in its region
+  ids_in : (n : ℕ) (r : RowReport) → In r (rows_in (caller_of script n).own report.rows) → r.row.client ≡ n
+      → In r.id.count (row_ids script n report.rows)
+  ids_in n r i e =
+      in_map-back (λ (x : RowReport). x.id.count) (rows_by n (rows_in (caller_of script n).own report.rows)) r
+      (in_filter-back (is_by n) r (rows_in (caller_of script n).own report.rows) i (eq-eqb r.row.client n e))
+
+  module _ (is : EntersItsNodes script report) where
+    -- all steps have their nodes, and rows beside them
+    all_there : (n : ℕ) (c : ClientReport) → slice_get report.clients n ≡ Some c
+        → All (λ (s : Step). OfNode (IsThere script report own_nodes (caller_of script n) s.command.what finding)
+        (log_of report no_nodes) (caller_of script n) (kept_at s) s.command.what s.reply.answer) (bare.steps n)
+    all_there n c at k d lt =
+        let s = get_or (bare.steps n) k d in
+        there script report own_nodes (caller_of script n) s.command.what finding (kept_at s) s.reply.answer
+        (to_steps (λ (s : Step). HasItsNode whole.log (caller_of script n) (kept_at s) s.command.what s.reply.answer) n
+        (has_nodes.steps n c at) k d lt)
+        (is.steps n c at k d lt)
+
+    -- the node of a row of a client
+    pub record IsNodeOf (n : ℕ) (r : RowReport) : Type 0 where
+      pub kept : Kept
+      pub what : What
+      pub colours : Colours
+      pub text : List ℕ
+      pub ids : kept.ids ≡ r.id.count
+      pub at : slice_get (own_nodes n) r.id.count ≡ Some (node_of (caller_of script n) kept colours text)
+      pub next : IsNextRow script.shape.colours bare.log (caller_of script n) kept (members colours) r
+
+    node_there : (region : ℕ) → region < script.shape.regions → (r : RowReport) → In r (rows_in region report.rows)
+        → IsNodeOf r.row.client r
+    node_there region lt r i =
+        let client = beside.client_of script report no_nodes third region lt r i in
+        let n = r.row.client in
+        let c = client_there region n client in
+        let j : In r (rows_in (caller_of script n).own report.rows) =
+        subst (λ (g : ℕ). In r (rows_in g report.rows)) (sym client.1) i in
+        let low : r.id.count < (bare.last n).ids =
+        All-contains (λ (count : ℕ). count < (bare.last n).ids) (row_ids script n report.rows) r.id.count (is.rows n c.0 c.1).used
+        (contains_in (row_ids script n report.rows) r.id.count (ids_in n r j refl)) in
+        let used = each_used (log_of report no_nodes) (caller_of script n) (places_shown script report n)
+        (λ w. IsThere script report own_nodes (caller_of script n) w finding) nothing_kept (commands_of script n)
+        (replies_to report n) (all_there n c.0 c.1) r.id.count (omega arith) low in
+        let k = used.1 in
+        let has = used.5.0 in
+        let same : r.id ≡ next_id (caller_of script n) k =
+        ap (λ (m : ℕ). let d : Id = record { client = m; count = r.id.count } in d)
+        (beside.own_id script report no_nodes third region lt r i)
+        ∙ ap (λ (m : ℕ). let d : Id = record { client = n; count = m } in d) (sym used.4) in
+        let found : row_with (caller_of script n).own (next_id (caller_of script n) k) report.rows ≡ Some r =
+        row_found report.rows (caller_of script n).own
+        (subst (λ (g : ℕ). HaveOwnIds (rows_in g report.rows)) (sym client.1)
+        (beside.ids_apart script report no_nodes third region lt)) (next_id (caller_of script n) k) r j same in
+        let next = subst (HasNextRow C bare.log (caller_of script n) k (colours_asked (caller_of script n) k used.0)) found used.5.1.beside in
+        record {
+          kept = k;
+          what = used.0;
+          colours = has.0;
+          text = has.1;
+          ids = used.4;
+          at = ap (slice_get (own_nodes n)) (sym used.4) ∙ has.3;
+          next = subst (λ (cs : List ℕ). IsNextRow C bare.log (caller_of script n) k cs r)
+              (sym (node_colours (caller_of script n) k used.0 has.0 has.1 has.2)) next;
+        }
