@@ -2,7 +2,7 @@
 use Rattle.std.proofs.Common.{◌≡◌, ◌⊎◌, ◌∙◌, refl, ap, sym, subst, Bool, true, false, ℕ, zero, suc, ◌+◌, ◌<◌, ◌≤◌, List, [], ◌∷◌, length, map, get_or, Option, Some, None, inl, inr, arith}
 use Rattle.std.specs.Prelude.{◌≢◌, ◌↔◌, ◌==◌, IsTrue, nat_lt, slice_get}
 use Rattle.std.specs.List.{All, AllPairs, filter, list_any, range_with_len}
-use Rattle.std.proofs.lemmas.Bool.{lt-ltb, eqb-true, eq-eqb}
+use Rattle.std.proofs.lemmas.Bool.{lt-ltb, eqb-true, eq-eqb, true≢false}
 use Rattle.std.proofs.lemmas.List.{length-map}
 use Rattle.std.proofs.lemmas.List.Elements.{All-contains}
 use Rattle.std.proofs.lemmas.Option.{slice_get_within}
@@ -16,7 +16,7 @@ use Rattle.log_node.specs.declared.marks.Mark.TheVariants as marks
 use Rattle.log_node.specs.declared.marks.Why.TheVariants.{Memory, StampEnd}
 use Rattle.log_node.specs.declared.marks.ColourMark.{ColourMark}
 use Rattle.log_node.specs.Sets.{members}
-use Rattle.log_node.proofs.CallerLemmas.{get_within, same_some}
+use Rattle.log_node.proofs.CallerLemmas.{get_map, get_map_back, get_within, same_some}
 use Rattle.col_core.specs.declared.Event.{Event}
 use Rattle.col_core.specs.declared.Event.TheVariants.{Single, Propose, Settle, Raise, Give, Carry, Trim}
 use Rattle.col_core.specs.declared.Entry.{Entry}
@@ -25,7 +25,7 @@ use Rattle.col_core.specs.Ids.{Proposes}
 use Rattle.col_core.specs.Log.{Log}
 use Rattle.col_core.specs.Keeping.{Kept, nothing_kept}
 use Rattle.col_core.specs.Rows.{BegunRow, AreLawfulRows, FitsMarks, FitsRow, FitsRows, IsMarkOf, is_of, node_wants, wants_of}
-use Rattle.col_core.proofs.CallerLemmas.{In, all_in, any_in, contains_in, in_contains, in_filter, in_filter-back, in_map, in_map-back, in_slice, slice_in}
+use Rattle.col_core.proofs.CallerLemmas.{In, all_in, any_in, contains_in, if_true, in_contains, in_filter, in_filter-back, in_map, in_map-back, in_slice, slice_in}
 use Rattle.script_text.specs.declared.commands.What.{What}
 use Rattle.script_text.specs.declared.script.Script.{Script}
 use Rattle.script_text.specs.Commands.{use_of}
@@ -58,7 +58,7 @@ use Rattle.run_law.specs.Walking.{Walked}
 use Rattle.run_law.proofs.Lists.{Finds, find_cases}
 use Rattle.run_law.proofs.NodeRows.{found_row, full, full_id, full_node, pairs_onto, row_found, rows_mapped}
 use Rattle.run_law.proofs.NodeRows as beside
-use Rattle.run_law.proofs.ProposalLemmas.{proposes_is}
+use Rattle.run_law.proofs.ProposalLemmas.{proposed_by, proposes_is}
 use Rattle.run_law.proofs.RowLemmas.{mapped_back, wants_among}
 use Rattle.run_law.proofs.UsedIds.{each_used}
 
@@ -164,6 +164,40 @@ module _ (script : Script) (report : Report) (nodes : ℕ → List Node) (caller
 wants_own : (w : ℕ → Counts) (cs : List ℕ) (c : ℕ) → In c cs → wants_of cs (map w cs) c ≡ w c
 wants_own w cs c i = wants_among cs w c (any_in (λ (m : ℕ). m == c) cs c i (eq-eqb c c refl))
 
+-- a mark of a node is one of another with its id, where its column leaves no stamp for that one's floor either
+mark_moved : (history : List Entry) (x y : Node) → x.id ≡ y.id → (floor : ℕ) → y.floor ≡ floor → (mark : Mark)
+    → FencesNode history floor mark → IsMarkOf history x mark → IsMarkOf history y mark
+mark_moved history x y e floor is marks.None fenced m = subst (λ (i : Id). (stamp : ℕ) → Proposes history i stamp → ⊥) e m
+mark_moved history x y e floor is (marks.Number s) fenced m = subst (λ (i : Id). Proposes history i s) e m
+mark_moved history x y e floor is (marks.Fenced Memory) fenced m =
+    subst (λ (i : Id). (stamp : ℕ) → Proposes history i stamp → ⊥) e m
+mark_moved history x y e floor is (marks.Fenced StampEnd) fenced m =
+    (subst (λ (i : Id). (stamp : ℕ) → Proposes history i stamp → ⊥) e m.0, subst (IsAtEnd history) (sym is) fenced)
+
+-- each client's rows are in order with whatever nodes
+numbers_with : (script : Script) (report : Report) (nodes : ℕ → List Node) (rows : List RowReport)
+    → map (λ (x : BegunRow). x.row.number) (map (full script report nodes) rows) ≡ map (λ (r : RowReport). r.row.number) rows
+numbers_with script report nodes [] = refl
+numbers_with script report nodes (r ∷ rs) = ap (λ (l : List ℕ). r.row.number ∷ l) (numbers_with script report nodes rs)
+
+in_order_with : (script : Script) (report : Report) (one other : ℕ → List Node) (rows : List RowReport) (client : ℕ)
+    → map (λ (x : BegunRow). x.row.number) (filter (is_of client) (map (full script report one) rows))
+    ≡ range_with_len 0 (length (filter (is_of client) (map (full script report one) rows)))
+    → map (λ (x : BegunRow). x.row.number) (filter (is_of client) (map (full script report other) rows))
+    ≡ range_with_len 0 (length (filter (is_of client) (map (full script report other) rows)))
+in_order_with script report one other rows client order =
+    let x = rows_mapped (full script report one) (λ r. refl) client rows in
+    let y = rows_mapped (full script report other) (λ r. refl) client rows in
+    ap (map (λ (z : BegunRow). z.row.number)) y
+    ∙ (numbers_with script report other (rows_by client rows)
+    ∙ (sym (numbers_with script report one (rows_by client rows))
+    ∙ (ap (map (λ (z : BegunRow). z.row.number)) (sym x)
+    ∙ (order
+    ∙ ap (range_with_len 0)
+    (ap length x
+    ∙ (length-map (rows_by client rows) (full script report one)
+    ∙ (sym (length-map (rows_by client rows) (full script report other)) ∙ sym (ap length y))))))))
+
 -- THE RULE FROM WHAT IS ASKED
 
 module _ (are_told : NodesAreTold) (same_steps : NodesChangeNoStep) (agrees : ComputedAccountAgrees) (script : Script)
@@ -204,6 +238,15 @@ module _ (are_told : NodesAreTold) (same_steps : NodesChangeNoStep) (agrees : Co
       let many = fits.clients in
       let lt = is.0 in
       get_within report.clients client (omega (arith, names, long, many, lt))
+
+  -- and its region is one of the shape
+  home_low : (n : ℕ) (c : ClientReport) → slice_get report.clients n ≡ Some c → (caller_of script n).own < script.shape.regions
+  home_low n c at =
+      let names = ap length first.names in
+      let long = length-map report.clients (λ (x : ClientReport). x.name) in
+      let many = fits.clients in
+      let lt = slice_get_within report.clients n c at in
+      fits.shape.homes n 0 (omega (arith, names, long, many, lt))
 
   -- both accounts have the same steps
   of_steps : (P : Step → Type 0) (n : ℕ) → All P (bare.steps n) → All P (whole.steps n)
@@ -276,3 +319,216 @@ module _ (are_told : NodesAreTold) (same_steps : NodesChangeNoStep) (agrees : Co
           next = subst (λ (cs : List ℕ). IsNextRow C bare.log (caller_of script n) k cs r)
               (sym (node_colours (caller_of script n) k used.0 has.0 has.1 has.2)) next;
         }
+
+    module _ (region : ℕ) (lt : region < script.shape.regions) where
+      abbrev rows : List RowReport
+      rows = rows_in region report.rows
+
+      abbrev b : RowReport → BegunRow
+      b = full script report no_nodes
+
+      abbrev f : RowReport → BegunRow
+      f = full script report own_nodes
+
+      abbrev h : ℕ → List Entry
+      h = journal_among report.columns region
+
+      low : AreLawfulRows region script.shape.colours h (map b rows)
+      low = third.lawful region lt
+
+      module _ (r : RowReport) (i : In r rows) where
+        m : IsNodeOf r.row.client r
+        m = node_there region lt r i
+
+        abbrev who : Caller
+        who = caller_of script r.row.client
+
+        abbrev node : Node
+        node = node_of who m.kept m.colours m.text
+
+        bare_fit : FitsRow region (b r)
+        bare_fit = beside.fit_of script report no_nodes third region lt r i
+
+        own_id : r.id.client ≡ r.row.client
+        own_id = beside.own_id script report no_nodes third region lt r i
+
+        home : who.own ≡ region
+        home = (beside.client_of script report no_nodes third region lt r i).1
+
+        same_id : next_id who m.kept ≡ r.id
+        same_id =
+            ap (λ (k : ℕ). let d : Id = record { client = k; count = m.kept.ids } in d) (sym own_id)
+            ∙ ap (λ (k : ℕ). let d : Id = record { client = r.id.client; count = k } in d) m.ids
+
+        its_node : (f r).node ≡ node
+        its_node = full_node script report own_nodes r node
+            (ap (λ (k : ℕ). slice_get (own_nodes k) r.id.count) own_id ∙ m.at) same_id
+
+        node_at : slice_get (own_nodes r.row.client) (f r).node.id.count ≡ Some (f r).node
+        node_at =
+            ap (λ (d : Id). slice_get (own_nodes r.row.client) d.count) (full_id script report own_nodes r)
+            ∙ (m.at ∙ ap (λ (n : Node). Some n) (sym its_node))
+
+        colours_of : marked_colours r.marks ≡ members (f r).node.colours
+        colours_of = m.next.colours_are ∙ ap (λ (n : Node). members n.colours) (sym its_node)
+
+        two : 2 ≤ length (members m.colours)
+        two =
+            let one = ap length (sym m.next.colours_are ∙ bare_fit.a_mark_each) in
+            let some = bare_fit.several in
+            omega (arith, one, some)
+
+        its_fit : FitsRow region (f r)
+        its_fit = record {
+          client = ap (λ (d : Id). d.client) (full_id script report own_nodes r) ∙ own_id;
+          row = ap (λ (n : Node). n.row) its_node
+              ∙ (if_true (nat_lt 1 (length (members m.colours))) (Some (record { client = r.row.client; number = m.kept.rows })) None
+              (lt-ltb 1 (length (members m.colours)) (let t = two in omega (arith, t)))
+              ∙ ap (λ (w : Row). Some w) (sym m.next.row));
+          in_region = ap (λ (n : Node). n.region) its_node ∙ home;
+          several = subst (λ (n : Node). 2 ≤ length (members n.colours)) (sym its_node) two;
+          a_mark_each = colours_of;
+        }
+
+        -- marks
+        its_next : (k : ColourMark) → In k r.marks → MarksNext script.shape.colours bare.log who m.kept k
+        its_next k j = All-contains (MarksNext script.shape.colours bare.log who m.kept) r.marks k m.next.marks_are (contains_in r.marks k j)
+
+        its_mark : (k : ColourMark) → In k r.marks → IsMarkOf (h k.colour) (f r).node k.mark
+        its_mark k j = mark_moved (h k.colour) (b r).node (f r).node (sym (full_id script report own_nodes r)) m.kept.floor
+            (ap (λ (n : Node). n.floor) its_node) k.mark
+            (subst (λ (g : ℕ). FencesNode (journal_among report.columns g k.colour) m.kept.floor k.mark) home (its_next k j).fenced)
+            (All-contains (λ (x : ColourMark). IsMarkOf (h x.colour) (b r).node x.mark) r.marks k
+            (beside.of_row script report no_nodes third region lt
+            (λ (x : BegunRow). All (λ (y : ColourMark). IsMarkOf (h y.colour) x.node y.mark) x.marks) low.marks r i)
+            (contains_in r.marks k j))
+
+        -- what an event that proposes its id says of its node
+        proposed : (c : ℕ) → c < script.shape.colours → (e : Entry) (floor : ℕ) (wants : Counts) → In e (h c)
+            → e.event ≡ Propose r.id floor wants
+            → ((f r).node.floor ≡ floor) × (node_wants (f r).node c ≡ wants) × In c (members (f r).node.colours)
+        proposed c less e floor wants among is_event =
+            by (find_cases (λ (d : Entry). proposes r.id d.event) (h c)) where
+              told : (d : Entry) (fl : ℕ) (w : Counts) → In d (h c) → d.event ≡ Propose r.id fl w
+                  → beside.IsProposedAs script report no_nodes third region lt r c fl w
+              told d fl w j t = beside.proposed_as script report no_nodes third region lt r i c less d fl w j t
+
+              marked : In c (marked_colours r.marks)
+              marked = subst (In c) (sym bare_fit.a_mark_each) (told e floor wants among is_event).among
+
+              mark : (k : ColourMark) × In k r.marks × (k.colour ≡ c)
+              mark = in_map (λ (k : ColourMark). k.colour) r.marks c marked
+
+              by : Finds (λ (d : Entry). proposes r.id d.event) (h c)
+                  → ((f r).node.floor ≡ floor) × (node_wants (f r).node c ≡ wants) × In c (members (f r).node.colours)
+              by (inl none) = absurd (true≢false (sym (proposed_by r.id e.event floor wants is_event) ∙ none.1 e among))
+              by (inr some) =
+                  let d = some.0 in
+                  let next = (its_next mark.0 mark.1).proposed in
+                  let here : ProposesNode r.id m.kept.floor (m.kept.starts c) (Some d) =
+                  subst (ProposesNode r.id m.kept.floor (m.kept.starts c)) some.3
+                  (subst (λ (x : ℕ). ProposesNode r.id m.kept.floor (m.kept.starts x) (proposal r.id (h x))) mark.2
+                  (subst (λ (g : ℕ). ProposesNode r.id m.kept.floor (m.kept.starts mark.0.colour)
+                  (proposal r.id (journal_among report.columns g mark.0.colour))) home
+                  (subst (λ (x : Id). ProposesNode x m.kept.floor (m.kept.starts mark.0.colour)
+                  (proposal x (journal_among report.columns who.own mark.0.colour))) same_id next))) in
+                  let one = told e floor wants among is_event in
+                  let other = told d m.kept.floor (m.kept.starts c) some.1 here in
+                  let own : In c (members m.colours) = subst (In c) m.next.colours_are marked in (
+                    ap (λ (n : Node). n.floor) its_node ∙ (sym other.floor_is ∙ one.floor_is),
+                    ap (λ (n : Node). node_wants n c) its_node
+                        ∙ (wants_own m.kept.starts (members m.colours) c own ∙ (sym other.wants_are ∙ one.wants_are)),
+                    subst (In c) colours_of marked,
+                  )
+
+      -- what is so of each row
+      onto : (P : BegunRow → Type 0) → ((r : RowReport) → In r rows → P (f r)) → All P (map f rows)
+      onto P each = all_in P (map f rows) (λ y j. let k = in_map f rows y j in subst P k.2 (each k.0 k.1))
+
+      its_event : (c : ℕ) → c < script.shape.colours → (e : Entry) → In e (h c) → (event : Event) → e.event ≡ event
+          → FitsRows (map b rows) c event → FitsRows (map f rows) c event
+      its_event c less e among (Single id floor wants) is_event fit =
+          onto (λ (x : BegunRow). x.node.id ≢ id) (λ r i same.
+          beside.of_row script report no_nodes third region lt (λ (x : BegunRow). x.node.id ≢ id) fit r i
+          (sym (full_id script report own_nodes r) ∙ same))
+      its_event c less e among (Propose id floor wants) is_event (n, r, at, of_id, its_wants, its_floor, k, place) =
+          let back = get_map_back b rows n r at in
+          let i = slice_in rows n back.0 back.1 in
+          let same : back.0.id ≡ id = ap (λ (x : BegunRow). x.node.id) back.2 ∙ of_id in
+          let told = proposed back.0 i c less e floor wants among
+          (is_event ∙ ap (λ (d : Id). let v : Event = Propose d floor wants in v) (sym same)) in
+          let there = in_slice (members (f back.0).node.colours) c told.2 in (
+            n,
+            f back.0,
+            get_map f rows n back.0 back.1,
+            full_id script report own_nodes back.0 ∙ same,
+            told.1,
+            told.0,
+            there.0,
+            there.1,
+          )
+      its_event c less e among (Settle id outcome) is_event (n, r, at, of_id, last) =
+          let back = get_map_back b rows n r at in (
+            n,
+            f back.0,
+            get_map f rows n back.0 back.1,
+            full_id script report own_nodes back.0 ∙ (ap (λ (x : BegunRow). x.node.id) back.2 ∙ of_id),
+            ap (λ (x : BegunRow). x.last) back.2 ∙ last,
+          )
+      its_event c less e among (Raise to) is_event fit = tt
+      its_event c less e among (Give other from) is_event fit = tt
+      its_event c less e among (Carry other start heads) is_event fit = tt
+      its_event c less e among (Trim counts) is_event fit = tt
+
+      its_lawful : AreLawfulRows region script.shape.colours h (map f rows)
+      its_lawful = record {
+        in_order = λ client. in_order_with script report no_nodes own_nodes rows client (low.in_order client);
+        fit = onto (FitsRow region) its_fit;
+        ids_differ = pairs_onto f (λ (r s : RowReport). r.id ≢ s.id) (λ (x y : BegunRow). x.node.id ≢ y.node.id)
+            (λ r s ne e. ne (sym (full_id script report own_nodes r) ∙ (e ∙ full_id script report own_nodes s))) rows
+            (beside.ids_apart script report no_nodes third region lt);
+        marks = onto (λ (x : BegunRow). All (λ (k : ColourMark). IsMarkOf (h k.colour) x.node k.mark) x.marks)
+            (λ r i. all_in (λ (k : ColourMark). IsMarkOf (h k.colour) (f r).node k.mark) r.marks (its_mark r i));
+        outcomes = onto (λ (x : BegunRow). FitsMarks (map (λ (k : ColourMark). k.mark) x.marks) x.last)
+            (beside.of_row script report no_nodes third region lt
+            (λ (x : BegunRow). FitsMarks (map (λ (k : ColourMark). k.mark) x.marks) x.last) low.outcomes);
+        events = λ c less. all_in (λ (e : Entry). FitsRows (map f rows) c e.event) (h c) (λ e among.
+            its_event c less e among e.event refl
+            (All-contains (λ (d : Entry). FitsRows (map b rows) c d.event) (h c) e (low.events c less) (contains_in (h c) e among)));
+      }
+
+    its_third : Rule3 script whole
+    its_third = record {
+      of_clients = λ region lt. onto region lt (λ (x : BegunRow). IsClientIn script region x.row.client)
+          (beside.client_of script report no_nodes third region lt);
+      lawful = its_lawful;
+      marked = λ region lt. onto region lt (λ (x : BegunRow). All (λ (k : ColourMark). k.colour < script.shape.colours) x.marks)
+          (beside.of_row script report no_nodes third region lt
+          (λ (x : BegunRow). All (λ (k : ColourMark). k.colour < script.shape.colours) x.marks) (third.marked region lt));
+      copies = third.copies;
+    }
+
+    its_fifth : Rule5 script report whole
+    its_fifth = record {
+      used = λ n c at. of_steps (λ (s : Step). UsesNode whole.log (caller_of script n) (kept_at s) s.command.what s.reply.answer) n
+          (λ k d lt. let s = get_or (bare.steps n) k d in
+          uses script report own_nodes (caller_of script n) s.command.what finding (kept_at s) s.reply.answer
+          (all_there n c at k d lt));
+      own = λ n c at. record {
+        nodes = has_nodes.all n c at;
+        rows = ap length (rows_mapped (full script report own_nodes) (λ r. refl) n (rows_in (caller_of script n).own report.rows))
+            ∙ (length-map (rows_by n (rows_in (caller_of script n).own report.rows)) (full script report own_nodes)
+            ∙ (sym (length-map (rows_by n (rows_in (caller_of script n).own report.rows)) (λ (r : RowReport). r.id.count))
+            ∙ ((is.rows n c at).many
+            ∙ ap (λ (k : Kept). k.rows) (sym (same_steps script report own_nodes n).1))));
+        row_nodes = λ r there of_client.
+            let all = rows_in (caller_of script n).own report.rows in
+            let back = in_map (full script report own_nodes) all r
+            (in_contains (map (full script report own_nodes) all) r there) in
+            let e : back.0.row.client ≡ n = ap (λ (x : BegunRow). x.row.client) back.2 ∙ of_client in
+            subst (λ (x : BegunRow). slice_get (own_nodes n) x.node.id.count ≡ Some x.node) back.2
+            (subst (λ (k : ℕ). slice_get (own_nodes k) (full script report own_nodes back.0).node.id.count
+            ≡ Some (full script report own_nodes back.0).node) e
+            (node_at (caller_of script n).own (home_low n c at) back.0 back.1));
+      };
+    }
