@@ -174,6 +174,13 @@ mark_moved history x y e floor is (marks.Fenced Memory) fenced m =
 mark_moved history x y e floor is (marks.Fenced StampEnd) fenced m =
     (subst (λ (i : Id). (stamp : ℕ) → Proposes history i stamp → ⊥) e m.0, subst (IsAtEnd history) (sym is) fenced)
 
+fence_of : (history : List Entry) (node : Node) (floor : ℕ) → node.floor ≡ floor → (mark : Mark) → IsMarkOf history node mark
+    → FencesNode history floor mark
+fence_of history node floor is marks.None m = tt
+fence_of history node floor is (marks.Number s) m = tt
+fence_of history node floor is (marks.Fenced Memory) m = tt
+fence_of history node floor is (marks.Fenced StampEnd) m = subst (IsAtEnd history) is m.1
+
 -- each client's rows are in order with whatever nodes
 numbers_with : (script : Script) (report : Report) (nodes : ℕ → List Node) (rows : List RowReport)
     → map (λ (x : BegunRow). x.row.number) (map (full script report nodes) rows) ≡ map (λ (r : RowReport). r.row.number) rows
@@ -532,3 +539,146 @@ module _ (are_told : NodesAreTold) (same_steps : NodesChangeNoStep) (agrees : Co
             (node_at (caller_of script n).own (home_low n c at) back.0 back.1));
       };
     }
+
+  -- AND BACK
+
+  module _ (to_five : RulesTo script report whole 5) where
+    whole_third : Rule3 script whole
+    whole_third = rule3 to_five.0.0.1
+
+    fifth : Rule5 script report whole
+    fifth = rule5 to_five.1
+
+    module _ (n : ℕ) (c : ClientReport) (at : slice_get report.clients n ≡ Some c) where
+      abbrev it : Caller
+      it = caller_of script n
+
+      abbrev its_rows : List RowReport
+      its_rows = rows_in it.own report.rows
+
+      abbrev g : RowReport → BegunRow
+      g = full script report own_nodes
+
+      abbrev line : ℕ → List Entry
+      line = journal_among report.columns it.own
+
+      its_home : it.own < script.shape.regions
+      its_home = home_low n c at
+
+      row_node : (r : RowReport) → In r its_rows → r.row.client ≡ n → slice_get (own_nodes n) r.id.count ≡ Some (g r).node
+      row_node r i e =
+          ap (λ (d : Id). slice_get (own_nodes n) d.count) (sym (full_id script report own_nodes r))
+          ∙ (fifth.own n c at).row_nodes (g r) (contains_in (map g its_rows) (g r) (in_map-back g its_rows r i)) e
+
+      module _ (what : What) (k : Kept) (has : HasNode whole.log it k what) where
+        abbrev next : Node
+        next = node_of it k has.0 has.1
+
+        module _ (r : RowReport) (i : In r its_rows) (is_next : r.id ≡ next_id it k) where
+          of_it : r.row.client ≡ n
+          of_it =
+              sym (beside.own_id script report own_nodes whole_third it.own its_home r i)
+              ∙ ap (λ (d : Id). d.client) is_next
+
+          node_is : (g r).node ≡ next
+          node_is =
+              same_some (sym (row_node r i of_it)
+              ∙ (ap (λ (d : Id). slice_get (own_nodes n) d.count) is_next ∙ has.3))
+
+          fit : FitsRow it.own (g r)
+          fit = beside.fit_of script report own_nodes whole_third it.own its_home r i
+
+          mark_next : (m : ColourMark) → In m r.marks → MarksNext script.shape.colours bare.log it k m
+          mark_next m j = record {
+            below = less;
+            proposed = by (find_cases (λ (d : Entry). proposes (next_id it k) d.event) (line m.colour));
+            fenced = fence_of (line m.colour) (g r).node k.floor (ap (λ (x : Node). x.floor) node_is) m.mark
+                (All-contains (λ (x : ColourMark). IsMarkOf (line x.colour) (g r).node x.mark) r.marks m
+                (beside.of_row script report own_nodes whole_third it.own its_home
+                (λ (x : BegunRow). All (λ (y : ColourMark). IsMarkOf (line y.colour) x.node y.mark) x.marks)
+                (whole_third.lawful it.own its_home).marks r i)
+                (contains_in r.marks m j));
+          } where
+            less : m.colour < script.shape.colours
+            less = All-contains (λ (x : ColourMark). x.colour < script.shape.colours) r.marks m
+                (beside.of_row script report own_nodes whole_third it.own its_home
+                (λ (x : BegunRow). All (λ (y : ColourMark). y.colour < script.shape.colours) x.marks)
+                (whole_third.marked it.own its_home) r i)
+                (contains_in r.marks m j)
+
+            by : Finds (λ (d : Entry). proposes (next_id it k) d.event) (line m.colour)
+                → ProposesNode (next_id it k) k.floor (k.starts m.colour) (proposal (next_id it k) (line m.colour))
+            by (inl none) = subst (ProposesNode (next_id it k) k.floor (k.starts m.colour)) (sym none.0) tt
+            by (inr some) =
+                let how = proposes_is (next_id it k) some.0.event some.2 in
+                let told = beside.proposed_as script report own_nodes whole_third it.own its_home r i m.colour less some.0 how.0 how.1
+                some.1 (how.2 ∙ ap (λ (d : Id). let v : Event = Propose d how.0 how.1 in v) (sym is_next)) in
+                let own : In m.colour (members has.0) =
+                subst (λ (x : Node). In m.colour (members x.colours)) node_is told.among in
+                let floor_is : how.0 ≡ k.floor = sym told.floor_is ∙ ap (λ (x : Node). x.floor) node_is in
+                let wants_are : how.1 ≡ k.starts m.colour =
+                sym told.wants_are
+                ∙ (ap (λ (x : Node). node_wants x m.colour) node_is ∙ wants_own k.starts (members has.0) m.colour own) in
+                subst (ProposesNode (next_id it k) k.floor (k.starts m.colour)) (sym some.3)
+                (how.2
+                ∙ (ap (λ (x : ℕ). let v : Event = Propose (next_id it k) x how.1 in v) floor_is
+                ∙ ap (λ (x : Counts). let v : Event = Propose (next_id it k) k.floor x in v) wants_are))
+
+          row_next : IsNextRow script.shape.colours bare.log it k (colours_asked it k what) r
+          row_next = record {
+            row =
+                let two = subst (λ (x : Node). 2 ≤ length (members x.colours)) node_is fit.several in
+                same_some (sym fit.row
+                ∙ (ap (λ (x : Node). x.row) node_is
+                ∙ if_true (nat_lt 1 (length (members has.0))) (Some (record { client = n; number = k.rows })) None
+                (lt-ltb 1 (length (members has.0)) (omega (arith, two)))));
+            colours_are =
+                fit.a_mark_each ∙ (ap (λ (x : Node). members x.colours) node_is ∙ node_colours it k what has.0 has.1 has.2);
+            marks_are = all_in (MarksNext script.shape.colours bare.log it k) r.marks mark_next;
+          }
+
+        has_next : HasNextRow script.shape.colours bare.log it k (colours_asked it k what) (finding it.own (next_id it k))
+        has_next = by (finding it.own (next_id it k)) refl where
+          by : (o : Option RowReport) → finding it.own (next_id it k) ≡ o
+              → HasNextRow script.shape.colours bare.log it k (colours_asked it k what) o
+          by None found = tt
+          by (Some r) found =
+              let there = found_row report.rows it.own (next_id it k) r found in row_next r there.0 there.1
+
+      steps_asked : All (EntersNode finding walked it) (bare.steps n)
+      steps_asked k d lt =
+          let s = get_or (bare.steps n) k d in
+          asked script report own_nodes it s.command.what finding (kept_at s) (has_next s.command.what) s.reply.answer
+          (to_steps (λ (x : Step). UsesNode whole.log it (kept_at x) x.command.what x.reply.answer) n (fifth.used n c at) k d lt)
+
+      rows_asked : HasItsRows (bare.last n).ids (bare.last n).rows (row_ids script n report.rows)
+      rows_asked = record {
+        many =
+            length-map (rows_by n its_rows) (λ (r : RowReport). r.id.count)
+            ∙ (sym (length-map (rows_by n its_rows) g)
+            ∙ (sym (ap length (rows_mapped g (λ r. refl) n its_rows))
+            ∙ ((fifth.own n c at).rows ∙ ap (λ (x : Kept). x.rows) (same_steps script report own_nodes n).1)));
+        used = all_in (λ (x : ℕ). x < (bare.last n).ids) (row_ids script n report.rows) (λ x j.
+            let back = in_map (λ (r : RowReport). r.id.count) (rows_by n its_rows) x j in
+            let own = in_filter (is_by n) back.0 its_rows back.1 in
+            let low = slice_get_within (own_nodes n) back.0.id.count (g back.0).node
+            (row_node back.0 own.0 (eqb-true back.0.row.client n own.1)) in
+            let many = (fifth.own n c at).nodes in
+            let ids = ap (λ (y : Kept). y.ids) (same_steps script report own_nodes n).1 in
+            let is = back.2 in
+            omega (arith, low, many, ids, is));
+      }
+
+    all_asked : EntersItsNodes script report
+    all_asked = record { steps = steps_asked; rows = rows_asked }
+
+  four_whole : EntersItsNodes script report → RulesTo script report whole 4
+  four_whole is =
+      (agrees script report own_nodes bare fits well (reports_tell script report no_nodes well) rules).1 (its_third is)
+
+  both_ways : EntersItsNodes script report ↔ RulesTo script report whole 5
+  both_ways = (λ is. (four_whole is, five (its_fifth is)), all_asked)
+
+pub fifth_is_entering : NodesAreTold → NodesChangeNoStep → ComputedAccountAgrees → FifthIsEntering
+fifth_is_entering are_told same_steps agrees script report fits well rules =
+    both_ways are_told same_steps agrees script report fits well rules
