@@ -4,6 +4,7 @@ mod ClosingLemmas
 mod ColumnPlaces
 mod CopiesLemmas
 mod CopyLemmas
+mod FinalLemmas
 mod HeadLemmas
 mod LeftLemmas
 mod ListedLaws
@@ -13,11 +14,14 @@ mod Members
 mod Once
 mod OrderLemmas
 mod PastLemmas
+mod PlaceLemmas
+mod PrintLemmas
 mod ProposalLemmas
 mod RisingLemmas
 mod RowLemmas
 mod RowOrder
 mod Shards
+mod SubjectLemmas
 mod TableLemmas
 mod ThirdLemmas
 mod ToldLemmas
