@@ -5,6 +5,7 @@ mod ColumnPlaces
 mod CopiesLemmas
 mod CopyLemmas
 mod FifthLaws
+mod FinalLemmas
 mod HeadLemmas
 mod LeftLemmas
 mod ListedLaws
@@ -15,11 +16,14 @@ mod NodeRows
 mod Once
 mod OrderLemmas
 mod PastLemmas
+mod PlaceLemmas
+mod PrintLemmas
 mod ProposalLemmas
 mod RisingLemmas
 mod RowLemmas
 mod RowOrder
 mod Shards
+mod SubjectLemmas
 mod TableLemmas
 mod ThirdLemmas
 mod ToldLemmas

@@ -2,7 +2,7 @@
 ghost use Rattle.std.specs.Prelude.{◌≡◌, ◌++◌, ◌∷◌, [], IfOk, OnOk, if◌then◌else◌};
 ghost use Rattle.log_node.specs.Order.{same_id};
 ghost use Rattle.log_node.specs.declared.ids.Id.{Id as NodeId};
-ghost use Rattle.run_law.specs.PlaceTables.{AreSteps, steps_in};
+ghost use Rattle.run_law.specs.PlaceTables.{AreSteps, step_made, steps_in};
 
 use col_core::{Entry, Event};
 use log_node::{Id, ListOf};
@@ -16,8 +16,10 @@ pub(crate) struct StepTable {
 }
 
 // The id of which an event that a client made is a step, where it is the client's.
-fn step_of(entry: &Entry) -> Option<Id> {
-    let id = match &entry.event {
+fn step_made(by: u8, event: &Event) -> Option<Id>
+    ensures { result ≡ step_made by event.now }
+{
+    let id = match event {
         Event::Propose { id, .. } => *id,
         Event::Settle { id, .. } => *id,
         Event::Single { .. }
@@ -26,7 +28,7 @@ fn step_of(entry: &Entry) -> Option<Id> {
         | Event::Carry { .. }
         | Event::Trim { .. } => return None,
     };
-    if id.client == entry.by { Some(id) } else { None }
+    if id.client == by { Some(id) } else { None }
 }
 
 impl StepTable {
@@ -69,7 +71,8 @@ impl StepTable {
     {
         let mut table = StepTable::new(alloc);
         for at in 0..journal.len() {
-            if let Some(id) = step_of(&journal[at]) {
+            let entry = &journal[at];
+            if let Some(id) = step_made(entry.by, &entry.event) {
                 table.add(alloc, id, at as u64)?;
             }
         }

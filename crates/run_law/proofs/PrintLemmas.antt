@@ -1,0 +1,148 @@
+-- The places that replies print: what a set has of them, with one more, and with those of more replies.
+use Rattle.std.proofs.Common.{◌≡◌, ◌⊎◌, ℕ, zero, suc, ◌+◌, ◌-◌, ◌<◌, ◌≤◌, Bool, true, false, ◌&&◌, ◌||◌, ◌==◌, cond, List, [], ◌∷◌, ◌++◌, length, drop, Option, Some, None, Ordering, Less, Equal, Greater, inl, inr, refl, ap, sym, subst, ◌∙◌, arith, get_or}
+use Rattle.std.specs.Prelude.{slice_get, slice_index, slice_index_or, nat_lt}
+use Rattle.std.specs.Ordering.{is_eq, nat_cmp, ordering_then}
+use Rattle.std.specs.List.{filter, list_any}
+use Rattle.std.proofs.lemmas.Bool.{cases_Bool, cases_lt, true≢false, eq-eqb, eqb-true, ltb-true, lt-ltb, le-ltb}
+use Rattle.std.proofs.lemmas.Bool.Decides.{nat_tests}
+use Rattle.std.proofs.lemmas.List.{drop_all, drop_more}
+use Rattle.std.proofs.lemmas.List.Folds.{list_any-append}
+use Rattle.log_node.proofs.CallerLemmas.{same_some}
+use Rattle.script_text.specs.declared.commands.What.{What}
+use Rattle.script_text.specs.declared.script.Command.{Command}
+use Rattle.script_text.specs.declared.script.Script.{Script}
+use Rattle.report_text.specs.declared.report.ClientReport.{ClientReport}
+use Rattle.report_text.specs.declared.report.RaisePiece.{RaisePiece}
+use Rattle.report_text.specs.declared.report.ReplyLine.{ReplyLine}
+use Rattle.report_text.specs.declared.report.Report.{Report}
+use Rattle.lawful_run.specs.Callers.{caller_of, commands_of}
+use Rattle.run_rules.specs.Printed.{only_at, printed, printed_all, printed_at, printed_raises}
+use Rattle.run_rules.specs.Telling.{is_among, places_shown, replies_in, replies_to}
+use Rattle.run_law.specs.contracts.printed.PrintOrd.TheImpl.{cmp-value}
+use Rattle.run_law.specs.declared.printed.Print.{Print}
+use Rattle.run_law.specs.declared.printed.Printed.{Printed}
+use Rattle.run_law.specs.PlaceTables.{is_asked_by, is_printed, numbers_where, same_print}
+use Rattle.run_law.proofs.TableLemmas.{both_same, same_number}
+
+-- ONE MORE
+
+-- places stand as equal where they are one
+pub print_same : (a b : Print) → is_eq (cmp-value.it a b) ≡ same_print b a
+print_same a b =
+    both_same (nat_cmp a.client b.client) (ordering_then (nat_cmp a.region b.region) (ordering_then (nat_cmp a.colour b.colour) (nat_cmp a.place b.place)))
+    ∙ rw (both_same (nat_cmp a.region b.region) (ordering_then (nat_cmp a.colour b.colour) (nat_cmp a.place b.place)), both_same (nat_cmp a.colour b.colour) (nat_cmp a.place b.place), same_number a.client b.client, same_number a.region b.region, same_number a.colour b.colour, same_number a.place b.place) refl
+
+flip : (a b : ℕ) → (a == b) ≡ (b == a)
+flip a b = by (cases_Bool (a == b)) (cases_Bool (b == a)) where
+  by : ((a == b) ≡ true) ⊎ ((a == b) ≡ false) → ((b == a) ≡ true) ⊎ ((b == a) ≡ false) → (a == b) ≡ (b == a)
+  by (inl t) (inl u) = t ∙ sym u
+  by (inr f) (inr g) = f ∙ sym g
+  by (inl t) (inr g) = absurd (true≢false (sym (eq-eqb b a (sym (eqb-true a b t))) ∙ g))
+  by (inr f) (inl u) = absurd (true≢false (sym (eq-eqb a b (sym (eqb-true b a u))) ∙ f))
+
+-- what a set has at a place
+has_print : Print → List Print → Bool
+has_print q keys = list_any (λ (it : Print). same_print it q) keys
+
+pub print_found : (q : Print) (keys : List Print) → list_any (λ it. is_eq (cmp-value.it q it)) keys ≡ list_any (λ (it : Print). same_print it q) keys
+print_found q [] = refl
+print_found q (k ∷ ks) = rw (print_same q k, print_found q ks) refl
+
+-- one place of one client's in a column
+one_place : (client region colour place n r c p : ℕ) → ((n == client) && ((r == region) && ((c == colour) && (p == place))))
+    ≡ ((client == n) && is_among p (only_at region colour (place ∷ []) r c))
+one_place client region colour place n r c p = rw (flip n client, flip p place) (by (client == n) (r == region) (c == colour) refl) where
+  alone : (e : Bool) → e ≡ (e || false)
+  alone true = refl
+  alone false = refl
+
+  by : (a b d : Bool) → (c == colour) ≡ d → (a && (b && ((c == colour) && (place == p))))
+      ≡ (a && is_among p ((cond {A = ℕ → List ℕ} b (λ (k : ℕ). cond (k == colour) (place ∷ []) []) (λ (k : ℕ). [])) c))
+  by false b d is = refl
+  by true false d is = refl
+  by true true d is = rw is (on d) where
+    on : (e : Bool) → (e && (place == p)) ≡ is_among p (cond e (place ∷ []) [])
+    on true = alone (place == p)
+    on false = refl
+
+pub one_print : (old new : List Print) (key : Print)
+    → ((q : Print) → list_any (λ it. is_eq (cmp-value.it q it)) new
+    ≡ cond (is_eq (cmp-value.it key q)) true (list_any (λ it. is_eq (cmp-value.it q it)) old))
+    → (n r c p : ℕ) → list_any (λ (it : Print). same_print it (record { client = n; region = r; colour = c; place = p })) new
+    ≡ ((key.client == n) && is_among p (only_at key.region key.colour (key.place ∷ []) r c)
+    || list_any (λ (it : Print). same_print it (record { client = n; region = r; colour = c; place = p })) old)
+one_print old new key step n r c p =
+    let q : Print = record { client = n; region = r; colour = c; place = p } in
+    sym (print_found q new)
+    ∙ (step q
+    ∙ (ap (λ (b : Bool). cond b true (list_any (λ it. is_eq (cmp-value.it q it)) old)) (print_same key q ∙ one_place key.client key.region key.colour key.place n r c p)
+    ∙ (ap (λ (b : Bool). cond ((key.client == n) && is_among p (only_at key.region key.colour (key.place ∷ []) r c)) true b) (print_found q old)
+    ∙ by ((key.client == n) && is_among p (only_at key.region key.colour (key.place ∷ []) r c))
+    (list_any (λ (it : Print). same_print it q) old)))) where
+  by : (a b : Bool) → cond a true b ≡ (a || b)
+  by true b = refl
+  by false b = refl
+
+-- ONE PART BEHIND ANOTHER
+
+pub both_parts : (m : Bool) (p : ℕ) (xs ys : List ℕ) (z mid new : Bool) → mid ≡ ((m && is_among p xs) || z)
+    → new ≡ ((m && is_among p ys) || mid) → new ≡ ((m && is_among p (xs ++ ys)) || z)
+both_parts m p xs ys z mid new first second =
+    second
+    ∙ (ap (λ (b : Bool). (m && is_among p ys) || b) first
+    ∙ (by m (is_among p xs) (is_among p ys) z
+    ∙ ap (λ (b : Bool). (m && b) || z) (sym (list_any-append (λ k. k == p) xs ys)))) where
+  by : (m a b z : Bool) → ((m && b) || ((m && a) || z)) ≡ ((m && (a || b)) || z)
+  by false a b z = refl
+  by true true true z = refl
+  by true true false z = refl
+  by true false b z = refl
+
+-- what is left is less by what was put in
+pub rest_parts : (m : Bool) (p : ℕ) (xs ys : List ℕ) (now next : Bool) → next ≡ ((m && is_among p xs) || now)
+    → ((m && is_among p ys) || next) ≡ ((m && is_among p (xs ++ ys)) || now)
+rest_parts m p xs ys now next is = both_parts m p xs ys now next ((m && is_among p ys) || next) is refl
+
+pub raises_left : (own : ℕ) (raises : List RaisePiece) (at : ℕ) (d : RaisePiece) → at < length raises → (r c : ℕ)
+    → printed_raises own (drop at raises) r c
+    ≡ printed_at own (get_or raises at d).colour (get_or raises at d).at r c ++ printed_raises own (drop (at + 1) raises) r c
+raises_left own raises at d lt r c = ap (λ (l : List RaisePiece). printed_raises own l r c) (drop_more raises at d lt)
+
+pub none_left : (own : ℕ) (raises : List RaisePiece) (at : ℕ) → length raises ≤ at → (r c : ℕ)
+    → printed_raises own (drop at raises) r c ≡ []
+none_left own raises at ge r c = ap (λ (l : List RaisePiece). printed_raises own l r c) (drop_all at raises ge)
+
+pub none_more : (m : Bool) (p : ℕ) (xs : List ℕ) (z : Bool) → xs ≡ [] → ((m && is_among p xs) || z) ≡ z
+none_more m p xs z none = ap (λ (l : List ℕ). (m && is_among p l) || z) none ∙ by m where
+  by : (m : Bool) → ((m && false) || z) ≡ z
+  by true = refl
+  by false = refl
+
+-- COMMANDS BY THEIR NUMBERS
+
+module _ {A : Type 0} (test : A → Bool) where
+  pub where_length : (k : ℕ) (xs : List A) → length (numbers_where test k xs) ≡ length (filter test xs)
+  where_length k [] = refl
+  where_length k (x ∷ xs) = by (test x) (where_length (k + 1) xs) where
+    by : (b : Bool) → length (numbers_where test (k + 1) xs) ≡ length (filter test xs)
+        → length (cond b (k ∷ numbers_where test (k + 1) xs) (numbers_where test (k + 1) xs))
+        ≡ length (cond b (x ∷ filter test xs) (filter test xs))
+    by true e = ap suc e
+    by false e = e
+
+  -- the item of a number
+  pub where_item : (k : ℕ) (xs : List A) (i n : ℕ) → slice_get (numbers_where test k xs) i ≡ Some n
+      → (m : ℕ) × (n ≡ k + m) × (slice_get xs m ≡ slice_get (filter test xs) i)
+  where_item k [] i n at = absurd (let f : ⊥ = cc (at) in f)
+  where_item k (x ∷ xs) i n at = by (test x) i (λ j e. where_item (k + 1) xs j n e) at where
+    on : (j : ℕ) → (m : ℕ) × (n ≡ k + 1 + m) × (slice_get xs m ≡ slice_get (filter test xs) j)
+        → (m : ℕ) × (n ≡ k + m) × (slice_get (x ∷ xs) m ≡ slice_get (filter test xs) j)
+    on j more = let e = more.1 in (suc more.0, omega (arith, e), more.2)
+
+    by : (b : Bool) (i : ℕ) → ((j : ℕ) → slice_get (numbers_where test (k + 1) xs) j ≡ Some n
+        → (m : ℕ) × (n ≡ k + 1 + m) × (slice_get xs m ≡ slice_get (filter test xs) j))
+        → slice_get (cond b (k ∷ numbers_where test (k + 1) xs) (numbers_where test (k + 1) xs)) i ≡ Some n
+        → (m : ℕ) × (n ≡ k + m) × (slice_get (x ∷ xs) m ≡ slice_get (cond b (x ∷ filter test xs) (filter test xs)) i)
+    by true zero more at = (zero, (let e = sym (same_some at) in omega (arith, e)), refl)
+    by true (suc i) more at = on i (more i at)
+    by false i more at = on i (more i at)
