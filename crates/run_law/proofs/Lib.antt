@@ -22,6 +22,7 @@ mod ProposalLemmas
 mod RisingLemmas
 mod RowLemmas
 mod RowOrder
+mod RowPlaceLemmas
 mod Shards
 mod SubjectLemmas
 mod TableLemmas

@@ -10,6 +10,7 @@ pub mod Listed
 pub mod Lists
 pub mod PlaceTables
 pub mod Proposals
+pub mod RowPlaces
 pub mod RowsBeside
 pub mod Subjects
 pub mod Tables

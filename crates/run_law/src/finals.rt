@@ -13,8 +13,8 @@ use std::collections::BTreeMap;
 /// A row by its region and its id.
 #[derive(Clone, Copy, Debug, PartialEq, Eq, PartialOrd, Ord)]
 pub(crate) struct RowId {
-    region: u8,
-    id: Id,
+    pub(crate) region: u8,
+    pub(crate) id: Id,
 }
 
 /// The final numbers of rows, by their regions and ids.

@@ -19,6 +19,7 @@ mod object_colours;
 mod pieces;
 mod place_lists;
 mod printed;
+mod row_places;
 mod row_table;
 mod rows;
 mod step_table;
