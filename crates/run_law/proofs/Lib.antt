@@ -12,6 +12,7 @@ mod ListedLaws
 mod ListedLemmas
 mod Lists
 mod Members
+mod NextNodes
 mod NodeRows
 mod Once
 mod OrderLemmas

@@ -24,11 +24,11 @@ use Rattle.report_text.specs.declared.report.RowReport.{RowReport}
 use Rattle.lawful_run.specs.Columns.{IsClientIn}
 use Rattle.run_rules.specs.Rules.{Rule3}
 use Rattle.run_rules.specs.Telling.{account_of, bare_node, is_in, journal_among, node_or, row_of}
-use Rattle.run_law.specs.PlaceTables.{row_with}
+use Rattle.run_law.specs.PlaceTables.{row_with, same_row}
 use Rattle.run_law.specs.RowsBeside.{HaveOwnIds, rows_by}
 use Rattle.run_law.specs.Third.{rows_in}
 use Rattle.run_law.proofs.Lists.{Finds, find_cases}
-use Rattle.run_law.proofs.RowLemmas.{same_row}
+use Rattle.run_law.proofs.RowLemmas.{same_row as one_place}
 
 -- LISTS
 
@@ -62,7 +62,10 @@ pairs_onto {X} {Y} f R S g xs apart i j d lt less =
 
 module _ (rows : List RowReport) (region : ℕ) where
   abbrev is_row : Id → RowReport → Bool
-  is_row id r = (r.region == region) && same_id id r.id
+  is_row id r = same_row region id r.region r.id
+
+  here : (r : RowReport) → (region == r.region) ≡ true → is_in region r ≡ true
+  here r t = eq-eqb r.region region (sym (eqb-true region r.region t))
 
   -- a row that is found is one of the region with the id
   pub found_row : (id : Id) (r : RowReport) → row_with region id rows ≡ Some r → In r (rows_in region rows) × (r.id ≡ id)
@@ -71,9 +74,9 @@ module _ (rows : List RowReport) (region : ℕ) where
     by (inl none) = absurd (let f : ⊥ = cc (none.0, found) in f)
     by (inr some) =
         let same : some.0 ≡ r = same_some (sym some.3 ∙ found) in
-        let tests = and_parts (some.0.region == region) (same_id id some.0.id) some.2 in (
+        let tests = and_parts (region == some.0.region) (same_id id some.0.id) some.2 in (
           subst (λ (x : RowReport). In x (rows_in region rows)) same
-              (in_filter-back (is_in region) some.0 rows some.1 tests.0),
+              (in_filter-back (is_in region) some.0 rows some.1 (here some.0 tests.0)),
           ap (λ (x : RowReport). x.id) (sym same) ∙ sym (same_id-is id some.0.id tests.1),
         )
 
@@ -86,13 +89,14 @@ module _ (rows : List RowReport) (region : ℕ) where
 
     by : Finds (is_row id) rows → row_with region id rows ≡ Some r
     by (inl none) =
-        absurd (true≢false (sym (and_from (r.region == region) (same_id id r.id) own.0
+        absurd (true≢false (sym (and_from (region == r.region) (same_id id r.id)
+        (eq-eqb region r.region (sym (eqb-true r.region region own.0)))
         (ap (same_id id) is ∙ same_id-refl id)) ∙ none.1 r own.1))
     by (inr some) =
-        let tests = and_parts (some.0.region == region) (same_id id some.0.id) some.2 in
-        let j = in_slice (rows_in region rows) some.0 (in_filter-back (is_in region) some.0 rows some.1 tests.0) in
+        let tests = and_parts (region == some.0.region) (same_id id some.0.id) some.2 in
+        let j = in_slice (rows_in region rows) some.0 (in_filter-back (is_in region) some.0 rows some.1 (here some.0 tests.0)) in
         let k = in_slice (rows_in region rows) r i in
-        let place = same_row (rows_in region rows) apart j.0 k.0 some.0 r j.1 k.1
+        let place = one_place (rows_in region rows) apart j.0 k.0 some.0 r j.1 k.1
         (sym (same_id-is id some.0.id tests.1) ∙ sym is) in
         some.3 ∙ (sym j.1 ∙ (ap (slice_get (rows_in region rows)) place ∙ k.1))
 
@@ -171,7 +175,7 @@ module _ (script : Script) (report : Report) (nodes : ℕ → List Node) where
     one_row r s i j e =
         let a = in_slice rows r i in
         let b = in_slice rows s j in
-        let place = same_row rows ids_apart a.0 b.0 r s a.1 b.1 e in
+        let place = one_place rows ids_apart a.0 b.0 r s a.1 b.1 e in
         same_some (sym a.1 ∙ (ap (slice_get rows) place ∙ b.1))
 
     -- what an event that proposes a row's id says of the row's node

@@ -7,7 +7,8 @@ use Rattle.log_node.specs.declared.marks.Mark.{Mark}
 use Rattle.log_node.specs.declared.marks.Mark.TheVariants as marks
 use Rattle.log_node.specs.declared.marks.Why.TheVariants.{Memory, StampEnd}
 use Rattle.log_node.specs.declared.marks.ColourMark.{ColourMark}
-use Rattle.col_core.specs.declared.Event.TheVariants.{Propose}
+use Rattle.col_core.specs.declared.Event.{Event}
+use Rattle.col_core.specs.declared.Event.TheVariants.{Single, Propose, Settle, Raise, Give, Carry, Trim}
 use Rattle.col_core.specs.declared.Entry.{Entry}
 use Rattle.col_core.specs.History.{IsAtEnd}
 use Rattle.col_core.specs.Log.{Log}
@@ -29,8 +30,10 @@ use Rattle.run_rules.specs.Telling.{IsWellFormed, account_of, marked_colours, no
 use Rattle.run_rules.specs.Rules.{EntersAsNode}
 use Rattle.run_rules.specs.Nodes.{nodes_told}
 use Rattle.run_rules.specs.Keeping.{RulesTo}
-use Rattle.run_law.specs.PlaceTables.{row_with}
+use Rattle.run_law.specs.PlaceTables.{places_at, row_with}
 use Rattle.run_law.specs.Proposals.{proposal}
+use Rattle.run_law.specs.declared.row_places.RowPlaces.{RowPlaces}
+use Rattle.run_law.specs.RowPlaces.{place_in, row_at}
 use Rattle.run_law.specs.RowsBeside.{rows_by}
 use Rattle.run_law.specs.Third.{rows_in}
 use Rattle.run_law.specs.Walking.{Walked, log_walked}
@@ -78,19 +81,23 @@ abbrev pub OfEnd : (Kept → Option ℕ → List PointPiece → Type 0) → Kept
 OfEnd P kept (ends.Stood stamp point) = P kept None (point ∷ [])
 OfEnd P kept _ = Unit {0}
 
--- What is asked of the node for which an answer used an id up: by what the client kept when it was appended, and by the row and
--- the points that the answer names, if it names any.
+-- What is asked of the node for which an answer used an id up, if it is none to a decide: by what the client kept, and by the
+-- row and the points that the answer names, if it names any.
+abbrev pub OfPlain : (Kept → Option ℕ → List PointPiece → Type 0) → Caller → Kept → What → Answer → Type 0
+OfPlain P caller kept what (answers.Stood stamp row points) = P kept row points
+OfPlain P caller kept what (answers.StampEnd colour) = IsTrue (is_several caller kept what) → P kept None []
+OfPlain P caller kept what (answers.Stopped zero) = Unit {0}
+OfPlain P caller kept what (answers.Stopped (suc steps)) = P kept None []
+OfPlain P caller kept what (answers.Ruled conflict stamp row points read_stamp raises syncs) = P kept row points
+OfPlain P caller kept what (answers.Changed failed stamp row points read_stamp raises syncs) = P kept row points
+OfPlain P caller kept what (answers.Took value point sync) = P kept None (point ∷ [])
+OfPlain P caller kept what _ = Unit {0}
+
+-- A decide has synced and read when its node is appended.
 abbrev pub OfNode : (Kept → Option ℕ → List PointPiece → Type 0) → Log → Caller → Kept → What → Answer → Type 0
-OfNode P log caller kept what (answers.Stood stamp row points) = P kept row points
-OfNode P log caller kept what (answers.StampEnd colour) = IsTrue (is_several caller kept what) → P kept None []
-OfNode P log caller kept what (answers.Stopped zero) = Unit {0}
-OfNode P log caller kept what (answers.Stopped (suc steps)) = P kept None []
-OfNode P log caller kept what (answers.Ruled conflict stamp row points read_stamp raises syncs) = P kept row points
-OfNode P log caller kept what (answers.Changed failed stamp row points read_stamp raises syncs) = P kept row points
-OfNode P log caller kept what (answers.Took value point sync) = P kept None (point ∷ [])
 OfNode P log caller kept what (answers.Decided commits stamp sync read_stamp raises syncs ended) =
     OfEnd P (kept_deciding log caller kept sync read_stamp raises syncs) ended
-OfNode P log caller kept what _ = Unit {0}
+OfNode P log caller kept what answer = OfPlain P caller kept what answer
 
 -- how the row of a region with an id is found
 abbrev pub Finding : Type 0
@@ -108,11 +115,59 @@ EntersNode find walked caller step =
     OfNode (EntersBeside find walked.script.shape.colours (log_walked walked) caller step.command.what) (log_walked walked) caller
     (kept_at step) step.command.what step.reply.answer
 
+-- the same, where the answer is none to a decide
+abbrev pub EntersUndecided : Finding → Walked → ℕ → Kept → What → Answer → Type 0
+EntersUndecided find walked client kept what answer =
+    OfPlain (EntersBeside find walked.script.shape.colours (log_walked walked) (caller_of walked.script client) what)
+    (caller_of walked.script client) kept what answer
+
+-- a decision's node, where it stands
+abbrev pub EntersAtEnd : Finding → Walked → ℕ → Kept → What → Ended → Type 0
+EntersAtEnd find walked client kept what ended =
+    OfEnd (EntersBeside find walked.script.shape.colours (log_walked walked) (caller_of walked.script client) what) kept ended
+
+-- the answer is none to a decide
+abbrev pub IsPlain : Answer → Type 0
+IsPlain (answers.Decided commits stamp sync read_stamp raises syncs ended) = ⊥
+IsPlain _ = Unit {0}
+
+-- the step is of such a command, with this answer
+abbrev pub IsOfStep : Step → What → Answer → Type 0
+IsOfStep step what answer = (step.command.what ≡ what) × (step.reply.answer ≡ answer)
+
+-- BY TABLES
+
+-- rows are found by their places
+abbrev pub finding_at : RowPlaces → Walked → Finding
+finding_at table walked region id = row_at walked.report.rows (place_in table region id)
+
+-- the row of the client's next node, where one is there, is its own
+abbrev pub AreRowsOf : RowPlaces → Walked → ℕ → Kept → What → Type 0
+AreRowsOf table walked client kept what =
+    HasNextRow walked.script.shape.colours (log_walked walked) (caller_of walked.script client) kept
+    (colours_asked (caller_of walked.script client) kept what)
+    (finding_at table walked (caller_of walked.script client).own (next_id (caller_of walked.script client) kept))
+
+-- an event that proposes a node tells this floor and these wants
+abbrev pub ProposesSo : ℕ → Counts → Event → Type 0
+ProposesSo floor wants (Single id told wanted) = Unit {0}
+ProposesSo floor wants (Propose id told wanted) = (told ≡ floor) × (wanted ≡ wants)
+ProposesSo floor wants (Settle id outcome) = Unit {0}
+ProposesSo floor wants (Raise to) = Unit {0}
+ProposesSo floor wants (Give region from) = Unit {0}
+ProposesSo floor wants (Carry region start heads) = Unit {0}
+ProposesSo floor wants (Trim counts) = Unit {0}
+
 -- ROWS
 
 -- the numbers of the ids of a client's rows in its region
 abbrev pub row_ids : Script → ℕ → List RowReport → List ℕ
 row_ids script client rows = map (λ (r : RowReport). r.id.count) (rows_by client (rows_in (caller_of script client).own rows))
+
+-- under the number of each client those of its rows
+abbrev pub AreRowIds : Script → List RowReport → List (List ℕ) → Type 0
+AreRowIds script rows lists =
+    (client : ℕ) → client < length script.shape.homes → places_at lists client ≡ row_ids script client rows
 
 -- a client that has used so many ids, and begun so many rows, has as many, of ids that it used
 pub record HasItsRows (ids rows : ℕ) (counts : List ℕ) : Type 0 where

@@ -10,7 +10,11 @@ ghost use Rattle.lawful_run.specs.Reads.{kept_after_piece};
 ghost use Rattle.run_rules.specs.Told.{Step as StepTold, Untold, is_several, kept_after_append, kept_after_read, kept_after_row, kept_pulled, kept_told, stamp_told};
 ghost use Rattle.run_rules.specs.Telling.{low_told, made_between, replies_to};
 ghost use Rattle.run_law.specs.Behind.{Answers, HasSteps, IsCaller, IsUntold};
-ghost use Rattle.run_law.specs.Keepings.{IsCounted};
+ghost use Rattle.std.specs.Option.{option_copied};
+ghost use Rattle.script_text.specs.Commands.{use_of};
+ghost use Rattle.lawful_run.specs.Deeds.{found_by};
+ghost use Rattle.run_law.specs.Asking.{AreFoundOf};
+ghost use Rattle.run_law.specs.Keepings.{IsCounted, KeepsCount};
 ghost use Rattle.run_law.specs.Walking.{CountsBehind, HasFew, IsSeen, IsStepOf, log_walked};
 
 use crate::asked::colours_asked;
@@ -54,12 +58,15 @@ impl Keeping {
     }
 
     // The keys that the read showed which a command uses up, where there is one.
-    fn found_of<'s>(
+    pub(crate) fn found_of<'s>(
         &self,
         subject: &'s Subject<'_>,
         client: u8,
         what: &What,
-    ) -> Option<&'s ListOf<KeyAnswer>> {
+    ) -> Option<&'s ListOf<KeyAnswer>>
+        ensures { (kept : Kept) → IsCounted (replies_to subject.now.report client) kept self.now
+            → AreFoundOf (found_by (use_of what.now) kept) (option_copied result) }
+    {
         match what.use_of() {
             Use::OfObject {
                 object,
@@ -93,8 +100,9 @@ impl Keeping {
     /// Behind a sync that looked at so many events, and played up to a snapshot.
     pub fn play(&mut self, subject: &Subject<'_>, own: u8, sync: SyncPiece)
         requires { own < subject.now.script.shape.regions }
-        ensures { (replies : List ReplyLine) (caller : Caller) (kept : Kept) → caller.own ≡ own → IsCounted replies kept self.old
+        ensures kept { (replies : List ReplyLine) (caller : Caller) (kept : Kept) → caller.own ≡ own → IsCounted replies kept self.old
             → IsCounted replies (kept_after_piece (log_walked subject.now) caller kept sync) self.new }
+        ensures count { KeepsCount self.old self.new }
     {
         let start = self.start(sync.colour);
         let stamp = subject.greatest_played(own, sync.colour, sync.events, start, sync.counts);
@@ -114,9 +122,10 @@ impl Keeping {
         syncs: &[SyncPiece],
     ) -> Result<(), AllocError>
         requires { own < subject.now.script.shape.regions }
-        ensures { (replies : List ReplyLine) (caller : Caller) (kept : Kept) → caller.own ≡ own → IsCounted replies kept self.old
+        ensures kept { (replies : List ReplyLine) (caller : Caller) (kept : Kept) → caller.own ≡ own → IsCounted replies kept self.old
             → OnOk result (IsCounted replies
             (kept_after_read (log_walked subject.now) caller kept stamp raises.now syncs.now) self.new) }
+        ensures count { OnOk result (KeepsCount self.old self.new) }
     {
         self.raises(own, raises)?;
         for sync in syncs {

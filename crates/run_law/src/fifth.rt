@@ -13,7 +13,7 @@ ghost use Rattle.run_rules.specs.Telling.{IsWellFormed, account_of, marked_colou
 ghost use Rattle.run_rules.specs.Rules.{EntersAsNode};
 ghost use Rattle.run_rules.specs.Nodes.{nodes_told};
 ghost use Rattle.run_rules.specs.Keeping.{Keeps, RulesTo};
-ghost use Rattle.run_law.specs.Fifth.{AreRowIds, AreRowsOf, EntersBeside, EntersItsNodes, EntersUndecided, FencesNode, FifthIsEntering, HasItsRows, HasNextRow, IsNextRow, MarksNext, ProposesNode, ProposesSo, finding_at};
+ghost use Rattle.run_law.specs.Fifth.{AreRowIds, AreRowsOf, EntersAtEnd, EntersBeside, EntersItsNodes, EntersNode, EntersUndecided, FencesNode, FifthIsEntering, HasItsRows, HasNextRow, IsNextRow, IsOfStep, IsPlain, MarksNext, ProposesNode, ProposesSo, finding_at};
 ghost use Rattle.run_law.specs.Keepings.{IsCounted};
 ghost use Rattle.run_law.specs.Proposals.{proposal};
 ghost use Rattle.run_law.specs.RowPlaces.{place_in, row_at};
@@ -266,6 +266,7 @@ impl Keeping {
         ensures { (kept : Kept) → IsCounted (replies_to subject.now.report client) kept self.now → IfOk result (λ asked. asked
             ≡ colours_asked (caller_of subject.now.script client) kept what.now) }
     {
+        let _tracks = subject.tracks();
         let objects = subject.script().objects.as_slice();
         let found = self.found_of(subject, client, what);
         colours_asked(alloc, objects, what, found)
@@ -340,9 +341,11 @@ impl RowPlaces {
             (EntersUndecided (finding_at self.now subject.now) subject.now client kept what.now answer.now)) }
     {
         match answer {
-            Answer::Stood { row, points, .. }
-            | Answer::Ruled { row, points, .. }
-            | Answer::Changed { row, points, .. } => {
+            Answer::Stood { row, points, .. } => {
+                let points = points.as_slice();
+                self.enters_beside(alloc, subject, client, own, keeping, what, *row, points)
+            }
+            Answer::Ruled { row, points, .. } | Answer::Changed { row, points, .. } => {
                 let points = points.as_slice();
                 self.enters_beside(alloc, subject, client, own, keeping, what, *row, points)
             }
@@ -362,7 +365,187 @@ impl RowPlaces {
                 }
                 self.enters_beside(alloc, subject, client, own, keeping, what, None, &[])
             }
-            _ => Ok(true),
+            Answer::Full { .. }
+            | Answer::Synced { .. }
+            | Answer::Scanned { .. }
+            | Answer::Pulled { .. }
+            | Answer::SameRegion
+            | Answer::Based { .. }
+            | Answer::Got { .. }
+            | Answer::GotMany { .. }
+            | Answer::GotKeys { .. }
+            | Answer::Listed { .. }
+            | Answer::Undecided { .. }
+            | Answer::Decided { .. }
+            | Answer::Moved { .. }
+            | Answer::NoTx
+            | Answer::UnreadTrimmed { .. }
+            | Answer::UnreadNoMemory { .. }
+            | Answer::Trimmed { .. }
+            | Answer::NotHome { .. }
+            | Answer::NoMemory => Ok(true),
         }
     }
+}
+
+impl RowPlaces {
+    // The same for a decision's node, where it stands.
+    fn ends(
+        &self,
+        alloc: Global,
+        subject: &Subject<'_>,
+        client: u8,
+        own: u8,
+        keeping: &Keeping,
+        what: &What,
+        ended: Ended,
+    ) -> Result<bool, AllocError>
+        requires own { own ≡ (caller_of subject.now.script client).own }
+        requires within { own < subject.now.script.shape.regions }
+        ensures { (kept : Kept) → IsCounted (replies_to subject.now.report client) kept keeping.now → IfOk result (λ b. Tells b
+            (EntersAtEnd (finding_at self.now subject.now) subject.now client kept what.now ended)) }
+    {
+        match ended {
+            Ended::Stood { point, .. } => {
+                let points = std::slice::from_ref(&point);
+                self.enters_beside(alloc, subject, client, own, keeping, what, None, points)
+            }
+            Ended::StampEnd { .. } | Ended::NoMemory => Ok(true),
+        }
+    }
+
+    // Goes on behind a step whose answer is none to a decide.
+    fn goes_plain(
+        &self,
+        alloc: Global,
+        subject: &Subject<'_>,
+        client: u8,
+        place: usize,
+        keeping: &mut Keeping,
+        what: &What,
+        answer: &Answer,
+    ) -> Result<bool, AllocError>
+        requires there { IsStepOf subject.now client place }
+        requires few { HasFew keeping.old }
+        requires plain { IsPlain answer.now }
+        ensures { (step : StepTold) → IsSeen subject.now client place keeping.old step → IsOfStep step what.now answer.now
+            → IfOk result (GoesOn subject.now client step
+            (EntersNode (finding_at self.now subject.now) subject.now (caller_of subject.now.script client) step) keeping.new) }
+    {
+        let own = subject.own(client);
+        if !self.enters(alloc, subject, client, own, keeping, what, answer)? {
+            return Ok(false);
+        }
+        keeping.go_on(alloc, subject, client, place)?;
+        Ok(true)
+    }
+}
+
+impl Check for RowPlaces {
+    ghost use Rattle.run_law.specs.Fifth.{EntersNode, finding_at};
+
+    ghost Asks = { λ table walked caller step. EntersNode (finding_at table walked) walked caller step };
+
+    fn go_on(
+        &self,
+        alloc: Global,
+        subject: &Subject<'_>,
+        client: u8,
+        place: usize,
+        keeping: &mut Keeping,
+    ) -> Result<bool, AllocError> {
+        let what = &subject.command(client, place).what;
+        let answer = &subject.reply(client, place).answer;
+        let Answer::Decided {
+            sync,
+            read_stamp,
+            raises,
+            syncs,
+            ended,
+            ..
+        } = answer
+        else {
+            return self.goes_plain(alloc, subject, client, place, keeping, what, answer);
+        };
+        let own = subject.own(client);
+        keeping.play(subject, own, *sync);
+        keeping.read_at(subject, own, *read_stamp, raises.as_slice(), syncs.as_slice())?;
+        if !self.ends(alloc, subject, client, own, keeping, what, *ended)? {
+            return Ok(false);
+        }
+        keeping.ended(client, own, *ended)?;
+        keeping.end(what);
+        Ok(true)
+    }
+}
+
+// ROWS
+
+// The numbers of the ids of each client's rows in its region.
+fn row_ids(alloc: Global, script: &Script, rows: &[RowReport]) -> Result<PlaceLists, AllocError>
+    ensures { IfOk result (λ lists. AreRowIds script.now rows.now lists) }
+{
+    let mut ids = PlaceLists::new(alloc, script.shape.homes.len())?;
+    for row in rows {
+        if is_client_in(script, row.region, row.row.client) {
+            ids.add(row.row.client, row.id.count)?;
+        }
+    }
+    Ok(ids)
+}
+
+// Whether all numbers are below one.
+fn are_below(numbers: &[u64], end: u64) -> bool
+    ensures { Tells result (All (λ n. n < end) numbers.now) }
+{
+    for number in numbers {
+        if *number >= end {
+            return false;
+        }
+    }
+    true
+}
+
+// Whether a client that keeps this has as many rows as it began, of ids that it used.
+fn has_its_rows(keeping: &Keeping, ids: &[u64]) -> bool
+    ensures { Tells result (HasItsRows keeping.now.ids keeping.now.rows ids.now) }
+{
+    if ids.len() as u64 != keeping.rows() {
+        return false;
+    }
+    are_below(ids, keeping.ids())
+}
+
+// Whether a report enters the nodes of its commands, and has rows for these alone.
+fn enters_nodes(alloc: Global, subject: &Subject<'_>) -> Result<bool, AllocError>
+    ensures { IfOk result (λ b. Tells b (EntersItsNodes subject.now.script subject.now.report)) }
+{
+    let _tracks = subject.tracks();
+    let rows = subject.report().rows.as_slice();
+    let places = RowPlaces::of_rows(alloc, rows)?;
+    let ids = row_ids(alloc, subject.script(), rows)?;
+    for client in 0..subject.clients() {
+        let Some(keeping) = walk(alloc, subject, client, &places)? else {
+            return Ok(false);
+        };
+        if !has_its_rows(&keeping, ids.places(client)) {
+            return Ok(false);
+        }
+    }
+    Ok(true)
+}
+
+/// Whether a report that keeps the first four rules keeps the fifth: each id is that of a command's node, with its client's floor
+/// and wants, and rows are those of commands.
+pub fn keeps_fifth(alloc: Global, subject: &Subject<'_>) -> Result<bool, AllocError>
+    requires fitting { IsFitting subject.now.script }
+    requires formed { IsWellFormed subject.now.script subject.now.report }
+    requires rules { RulesTo subject.now.script subject.now.report (account_of subject.now.script subject.now.report no_nodes) 4 }
+    ensures rules { IfOk result (λ b. Tells b (RulesTo subject.now.script subject.now.report
+        (account_of subject.now.script subject.now.report (nodes_told subject.now.script subject.now.report)) 5)) }
+    ensures keeps { IfOk result (λ b. Tells b (Keeps subject.now.script subject.now.report 5)) }
+{
+    fifth_is_entering();
+    later_rules_decided();
+    enters_nodes(alloc, subject)
 }

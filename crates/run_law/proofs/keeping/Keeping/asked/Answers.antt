@@ -1,0 +1,16 @@
+use Rattle.lawful_run.specs.Callers.{caller_of}
+use Rattle.run_law.proofs.NextNodes.{low_objects}
+use Rattle.run_law.proofs.keeping.Keeping.asked.Goals as goal
+use Rattle.std.proofs.Common.{◌∙◌, ap, sym}
+use Rattle.script_text.specs.declared.script.Script.{Script}
+
+pub colours_asked-requires : goal.colours_asked-requires
+colours_asked-requires c =
+    low_objects c.args.subject.now.script c.tracks.ensures.fitting c.as_slice-objects.result.now
+    (c.as_slice-objects.ensures ∙ ap (λ (s : Script). s.objects) c.script.ensures)
+
+pub returns : goal.returns
+returns c = λ kept is.
+    c.colours_asked.ensures (caller_of c.args.subject.now.script c.args.client) kept
+    (sym (c.as_slice-objects.ensures ∙ ap (λ (s : Script). s.objects) c.script.ensures))
+    (c.found_of-found.ensures kept is)
