@@ -37,7 +37,14 @@ use Rattle.run_rules.specs.Rules.{Rule1}
 use Rattle.run_rules.specs.Told.{Step, kept_at, kept_past}
 use Rattle.run_rules.specs.Telling.{account_of, is_in, log_of, no_nodes, replies_to}
 use Rattle.run_law.specs.Asking.{AreLow, HaveLowColours}
-use Rattle.run_law.specs.Fifth.{AreRowIds, EntersItsNodes, EntersNode, EntersUndecided, Finding, HasItsRows, IsPlain, OfNode, OfPlain, finding_at, row_ids}
+use Rattle.std.specs.Prelude.{◌↔◌}
+use Rattle.log_node.specs.declared.ids.Row.{Row}
+use Rattle.log_node.specs.declared.marks.ColourMark.{ColourMark}
+use Rattle.run_rules.specs.Rules.{EntersAsNode}
+use Rattle.run_rules.specs.Told.{colours_asked}
+use Rattle.run_rules.specs.Telling.{marked_colours}
+use Rattle.run_law.specs.RowPlaces.{place_in, row_at}
+use Rattle.run_law.specs.Fifth.{AreRowIds, AreRowsOf, EntersBeside, EntersItsNodes, EntersNode, EntersUndecided, Finding, HasItsRows, HasNextRow, IsNextRow, IsOfStep, IsPlain, MarksNext, next_id, OfNode, OfPlain, finding_at, row_ids}
 use Rattle.run_law.specs.Keepings.{Counted, IsCounted}
 use Rattle.run_law.specs.PlaceTables.{places_at, row_with}
 use Rattle.run_law.specs.RowPlaces.{AreRowPlaces}
@@ -278,3 +285,83 @@ rows_counted script report n kept counted ids is same b told =
     subst (λ (l : List ℕ). Tells b (HasItsRows kept.ids kept.rows l)) same
     (subst (λ (k : ℕ). Tells b (HasItsRows kept.ids k ids)) is.rows
     (subst (λ (k : ℕ). Tells b (HasItsRows k counted.rows ids)) is.ids told))
+
+-- THE NEXT ROW
+
+pub next_row_told : (colours : ℕ) (log : Log) (caller : Caller) (kept : Kept) (asked : List ℕ) (r : RowReport)
+    (marks : List ColourMark) → r.row.client ≡ caller.client → r.row.number ≡ kept.rows → marked_colours r.marks ≡ asked
+    → marks ≡ r.marks → (b : Bool) → Tells b (All (MarksNext colours log caller kept) marks)
+    → Tells b (IsNextRow colours log caller kept asked r)
+next_row_told colours log caller kept asked r marks of number are same true all = record {
+  row = ap (λ (n : ℕ). let w : Row = record { client = n; number = r.row.number } in w) of
+      ∙ ap (λ (n : ℕ). let w : Row = record { client = caller.client; number = n } in w) number;
+  colours_are = are;
+  marks_are = subst (All (MarksNext colours log caller kept)) same all;
+}
+next_row_told colours log caller kept asked r marks of number are same false fails = λ is.
+    fails (subst (All (MarksNext colours log caller kept)) (sym same) is.marks_are)
+
+module _ (table : RowPlaces) (walked : Walked) (client own : ℕ) (id : Id) (place : Option ℕ) (what : What) (kept : Kept)
+    (counted : Counted) (own_is : own ≡ (caller_of walked.script client).own) (id_is : id ≡ record { client = client; count = counted.ids })
+    (is : IsCounted (replies_to walked.report client) kept counted) (place_is : place ≡ place_in table own id) where
+  same_place : place ≡ place_in table (caller_of walked.script client).own (next_id (caller_of walked.script client) kept)
+  same_place =
+      place_is
+      ∙ (ap (λ (r : ℕ). place_in table r id) own_is
+      ∙ (ap (place_in table (caller_of walked.script client).own) id_is
+      ∙ ap (λ (n : ℕ). place_in table (caller_of walked.script client).own (record { client = client; count = n })) is.ids))
+
+  abbrev Next : Option RowReport → Type 0
+  Next = HasNextRow walked.script.shape.colours (log_walked walked) (caller_of walked.script client) kept
+      (colours_asked (caller_of walked.script client) kept what)
+
+  pub row_none : place ≡ None → AreRowsOf table walked client kept what
+  row_none none =
+      subst (λ (o : Option ℕ). Next (row_at walked.report.rows o)) (sym none ∙ same_place) tt
+
+  pub row_past : (at : ℕ) → place ≡ Some at → slice_get walked.report.rows at ≡ None → AreRowsOf table walked client kept what
+  row_past at some none =
+      subst (λ (o : Option ℕ). Next (row_at walked.report.rows o)) (sym some ∙ same_place) (subst Next (sym none) tt)
+
+  pub row_told : (at : ℕ) → place ≡ Some at → (r : RowReport) → slice_get walked.report.rows at ≡ Some r → (asked : List ℕ)
+      → asked ≡ colours_asked (caller_of walked.script client) kept what → (b : Bool)
+      → Tells b (IsNextRow walked.script.shape.colours (log_walked walked) (caller_of walked.script client) kept asked r)
+      → Tells b (AreRowsOf table walked client kept what)
+  row_told at some r there asked are b told =
+      subst (λ (o : Option ℕ). Tells b (Next (row_at walked.report.rows o))) (sym some ∙ same_place)
+      (subst (λ (o : Option RowReport). Tells b (Next o)) (sym there)
+      (subst (λ (l : List ℕ). Tells b (IsNextRow walked.script.shape.colours (log_walked walked) (caller_of walked.script client) kept l r))
+      are told))
+
+pub beside_told : (find : Finding) (colours : ℕ) (log : Log) (caller : Caller) (what : What) (kept : Kept) (row : Option ℕ)
+    (points : List PointPiece) → EntersAsNode log caller kept row points → (b : Bool)
+    → Tells b (HasNextRow colours log caller kept (colours_asked caller kept what) (find caller.own (next_id caller kept)))
+    → Tells b (EntersBeside find colours log caller what kept row points)
+beside_told find colours log caller what kept row points enters true next = record { enters = enters; beside = next }
+beside_told find colours log caller what kept row points enters false fails = λ is. fails is.beside
+
+-- GOING ON
+
+module _ (find : Finding) (walked : Walked) (client : ℕ) (what : What) (answer : Answer) (step : Step)
+    (of : IsOfStep step what answer) where
+  abbrev who : Caller
+  who = caller_of walked.script client
+
+  abbrev Asked : What → Kept → Option ℕ → List PointPiece → Type 0
+  Asked w = EntersBeside find walked.script.shape.colours (log_walked walked) who w
+
+  asks_same : IsPlain answer → EntersUndecided find walked client (kept_at step) what answer ≡ EntersNode find walked who step
+  asks_same plain =
+      ap (λ (w : What). OfPlain (Asked w) who (kept_at step) w answer) (sym of.0)
+      ∙ (ap (OfPlain (Asked step.command.what) who (kept_at step) step.command.what) (sym of.1)
+      ∙ plain_same (Asked step.command.what) (log_walked walked) who (kept_at step) step.command.what step.reply.answer
+      (subst IsPlain (sym of.1) plain))
+
+  pub plain_told : IsPlain answer → (b : Bool) → Tells b (EntersUndecided find walked client (kept_at step) what answer)
+      → Tells b (EntersNode find walked who step)
+  plain_told plain b told = subst (Tells b) (asks_same plain) told
+
+-- what is told of one of two that say the same is told of the other
+pub told_both : {P Q : Type 0} → P ↔ Q → (b : Bool) → Tells b P → Tells b Q
+told_both same true p = same.0 p
+told_both same false f = λ q. f (same.1 q)

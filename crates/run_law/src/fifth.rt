@@ -266,7 +266,7 @@ impl Keeping {
         ensures { (kept : Kept) → IsCounted (replies_to subject.now.report client) kept self.now → IfOk result (λ asked. asked
             ≡ colours_asked (caller_of subject.now.script client) kept what.now) }
     {
-        let _tracks = subject.tracks();
+        let _may = subject.tracks();
         let objects = subject.script().objects.as_slice();
         let found = self.found_of(subject, client, what);
         colours_asked(alloc, objects, what, found)
@@ -494,12 +494,19 @@ fn row_ids(alloc: Global, script: &Script, rows: &[RowReport]) -> Result<PlaceLi
     Ok(ids)
 }
 
-// Whether all numbers are below one.
+// Whether a number is below another one.
+fn is_below(number: u64, end: u64) -> bool
+    ensures { Tells result (number < end) }
+{
+    number < end
+}
+
+// Whether all numbers are.
 fn are_below(numbers: &[u64], end: u64) -> bool
     ensures { Tells result (All (λ n. n < end) numbers.now) }
 {
     for number in numbers {
-        if *number >= end {
+        if !is_below(*number, end) {
             return false;
         }
     }
@@ -520,7 +527,7 @@ fn has_its_rows(keeping: &Keeping, ids: &[u64]) -> bool
 fn enters_nodes(alloc: Global, subject: &Subject<'_>) -> Result<bool, AllocError>
     ensures { IfOk result (λ b. Tells b (EntersItsNodes subject.now.script subject.now.report)) }
 {
-    let _tracks = subject.tracks();
+    let _may = subject.tracks();
     let rows = subject.report().rows.as_slice();
     let places = RowPlaces::of_rows(alloc, rows)?;
     let ids = row_ids(alloc, subject.script(), rows)?;

@@ -6,7 +6,7 @@ use Rattle.script_text.specs.declared.script.Script.{Script}
 
 pub colours_asked-requires : goal.colours_asked-requires
 colours_asked-requires c =
-    low_objects c.args.subject.now.script c.tracks.ensures.fitting c.as_slice-objects.result.now
+    low_objects c.args.subject.now.script c.tracks-may.ensures.fitting c.as_slice-objects.result.now
     (c.as_slice-objects.ensures ∙ ap (λ (s : Script). s.objects) c.script.ensures)
 
 pub returns : goal.returns
