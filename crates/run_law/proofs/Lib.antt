@@ -1,3 +1,4 @@
+mod AllReplies
 mod AskedIs
 mod CanTold
 mod ClosingLemmas
@@ -6,6 +7,7 @@ mod CopiesLemmas
 mod CopyLemmas
 mod FifthLaws
 mod FinalLemmas
+mod FirstLemmas
 mod HeadLemmas
 mod LeftLemmas
 mod ListedLaws
@@ -20,6 +22,7 @@ mod PastLemmas
 mod PlaceLemmas
 mod PrintLemmas
 mod ProposalLemmas
+mod RepliesLemmas
 mod RisingLemmas
 mod RowLemmas
 mod RowOrder

@@ -1,6 +1,6 @@
 pub mod Answered
-pub mod Behind
 pub mod Asking
+pub mod Behind
 pub mod Columns
 pub mod Fifth
 pub mod Journals
@@ -10,6 +10,7 @@ pub mod Listed
 pub mod Lists
 pub mod PlaceTables
 pub mod Proposals
+pub mod Replies
 pub mod RowPlaces
 pub mod RowsBeside
 pub mod Subjects
