@@ -25,3 +25,4 @@ mod SubjectLemmas
 mod TableLemmas
 mod ThirdLemmas
 mod ToldLemmas
+mod WalkLemmas

@@ -1,5 +1,5 @@
 // What a walk over a report's commands looks up.
-ghost use Rattle.std.specs.Prelude.{◌≡◌, ◌<◌, ◌≤◌, ◌^◌, IfOk, Some, length, slice_get};
+ghost use Rattle.std.specs.Prelude.{◌≡◌, ◌<◌, ◌≤◌, ◌^◌, IfOk, List, Some, length, slice_get};
 ghost use Rattle.col_core.specs.Keeping.{Kept};
 ghost use Rattle.lawful_run.specs.Callers.{Caller, caller_of, commands_of};
 ghost use Rattle.lawful_run.specs.Reads.{greatest_played};
@@ -9,6 +9,7 @@ ghost use Rattle.run_law.specs.PlaceTables.{final_of, row_with};
 ghost use Rattle.run_law.specs.Subjects.{AtColumn, last_between};
 ghost use Rattle.run_law.specs.Walking.{IsStepOf, MayWalk, journal_walked, log_walked, steps_walked};
 ghost use Rattle.col_core.specs.Log.{places_of};
+ghost use Rattle.column_track.specs.Tracks.{Tracked};
 
 use crate::column_places::{ColumnPlaces, places_of_columns};
 use crate::copies::column_place;
@@ -76,6 +77,14 @@ impl<'r> Subject<'r> {
     {
         let _may = &self.finals;
         self.tracks
+    }
+
+    /// Says that the report keeps the first three rules, and how many clients it has.
+    pub fn agrees(&self)
+        ensures may { (tracks : List Tracked) × MayWalk self.now.script self.now.report tracks }
+        ensures clients { length self.now.report.clients ≡ length self.now.script.shape.homes }
+    {
+        let _may = &self.finals;
     }
 
     /// How many clients there are.
