@@ -14,7 +14,7 @@ ghost use Rattle.column_track.specs.Tracks.{Tracked};
 use crate::column_places::{ColumnPlaces, places_of_columns};
 use crate::copies::column_place;
 use crate::finals::Finals;
-use crate::place_lists::PlaceLists;
+use crate::place_lists::{PlaceLists, commands_by_client};
 use crate::printed::Printed;
 use col_core::Entry;
 use column_track::Track;
@@ -57,6 +57,32 @@ fn last_stamp(line: &[Key], from: u64, to: u64) -> u64
 }
 
 impl<'r> Subject<'r> {
+    /// What is looked up of a report that keeps the first three rules, by the tracks of its columns.
+    pub fn of(
+        alloc: Global,
+        script: &'r Script,
+        report: &'r Report,
+        tracks: &'r [Track],
+    ) -> Result<Subject<'r>, AllocError>
+        requires { MayWalk script.now report.now tracks.now }
+        ensures { IfOk result (λ s. s ≡ record { script = script.now; report = report.now }) }
+    {
+        let clients = script.shape.homes.len();
+        let commands = commands_by_client(alloc, clients, script.commands.as_slice())?;
+        let places = places_of_columns(alloc, clients, report.columns.as_slice())?;
+        let printed = Printed::of_report(alloc, script, &commands, report)?;
+        let finals = Finals::of_rows(alloc, report.rows.as_slice())?;
+        Ok(Subject {
+            script,
+            report,
+            tracks,
+            commands,
+            places,
+            printed,
+            finals,
+        })
+    }
+
     /// The script.
     pub fn script(&self) -> &'r Script
         ensures { result.now ≡ self.now.script }
