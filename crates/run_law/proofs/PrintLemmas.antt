@@ -7,7 +7,8 @@ use Rattle.std.proofs.lemmas.Bool.{cases_Bool, cases_lt, true≢false, eq-eqb, e
 use Rattle.std.proofs.lemmas.Bool.Decides.{nat_tests}
 use Rattle.std.proofs.lemmas.List.{drop_all, drop_more}
 use Rattle.std.proofs.lemmas.List.Folds.{list_any-append}
-use Rattle.log_node.proofs.CallerLemmas.{same_some}
+use Rattle.std.proofs.lemmas.Option.{get_or_from_slice_get, slice_get_within}
+use Rattle.log_node.proofs.CallerLemmas.{get_within, same_some}
 use Rattle.script_text.specs.declared.commands.What.{What}
 use Rattle.script_text.specs.declared.script.Command.{Command}
 use Rattle.script_text.specs.declared.script.Script.{Script}
@@ -22,6 +23,7 @@ use Rattle.run_law.specs.contracts.printed.PrintOrd.TheImpl.{cmp-value}
 use Rattle.run_law.specs.declared.printed.Print.{Print}
 use Rattle.run_law.specs.declared.printed.Printed.{Printed}
 use Rattle.run_law.specs.PlaceTables.{is_asked_by, is_printed, numbers_where, same_print}
+use Rattle.run_law.specs.Subjects.{ArePrints}
 use Rattle.run_law.proofs.TableLemmas.{both_same, same_number}
 
 -- ONE MORE
@@ -211,3 +213,32 @@ one_client script report at shown old new there added so n r c p =
     beyond (inr more) = more
     beyond (inl less) =
         absurd (true≢false (sym (eq-eqb at n (let e : at ≡ n = omega (arith, less, ge) in e)) ∙ f))
+
+pub prints_none : (script : Script) (report : Report) (table : Printed) → ((n r c p : ℕ) → is_printed table n r c p ≡ false)
+    → PrintsTo script report zero table
+unfolding PrintsTo
+prints_none script report table none n r c p =
+    none n r c p ∙ sym (ap (λ (b : Bool). b && is_among p (places_shown script report n r c)) (le-ltb n zero (omega arith)))
+
+pub prints_all : (script : Script) (report : Report) (at : ℕ) (table : Printed) → length script.shape.homes ≤ at
+    → PrintsTo script report at table → ArePrints script report table
+unfolding PrintsTo
+prints_all script report at table ge so n lt r c p =
+    so n r c p
+    ∙ ap (λ (b : Bool). b && is_among p (places_shown script report n r c)) (lt-ltb n at (omega (arith, ge, lt)))
+
+-- a client's command by its number
+pub command_of : (commands : List Command) (client : ℕ) (numbers : List ℕ) → numbers ≡ numbers_where (is_asked_by client) 0 commands
+    → (at : ℕ) → at < length numbers → (d : ℕ)
+    → (c : Command) × (slice_get commands (slice_index_or numbers at d) ≡ Some c)
+    × (slice_get (filter (is_asked_by client) commands) at ≡ Some c)
+command_of commands client numbers are at lt d =
+    let n = get_within numbers at lt in
+    let item = where_item (is_asked_by client) 0 commands at n.0 (ap (λ (l : List ℕ). slice_get l at) (sym are) ∙ n.1) in
+    let many = where_length (is_asked_by client) 0 commands in
+    let same = ap length are in
+    let c = get_within (filter (is_asked_by client) commands) at (omega (arith, many, same, lt)) in
+    let e = item.1 in
+    let m : slice_index_or numbers at d ≡ item.0 =
+    get_or_from_slice_get numbers at n.0 d n.1 ∙ (let f : n.0 ≡ item.0 = omega (arith, e) in f) in
+    (c.0, ap (slice_get commands) m ∙ (item.2 ∙ c.1), c.1)
