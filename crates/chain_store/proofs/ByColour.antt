@@ -17,7 +17,6 @@ use Rattle.stamp_board.specs.declared.view.View.{View}
 use Rattle.stamp_board.specs.declared.seats.Seat.{Seat}
 use Rattle.stamp_board.specs.Views.{KnowsBegun}
 use Rattle.std.specs.Vec.{with_item}
-use Rattle.column.specs.declared.given.Given.{Given}
 use Rattle.stamp_board.specs.Seats.{IsLater, IsClients, seen as seat_seen}
 use Rattle.turn_cell.specs.Cells.{seen}
 use Rattle.chain_store.specs.declared.told.Tag.{Tag}
@@ -55,9 +54,8 @@ module _ (n : ℕ) (old new : List Told) where
     | inr m ↦ inr (_, at, m.0, refl, λ used next nodes. tt)
   ]
 
-  pub gave : (t : Tag) (region from : ℕ) (at : At) (given : Given) → GivesAt t n region from old new at given → Moves
-      n old new
-  gave t region from at given m =
+  pub gave : (region from : ℕ) (at : At) (lined : ℕ) → GivesAt n region from old new at lined → Moves n old new
+  gave region from at lined m =
       inr (
         m.told,
         at,
@@ -66,16 +64,16 @@ module _ (n : ℕ) (old new : List Told) where
         λ used next nodes. subst (λ (u : Told). IsAccountedFor n used next nodes u.entry.event) (sym m.note) tt,
       )
 
-  pub carried : (t : Tag) (region : ℕ) (given : Given) (at : At) (nodes : ℕ)
-      → CarriesAt t n region given old new at nodes → Moves n old new
-  carried t region given at nodes r = elim r.either [
+  pub carried : (t : Tag) (region least : ℕ) (at : At) (nodes : ℕ)
+      → CarriesAt t n region least old new at nodes → Moves n old new
+  carried t region least at nodes r = elim r.either [
     | inl look ↦ inl look.0.0
     | inr m ↦ inr (
       m.0,
       at,
-      m.1,
-      ap maker m.2,
-      λ used next nodes. subst (λ (u : Told). IsAccountedFor n used next nodes u.entry.event) (sym m.2) tt,
+      m.2,
+      ap maker m.3,
+      λ used next nodes. subst (λ (u : Told). IsAccountedFor n used next nodes u.entry.event) (sym m.3) tt,
     )
   ]
 
@@ -88,6 +86,14 @@ module _ (n : ℕ) (old new : List Told) where
       → IfOk res P → OnErr res (SeesMore n old new) → Moves n old new
   or_looked P (Ok x) f ok err = f x ok
   or_looked P (Err e) f ok err = inl err
+
+  -- one that may also find too little
+  pub or_waited : {T E : Type 0} (P : T → Type 0) (res : Result (Option T) E) → ((x : T) → P x → Moves n old new)
+      → IfOk res (λ (o : Option T). IfSome o P) → (res ≡ Ok None → SeesMore n old new) → OnErr res (SeesMore n old new)
+      → Moves n old new
+  or_waited P (Ok (Some x)) f ok none err = f x ok
+  or_waited P (Ok None) f ok none err = inl (none refl)
+  or_waited P (Err e) f ok none err = inl err
 
 -- the hold after a turn of the pass p of the colour's cell, which is q then
 module _ (r : Region) (h g : Hold) (k : ℕ) (c : ColumnCell) (p q : ColumnPass) (is : IsHold r h)

@@ -1,11 +1,11 @@
 -- What the writer of a column's copies keeps as it takes in news and publishes them.
 use Rattle.std.specs.Prelude.{MatchResult, IfOk, IfSome}
 use Rattle.core.specs.Result.{is_err, result_ok}
-use Rattle.std.proofs.Common.{Result, Ok, Err, Option, Some, None, true, false, ◌≡◌, List, [], ◌∷◌, ◌++◌, fold, refl, ap, sym, subst, ◌∙◌, append-nil}
+use Rattle.std.proofs.Common.{Result, Ok, Err, Option, Some, true, false, ◌≡◌, List, [], ◌∷◌, ◌++◌, fold, refl, ap, sym, subst, ◌∙◌, append-nil}
 use mathlib.Core.List.{IsPrefix}
 use Rattle.log_node.specs.declared.ids.Counts.{Counts}
 use Rattle.log_node.specs.Vectors.{zeros}
-use Rattle.turn_cell.specs.Cells.{seen, pass_tag}
+use Rattle.turn_cell.specs.Cells.{seen}
 use Rattle.turn_cell.specs.Rests.{rest_seen}
 use Rattle.chain_store.specs.declared.told.Tag.{Tag}
 use Rattle.chain_store.specs.declared.told.Told.{Told}

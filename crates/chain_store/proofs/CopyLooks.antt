@@ -1,9 +1,8 @@
 -- Passes of a column and of those at rest in its copies.
-use Rattle.std.proofs.Common.{◌≡◌, ◌≤◌, ◌+◌, ℕ, List, [], ◌∷◌, ◌++◌, length, Option, Some, None, refl, ap, sym, subst, ◌∙◌, ⊎_elim, arith, length-append, append-nil}
+use Rattle.std.proofs.Common.{◌≡◌, ◌≤◌, ℕ, List, [], ◌∷◌, ◌++◌, length, Option, Some, None, refl, ap, sym, subst, ◌∙◌, ⊎_elim, arith, length-append, append-nil}
 use Rattle.std.specs.Prelude.{IfSome}
 use mathlib.Core.List.{IsPrefix}
 use Rattle.log_node.specs.declared.ids.Counts.{Counts}
-use Rattle.log_node.specs.Vectors.{zeros}
 use Rattle.col_core.specs.declared.view.View.{View}
 use Rattle.turn_cell.specs.Histories.{IsLonger, made_by}
 use Rattle.turn_cell.specs.Cells.{seen, IsSameMaker, IsSameView, Accounts, IsReady, HasTurn}

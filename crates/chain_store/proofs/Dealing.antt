@@ -1,7 +1,8 @@
 -- How clients get what they have of the columns, and what a new region's holds are.
 use Rattle.std.proofs.Common.{◌≡◌, ◌≢◌, inl, inr, ℕ, zero, suc, ◌+◌, List, [], ◌∷◌, ◌++◌, length, set, Option, Some, None, slice_get, refl, ap, sym, subst, ◌∙◌, arith, length-append, length-set}
-use Rattle.std.proofs.lemmas.Option.{slice_get_within}
 use Rattle.log_node.specs.declared.node.Node.{Node}
+use Rattle.ring_ends.specs.declared.rings.Rings.{Rings}
+use Rattle.ring_ends.specs.Rings.{names_of}
 use Rattle.stamp_board.specs.declared.board.Board.{Board}
 use Rattle.stamp_board.specs.declared.seats.Seat.{Seat}
 use Rattle.stamp_board.specs.Seats.{AreFreshClients}
@@ -14,11 +15,11 @@ use Rattle.chain_store.specs.declared.opening.Client.{Client}
 use Rattle.chain_store.specs.declared.read_view.desk.Share.{Share}
 use Rattle.chain_store.specs.declared.read_view.desk.Desk.{Desk}
 use Rattle.chain_store.specs.Histories.{maker}
-use Rattle.chain_store.specs.Passes.{ColumnCell, ColumnPass, IsCellOf, IsHolder}
+use Rattle.chain_store.specs.Passes.{ColumnCell, ColumnPass, IsCellOf, IsHolder, tag_in}
 use Rattle.chain_store.specs.Desks.{AreSharesOf, HasDesks, IsDesk, IsShareOf, column_copied}
 use Rattle.chain_store.specs.Ends.{AreNewHolders}
 use Rattle.chain_store.specs.Holds.{HasPasses, IsHold, history_seen, turned_in}
-use Rattle.chain_store.specs.Openings.{AllGotNew, CopiesPass, Dealt, Got, GotNew, HasNew, HaveAll, Zipped, client_of}
+use Rattle.chain_store.specs.Openings.{AllGotNew, CopiesPass, Dealt, Got, HasNew, HaveAll, Zipped, client_of}
 use Rattle.chain_store.specs.Opening.{IsNewHold, AreNewHolds}
 use Rattle.chain_store.proofs.Holding.{got_set, set_other}
 use Rattle.chain_store.proofs.Entering.{get_last, get_old}
@@ -161,6 +162,27 @@ tied_more b region regions i m c cells more e is good all k d at = by k (ap (λ 
   by (suc k) here =
       let w : i + k ≡ m + suc k = omega (arith, e) in
       subst (λ (z : ℕ). IsCellOf b region z regions d) w (all k d here)
+
+-- the columns from the colour i on have their rings, and then those from m on
+pub rings_more : (ends : List Rings) (i m : ℕ) (x : Rings) (c : ColumnCell) (cells more : List ColumnCell) → i ≡ m + 1
+    → more ≡ c ∷ cells → slice_get ends m ≡ Some x → (tag_in c).rings ≡ names_of x
+    → ((k : ℕ) (y : Rings) (d : ColumnCell) → slice_get ends (i + k) ≡ Some y → slice_get cells k ≡ Some d
+    → (tag_in d).rings ≡ names_of y)
+    → (k : ℕ) (y : Rings) (d : ColumnCell) → slice_get ends (m + k) ≡ Some y → slice_get more k ≡ Some d
+    → (tag_in d).rings ≡ names_of y
+rings_more ends i m x c cells more e is here good all k y d at dat =
+    by k at (ap (λ l. slice_get l k) (sym is) ∙ dat) where
+      by : (k : ℕ) → slice_get ends (m + k) ≡ Some y → slice_get (c ∷ cells) k ≡ Some d → (tag_in d).rings ≡ names_of y
+      by zero there first =
+          let same : c ≡ d = cc (first) in
+          let w : m ≡ m + 0 = omega arith in
+          let two : Some x ≡ Some y = sym here ∙ ap (slice_get ends) w ∙ there in
+          let one : x ≡ y = cc (two) in
+          subst (λ (z : ColumnCell). (tag_in z).rings ≡ names_of y) same
+          (subst (λ (z : Rings). (tag_in c).rings ≡ names_of z) one good)
+      by (suc k) there later =
+          let w : m + suc k ≡ i + k = omega (arith, e) in
+          all k y d (ap (slice_get ends) (sym w) ∙ there) later
 
 pub zip_one : (cs : List Client) (ss : List Seat) (i m : ℕ) (x : Hold) (hs more : List Hold) → i ≡ m + 1
     → more ≡ x ∷ hs → Zipped cs ss i hs → slice_get cs m ≡ Some (client_of x) → slice_get ss m ≡ Some x.seat → x.next ≡ 0

@@ -19,6 +19,8 @@ use Rattle.col_core.specs.declared.Event.TheVariants.{Single, Propose}
 use Rattle.col_core.specs.Legal.{IsColumnHistory}
 use Rattle.col_core.specs.Rows.{BegunRow}
 use Rattle.column.specs.Columns.{ColumnState}
+use Rattle.ring_ends.specs.declared.rings.Rings.{Rings}
+use Rattle.ring_ends.specs.Rings.{IsForRegions}
 use Rattle.stamp_board.specs.declared.view.Size.{Size}
 use Rattle.stamp_board.specs.declared.view.View.{View}
 use Rattle.stamp_board.specs.declared.seats.Seat.{Seat}
@@ -35,17 +37,18 @@ use Rattle.chain_store.specs.declared.hold.Hold.{Hold}
 use Rattle.chain_store.specs.declared.seated.Seated.{Seated}
 use Rattle.chain_store.specs.declared.region.Region.{Region}
 use Rattle.chain_store.specs.declared.closed.ClosedRegion.{ClosedRegion}
-use Rattle.chain_store.specs.Tags.{tag}
-use Rattle.chain_store.specs.Tied.{AreTied}
+use Rattle.chain_store.specs.Regions.{tag_at}
 use Rattle.chain_store.specs.Histories.{maker, Brings, IsOfMaker}
 use Rattle.chain_store.specs.Marks.{Backs, numbers}
 use Rattle.chain_store.specs.Columns.{IsOfHistory, tag_of}
+use Rattle.chain_store.specs.Rings.{RingsFit}
 use Rattle.chain_store.specs.Passes.{ColumnCell, ColumnPass, tag_in, dated_in}
 use Rattle.chain_store.specs.Ends.{EndsAs}
 use Rattle.chain_store.specs.Owning.{IsAccountedFor, row_of}
 use Rattle.chain_store.specs.Holds.{IsHold, history_seen, passes_of, seen_in, made_in, view_of}
 use Rattle.chain_store.specs.Closings.{AreOfColour}
-use Rattle.chain_store.specs.Closing.{closed_of, ClosesColumn, ClosesFor, AgreesWith, Closed}
+use Rattle.chain_store.specs.Closing.{closed_of, ClosesColumn, ClosesRings, ClosesFor, AgreesWith, Closed}
+use Rattle.chain_store.proofs.Tagged.{tagged_at}
 use Rattle.chain_store.proofs.Backing.{backs_learnt}
 use Rattle.chain_store.proofs.Passing.{made_place}
 use Rattle.chain_store.proofs.Places.{image_at, at_image, contained, got, member_at}
@@ -70,7 +73,6 @@ pub record ColumnEnd : Type 0 where
   pub ends : EndsAs (tag_in cell) passes seated
 
 module _ (r : Region) (hs : List Hold) (closed : List Seated) (ws : List ℕ) (v : View)
-    (tied : AreTied r.board r.number r.regions r.columns.items)
     (many : length hs ≡ r.board.size.clients)
     (few : r.board.size.colours ≤ MAX_COLOURS)
     (z : Closes r.board.size ws v (map (λ (h : Hold). h.seat) hs) (map (λ (s : Seated). s.seat) closed))
@@ -146,8 +148,8 @@ module _ (r : Region) (hs : List Hold) (closed : List Seated) (ws : List ℕ) (v
   -- columns
 
   module _ (c : ℕ) (lt : c < r.board.size.colours) where
-    tag_is : tag_of (end c).seated ≡ tag r.number c r.regions r.board.size r.board.table.shared.table_id
-    tag_is = (end c).ends.tagged ∙ tied c (end c).cell (ends c lt).0
+    tag_is : tag_of (end c).seated ≡ tag_at r c
+    tag_is = (end c).ends.tagged ∙ tagged_at r c (end c).cell (ends c lt).0
 
     region_is : (end c).seated.column.region ≡ r.number
     region_is = ap (λ (t : Tag). t.region) tag_is
@@ -225,10 +227,10 @@ module _ (r : Region) (hs : List Hold) (closed : List Seated) (ws : List ℕ) (v
     agrees : Agrees r.number r.board.size ws v node c (logs c)
     agrees = record {
       numbered = λ row inside.
-          (end c).ends.stands.1.numbered row (subst (λ (k : Size). IsRow k row) (sym size_is) inside)
+          (end c).ends.stands.1.0.numbered row (subst (λ (k : Size). IsRow k row) (sym size_is) inside)
           ∙ ap numbers (sym (z.marks c (end c).seated.seat column_seat row));
       ended = λ row inside is.
-          let e = (end c).ends.stands.1.ended row (subst (λ (k : Size). IsRow k row) (sym size_is) inside)
+          let e = (end c).ends.stands.1.0.ended row (subst (λ (k : Size). IsRow k row) (sym size_is) inside)
           (sym (z.marks c (end c).seated.seat column_seat row) ∙ is) in record {
             node = e.node;
             knows = begun_learnt (column_seen (end c).seated.seat) v row column_size column_learns e.node e.knows;
@@ -239,7 +241,7 @@ module _ (r : Region) (hs : List Hold) (closed : List Seated) (ws : List ℕ) (v
           (subst (λ (x : ℕ). Brings (end c).seated.column.region x t.entry.event t.nodes) colour_is
           ((end c).ends.stands.0.brings n t at));
       backs = λ n t at. backs_learnt (column_seen (end c).seated.seat) v column_learns column_size t.entry.event t.nodes
-          ((end c).ends.stands.1.backs n t at);
+          ((end c).ends.stands.1.0.backs n t at);
       singles = single_apart;
     }
 
@@ -254,8 +256,19 @@ module _ (r : Region) (hs : List Hold) (closed : List Seated) (ws : List ℕ) (v
           stands = subst (λ (k : Size). IsOfHistory (end c).seated.column k.clients (logs c)) size_is
               (end c).ends.stands.0;
           lawful = subst (λ (t : Tag). IsColumnHistory t.region t.regions (dated_in t (logs c)))
-              (tied c (end c).cell (ends c lt).0) (end c).ends.lawful;
+              (tagged_at r c (end c).cell (ends c lt).0) (end c).ends.lawful;
         })
+
+    -- its rings are those that it began with, and fit its history
+    closes_rings : (s : Seated) → slice_get closed c ≡ Some s → ClosesRings r c s.rings (logs c)
+    closes_rings s at =
+        let two : Some (end c).seated ≡ Some s = sym (ends c lt).1 ∙ at in
+        let same : (end c).seated ≡ s = cc two in
+        subst (λ (x : Seated). ClosesRings r c x.rings (logs c)) same (
+          ap (λ (t : Tag). t.rings) tag_is,
+          subst (λ (n : ℕ). IsForRegions n (end c).seated.rings) regions_are (end c).seated.others,
+          subst (λ (t : Tag). RingsFit t (end c).seated.rings (logs c)) tag_is (end c).ends.stands.1.1,
+        )
 
   -- rows
 
@@ -329,9 +342,10 @@ module _ (r : Region) (hs : List Hold) (closed : List Seated) (ws : List ℕ) (v
 
   pub region_closes : (closes : ClosedRegion) → length closed ≡ r.board.size.colours
       → closes.columns ≡ map (λ (s : Seated). s.column) closed
+      → closes.ends.items ≡ map (λ (s : Seated). s.rings) closed
       → closes.rows ≡ map (closed_row r.board.size ws) own_rows
       → Closed r hs closes
-  region_closes closes count columns rows = record {
+  region_closes closes count columns rings rows = record {
     logs = logs;
     begun = begun;
     count = ap length columns ∙ length-map closed (λ (s : Seated). s.column) ∙ count;
@@ -340,6 +354,12 @@ module _ (r : Region) (hs : List Hold) (closed : List Seated) (ws : List ℕ) (v
         let near = slice_get_within closed c t.0 t.1 in
         let lt : c < r.board.size.colours = omega (arith, near, count) in
         subst (λ (x : ColumnState). ClosesColumn r c x (logs c)) t.2 (closes_column c lt t.0 t.1);
+    ends = ap length rings ∙ length-map closed (λ (s : Seated). s.rings) ∙ count;
+    rings = λ c own at.
+        let t = image_at (λ (s : Seated). s.rings) closed c own (ap (λ l. slice_get l c) (sym rings) ∙ at) in
+        let near = slice_get_within closed c t.0 t.1 in
+        let lt : c < r.board.size.colours = omega (arith, near, count) in
+        subst (λ (x : Rings). ClosesRings r c x (logs c)) t.2 (closes_rings c lt t.0 t.1);
     rows = lawful_rows r.number r.board.size ws v z.size few z.board node owned own_rows lists logs agrees;
     closing = rows ∙ sym (map-map closed_of own_row own_rows);
     in_order = map-map (λ (b : BegunRow). b.row) own_row own_rows ∙ same_rows own_rows;

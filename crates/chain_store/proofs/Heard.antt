@@ -102,7 +102,7 @@ first_known s size key (Some begun) sized at log stands =
           let e = stands.0.stored w.key x (place.0, w, place.1, refl, refl) in
           let r = entered_row (column_seen s.seat) s.column.region s.column.colour w.key.id x begun.row e.told.entry.event
           e.told.nodes e.brought e.entered of.row (stands.0.brings e.place e.told e.there)
-          (stands.1.backs e.place e.told e.there) in (
+          (stands.1.0.backs e.place e.told e.there) in (
             (
               x,
               record {

@@ -1,9 +1,10 @@
 -- A column with one entry more by which no node enters.
-use Rattle.std.proofs.Common.{Result, Ok, Err, ◌≡◌, ℕ, zero, suc, ◌+◌, ◌-◌, ◌<◌, ◌≤◌, true, false, List, [], ◌∷◌, ◌++◌, length, map, drop, Some, refl, ap, sym, subst, ◌∙◌, arith, min, inl, inr, ◌⊎◌, length-append}
-use Rattle.std.specs.Prelude.{OnOk, OnErr, if◌then◌else◌, nat_lt, slice_get, slice_set, slice_index, slice_index_or}
-use Rattle.std.specs.List.{Contains}
+use Rattle.std.proofs.Common.{Result, Ok, Err, ◌≡◌, ℕ, zero, suc, ◌+◌, ◌-◌, ◌<◌, ◌≤◌, ◌≢◌, eq-eqb, true, false, List, [], ◌∷◌, ◌++◌, length, map, drop, Some, refl, ap, sym, subst, ◌∙◌, arith, min, inl, inr, ◌⊎◌, length-append}
+use Rattle.std.specs.Prelude.{◌==◌, OnOk, OnErr, if◌then◌else◌, nat_lt, slice_get, slice_set, slice_index, slice_index_or}
+use Rattle.std.specs.List.{Contains, flat_map}
 use Rattle.std.specs.Option.{option_map}
-use Rattle.std.proofs.lemmas.Bool.{cases_eq, ltb-true, ltb-false}
+use Rattle.std.proofs.lemmas.Bool.{cases_eq, ne_eqb}
+use Rattle.std.proofs.lemmas.Grind.{flat_map-append}
 use Rattle.std.proofs.lemmas.List.{get_or-set_same, get_or-set_other}
 use Rattle.std.proofs.lemmas.Option.{slice_get_within, slice_get-map, get_or_from_slice_get}
 use Rattle.log_node.specs.declared.limits.TheConstants.{MAX_STAMP}
@@ -18,18 +19,27 @@ use Rattle.col_core.specs.declared.Entry.{Entry}
 use Rattle.col_core.specs.declared.Event.{Event}
 use Rattle.col_core.specs.declared.Event.TheVariants.{Raise, Give, Carry, Trim}
 use Rattle.col_core.specs.History.{clock, enters, event_number, last_stamp, line}
-use Rattle.col_core.proofs.CallerLemmas.{by_test, if_true, if_false}
-use Rattle.column.specs.declared.given.Given.{Given}
-use Rattle.column.specs.Columns.{ColumnState, after_raise, after_give, after_trim, with_items, new_items, copy_of, held_of, base_after, HasStored, HasCarried}
+use Rattle.col_core.specs.Cuts.{Dated, chain, carried}
+use Rattle.col_core.specs.Computed.{cut, dated}
+use Rattle.col_core.proofs.CallerLemmas.{if_true, if_false, dated-append}
+use Rattle.column.specs.Columns.{ColumnState, after_raise, after_give, after_trim, with_items, copy_of, held_of, base_after, HasStored, HasCarried}
+use Rattle.atomic_table.specs.Seated.{TableId}
+use Rattle.stamp_board.specs.declared.view.Size.{Size}
 use Rattle.stamp_board.specs.declared.seats.ColumnSeat.{ColumnSeat}
 use Rattle.stamp_board.specs.Seats.{column_seen}
+use Rattle.ring_ends.specs.declared.rings.Rings.{Rings}
+use Rattle.ring_ends.specs.Rings.{RingNames, names_of}
+use Rattle.chain_store.specs.declared.told.Tag.{Tag}
 use Rattle.chain_store.specs.declared.told.Told.{Told}
+use Rattle.chain_store.specs.Tags.{tag}
+use Rattle.chain_store.specs.Rings.{RingsFit}
 use Rattle.chain_store.specs.Entered.{AreBelow}
 use Rattle.chain_store.specs.Histories.{Brings, IsOfMaker}
 use Rattle.chain_store.specs.Marks.{proposes, Backs, IsBacked}
 use Rattle.chain_store.specs.Columns.{IsOfHistory, newest_in, newest_nodes, told_by, last_of, told_event, told_carry}
-use Rattle.chain_store.specs.Givens.{OfTheirHeads}
+use Rattle.ring_ends.specs.Givens.{OfTheirHeads}
 use Rattle.chain_store.proofs.Backing.{backed_more}
+use Rattle.chain_store.proofs.RingsGrow.{CarriesNone, fit_more}
 use Rattle.chain_store.proofs.Entering.{get_last, get_cases, map_with, names_more, enters_more}
 
 -- places of joined lists and of their ends
@@ -77,6 +87,7 @@ pub record HasMoved (column new : ColumnState) (t : Told) : Type 0 where
   pub journal : new.journal ≡ column.journal ++ t.entry ∷ []
   pub region : new.region ≡ column.region
   pub colour : new.colour ≡ column.colour
+  pub regions : new.regions ≡ column.regions
   pub newest : newest_nodes new t.entry.event ≡ t.nodes
   pub stored : (key : Key) (node : Node) → HasStored new key node → HasStored column key node
   pub carried : (region : ℕ) (item : PlacedNode) → HasCarried new region item
@@ -84,18 +95,27 @@ pub record HasMoved (column new : ColumnState) (t : Told) : Type 0 where
       ⊎ (Contains t.nodes item.node × (item.node.id ≡ item.head.key.id) × (item.head.key.stamp ≤ MAX_STAMP)
       × (item.node.region ≡ region))
 
+-- the newest entry is the one that the journal has more
+pub newest_told : (column new : ColumnState) (t : Told) → new.journal ≡ column.journal ++ t.entry ∷ []
+    → newest_nodes new t.entry.event ≡ t.nodes → newest_in new ≡ Some t
+newest_told column new t journal newest =
+    let long : length new.journal ≡ length column.journal + 1 =
+    ap length journal ∙ length-append column.journal (t.entry ∷ []) in
+    let less : length new.journal - 1 ≡ length column.journal = omega (arith, long) in
+    let last : slice_get new.journal (length new.journal - 1) ≡ Some t.entry =
+    ap (slice_get new.journal) less
+    ∙ (ap (λ l. slice_get l (length column.journal)) journal ∙ get_last column.journal t.entry) in
+    ap (option_map (told_by new)) last ∙ ap (λ (ns : List Node). Some (told_of t.entry ns)) newest where
+      told_of : Entry → List Node → Told
+      told_of e ns = record { entry = e; nodes = ns }
+
 module _ (column new : ColumnState) (t : Told) (h : HasMoved column new t) where
   pub moved_newest : newest_in new ≡ Some t
-  moved_newest =
-      let long : length new.journal ≡ length column.journal + 1 =
-      ap length h.journal ∙ length-append column.journal (t.entry ∷ []) in
-      let less : length new.journal - 1 ≡ length column.journal = omega (arith, long) in
-      let last : slice_get new.journal (length new.journal - 1) ≡ Some t.entry =
-      ap (slice_get new.journal) less
-      ∙ (ap (λ l. slice_get l (length column.journal)) h.journal ∙ get_last column.journal t.entry) in
-      ap (option_map (told_by new)) last ∙ ap (λ (ns : List Node). Some (told_of t.entry ns)) h.newest where
-        told_of : Entry → List Node → Told
-        told_of e ns = record { entry = e; nodes = ns }
+  moved_newest = newest_told column new t h.journal h.newest
+
+  pub moved_tag : (size : Size) (board : TableId) (rings : RingNames)
+      → tag new.region new.colour new.regions size board rings ≡ tag column.region column.colour column.regions size board rings
+  moved_tag size board rings = λ i. tag (h.region i) (h.colour i) (h.regions i) size board rings
 
   pub moved_history : (clients : ℕ) (log : List Told) → t.entry.by < clients → IsOfMaker t.entry.by t.entry.event
       → Brings column.region column.colour t.entry.event t.nodes
@@ -158,6 +178,7 @@ raised column new by to is = record {
   journal = ap (λ (c : ColumnState). c.journal) is;
   region = ap (λ (c : ColumnState). c.region) is;
   colour = ap (λ (c : ColumnState). c.colour) is;
+  regions = ap (λ (c : ColumnState). c.regions) is;
   newest = refl;
   stored = λ key x has. subst (λ (c : ColumnState). HasStored c key x) is has;
   carried = λ region item has. inl (subst (λ (c : ColumnState). HasCarried c region item) is has);
@@ -169,6 +190,7 @@ gave column new by region from is = record {
   journal = ap (λ (c : ColumnState). c.journal) is;
   region = ap (λ (c : ColumnState). c.region) is;
   colour = ap (λ (c : ColumnState). c.colour) is;
+  regions = ap (λ (c : ColumnState). c.regions) is;
   newest = refl;
   stored = λ key x has. subst (λ (c : ColumnState). HasStored c key x) is has;
   carried = λ region item has. inl (subst (λ (c : ColumnState). HasCarried c region item) is has);
@@ -181,6 +203,7 @@ trimmed column new by counts is = record {
   journal = ap (λ (c : ColumnState). c.journal) is;
   region = ap (λ (c : ColumnState). c.region) is;
   colour = ap (λ (c : ColumnState). c.colour) is;
+  regions = ap (λ (c : ColumnState). c.regions) is;
   newest = refl;
   stored = λ key x has.
       let w = subst (λ (c : ColumnState). HasStored c key x) is has in
@@ -199,6 +222,24 @@ trimmed column new by counts is = record {
   kept (suc (suc (suc zero))) item has = get_dropped _ (copy_of column 3) has.0 item has.1
   kept (suc (suc (suc (suc k)))) item has = absurd (let e = has.1 in let f : ⊥ = cc (e) in f)
 
+-- the newest nodes after a carry are those that it brought
+pub carried_newest : (column new : ColumnState) (by region : ℕ) (first : PlacedNode) (rest : List PlacedNode)
+    → new ≡ with_items column by region (first ∷ rest) → region < length column.copies
+    → newest_nodes new (Carry region (held_of column region) (map (λ (i : PlacedNode). i.head) (first ∷ rest)))
+    ≡ map (λ (i : PlacedNode). i.node) (first ∷ rest)
+carried_newest column new by region first rest is within =
+    ap (λ (c : ColumnState). newest_nodes c (Carry region (held_of column region) (map (λ (i : PlacedNode). i.head) items))) is
+    ∙ ap (map (λ (i : PlacedNode). i.node)) (ap (last_of (length (map (λ (i : PlacedNode). i.head) items)))
+    (get_or-set_same column.copies region (copy_of column region ++ items) [] within)
+    ∙ (ap (λ (n : ℕ). last_of n (copy_of column region ++ items)) (length_map items)
+    ∙ last_added (copy_of column region) items)) where
+      items : List PlacedNode
+      items = first ∷ rest
+
+      length_map : (l : List PlacedNode) → length (map (λ (i : PlacedNode). i.head) l) ≡ length l
+      length_map [] = refl
+      length_map (x ∷ xs) = ap (λ (n : ℕ). suc n) (length_map xs)
+
 -- nodes of another region's chain were added
 pub carries : (column new : ColumnState) (by region : ℕ) (items : List PlacedNode)
     → new ≡ with_items column by region items → 0 < length items → region < length column.copies
@@ -208,10 +249,8 @@ carries column new by region (first ∷ rest) is some within heads = record {
   journal = ap (λ (c : ColumnState). c.journal) is;
   region = ap (λ (c : ColumnState). c.region) is;
   colour = ap (λ (c : ColumnState). c.colour) is;
-  newest = ap (λ (c : ColumnState). newest_nodes c (Carry region (held_of column region) (map (λ (i : PlacedNode). i.head) items))) is
-      ∙ ap (map (λ (i : PlacedNode). i.node)) (ap (last_of (length (map (λ (i : PlacedNode). i.head) items))) there
-      ∙ (ap (λ (n : ℕ). last_of n (copy_of column region ++ items)) (length_map items)
-      ∙ last_added (copy_of column region) items));
+  regions = ap (λ (c : ColumnState). c.regions) is;
+  newest = carried_newest column new by region first rest is within;
   stored = λ key x has. subst (λ (c : ColumnState). HasStored c key x) is has;
   carried = λ other item has.
       let g = subst (λ (c : ColumnState). HasCarried c other item) is has in
@@ -248,10 +287,6 @@ carries column new by region (first ∷ rest) is some within heads = record {
   there : slice_index_or copies region [] ≡ copy_of column region ++ items
   there = get_or-set_same column.copies region (copy_of column region ++ items) [] within
 
-  length_map : (l : List PlacedNode) → length (map (λ (i : PlacedNode). i.head) l) ≡ length l
-  length_map [] = refl
-  length_map (x ∷ xs) = ap (λ (n : ℕ). suc n) (length_map xs)
-
 -- the nodes that were told have the ids of the heads
 pub ids_of_heads : (region : ℕ) (items : List PlacedNode) → OfTheirHeads region items
     → map (λ (n : Node). n.id) (map (λ (i : PlacedNode). i.node) items)
@@ -261,107 +296,176 @@ ids_of_heads region (i ∷ is) heads =
     ap (λ (x : Id). x ∷ map (λ (n : Node). n.id) (map (λ (j : PlacedNode). j.node) is)) (heads 0 i refl).0
     ∙ ap (λ (l : List Id). i.head.key.id ∷ l) (ids_of_heads region is (λ n j at. heads (suc n) j at))
 
--- What a column beside its seat gains, or that it stays, by its parts.
+-- What a column beside its seat and its rings gains, or that it stays, by its parts.
 
-abbrev pub GainsIn : ColumnState → ColumnState → ColumnSeat → Told → Type 0
-GainsIn column new seat t =
+abbrev pub StandsIn : ColumnState → ColumnSeat → Rings → List Told → Type 0
+StandsIn column seat rings log =
+    IsOfHistory column (column_seen seat).size.clients log
+    × (IsBacked seat log
+    × RingsFit
+    (tag column.region column.colour column.regions (column_seen seat).size seat.inner.table_id (names_of rings)) rings log)
+
+abbrev pub GainsIn : ColumnState → ColumnState → ColumnSeat → Rings → Told → Type 0
+GainsIn column new seat rings t =
     (newest_in new ≡ Some t) × (length new.journal < 18446744073709551616)
-    × ((log : List Told) → IsOfHistory column (column_seen seat).size.clients log × IsBacked seat log
-    → IsOfHistory new (column_seen seat).size.clients (log ++ t ∷ []) × IsBacked seat (log ++ t ∷ []))
+    × ((log : List Told) → StandsIn column seat rings log → StandsIn new seat rings (log ++ t ∷ []))
 
-abbrev pub StaysIn : ColumnState → ColumnState → ColumnSeat → Type 0
-StaysIn column new seat =
-    (log : List Told) → IsOfHistory column (column_seen seat).size.clients log × IsBacked seat log
-    → IsOfHistory new (column_seen seat).size.clients log × IsBacked seat log
+abbrev pub StaysIn : ColumnState → ColumnState → ColumnSeat → Rings → Type 0
+StaysIn column new seat rings = (log : List Told) → StandsIn column seat rings log → StandsIn new seat rings log
 
-pub stays_same : (column new : ColumnState) (seat : ColumnSeat) → new ≡ column → StaysIn column new seat
-stays_same column new seat same log h =
-    subst (λ (c : ColumnState). IsOfHistory c (column_seen seat).size.clients log × IsBacked seat log) (sym same) h
+pub stays_same : (column new : ColumnState) (seat : ColumnSeat) (rings : Rings) → new ≡ column → StaysIn column new seat rings
+stays_same column new seat rings same log h = subst (λ (c : ColumnState). StandsIn c seat rings log) (sym same) h
 
-pub gains_in : (column new : ColumnState) (seat : ColumnSeat) (t : Told) → HasMoved column new t
+pub gains_in : (column new : ColumnState) (seat : ColumnSeat) (rings : Rings) (t : Told) → HasMoved column new t
     → length new.journal < 18446744073709551616 → t.entry.by < (column_seen seat).size.clients
     → IsOfMaker t.entry.by t.entry.event → Brings column.region column.colour t.entry.event t.nodes
     → ((row : Row) → proposes row t.entry.event t.nodes ≡ false)
     → event_number t.entry.event t.entry.stamp ≤ last_stamp → Backs (column_seen seat) t.entry.event t.nodes
-    → GainsIn column new seat t
-gains_in column new seat t h short few mine brings none small back =
-    (moved_newest column new t h, short, moved column new t h seat few mine brings none small back)
+    → CarriesNone t → GainsIn column new seat rings t
+gains_in column new seat rings t h short few mine brings none small back plain = (
+  moved_newest column new t h,
+  short,
+  λ log g.
+      let m = moved column new t h seat few mine brings none small back log (g.0, g.1.0) in
+      let names = names_of rings in (
+        m.0,
+        (
+          m.1,
+          subst (λ (u : Tag). RingsFit u rings (log ++ t ∷ []))
+              (sym (moved_tag column new t h (column_seen seat).size seat.inner.table_id names))
+              (fit_more _ rings log t plain g.1.1),
+        ),
+      ),
+)
 
-module _ (column new : ColumnState) (seat : ColumnSeat) (by : ℕ) (short : length new.journal < 18446744073709551616)
-    (few : by < (column_seen seat).size.clients) where
+module _ (column new : ColumnState) (seat : ColumnSeat) (rings : Rings) (by : ℕ)
+    (short : length new.journal < 18446744073709551616) (few : by < (column_seen seat).size.clients) where
   -- raised where its clock was smaller
   pub raise_gains : (to clocked : ℕ) → clocked ≡ clock column.journal
       → new ≡ (if nat_lt (clock column.journal) to then after_raise column by to else column) → to ≤ last_stamp
-      → (nat_lt clocked to ≡ true → GainsIn column new seat (told_event by (Raise to)))
-      × (nat_lt clocked to ≡ false → StaysIn column new seat)
+      → (nat_lt clocked to ≡ true → GainsIn column new seat rings (told_event by (Raise to)))
+      × (nat_lt clocked to ≡ false → StaysIn column new seat rings)
   raise_gains to clocked is same small = (
     (λ yes.
         let e : new ≡ after_raise column by to =
         same ∙ if_true (nat_lt (clock column.journal) to) (after_raise column by to) column
         (ap (λ (n : ℕ). nat_lt n to) (sym is) ∙ yes) in
-        gains_in column new seat (told_event by (Raise to)) (raised column new by to e) short few tt refl (λ row. refl)
-        small tt),
-    λ none. stays_same column new seat
+        gains_in column new seat rings (told_event by (Raise to)) (raised column new by to e) short few tt refl (λ row. refl)
+        small tt (λ r. refl)),
+    λ none. stays_same column new seat rings
         (same ∙ if_false (nat_lt (clock column.journal) to) (after_raise column by to) column
         (ap (λ (n : ℕ). nat_lt n to) (sym is) ∙ none)),
   )
 
   pub give_gains : (region from : ℕ) → new ≡ after_give column by region from
-      → GainsIn column new seat (told_event by (Give region (min from (length (line column.journal)))))
+      → GainsIn column new seat rings (told_event by (Give region (min from (length (line column.journal)))))
   give_gains region from same =
-      gains_in column new seat (told_event by (Give region (min from (length (line column.journal)))))
-      (gave column new by region from same) short few tt refl (λ row. refl) (omega arith) tt
+      gains_in column new seat rings (told_event by (Give region (min from (length (line column.journal)))))
+      (gave column new by region from same) short few tt refl (λ row. refl) (omega arith) tt (λ r. refl)
 
   pub trim_gains : (counts : Counts) → new ≡ after_trim column by counts
-      → GainsIn column new seat (told_event by (Trim counts))
+      → GainsIn column new seat rings (told_event by (Trim counts))
   trim_gains counts same =
-      gains_in column new seat (told_event by (Trim counts)) (trimmed column new by counts same) short few tt refl
-      (λ row. refl) (omega arith) tt
+      gains_in column new seat rings (told_event by (Trim counts)) (trimmed column new by counts same) short few tt refl
+      (λ row. refl) (omega arith) tt (λ r. refl)
 
-  -- carried where there was something new
-  pub carry_gains : (region : ℕ) (items : List PlacedNode) (count : ℕ) → count ≡ length items
-      → new ≡ with_items column by region items → region < length column.copies → OfTheirHeads region items
-      → (nat_lt 0 count ≡ true → GainsIn column new seat (told_carry by region (held_of column region) items))
-      × (nat_lt 0 count ≡ false → StaysIn column new seat)
-  carry_gains region [] count is same within heads = (
-    (λ yes. absurd (let lt = ltb-true 0 count yes in let f : ⊥ = omega (arith, lt, is) in f)),
-    λ none. stays_same column new seat same,
-  )
-  carry_gains region (first ∷ rest) count is same within heads = (
-    (λ yes.
-        gains_in column new seat (told_carry by region (held_of column region) (first ∷ rest))
-        (carries column new by region (first ∷ rest) same (omega arith) within heads) short few tt
-        (ids_of_heads region (first ∷ rest) heads) (λ row. refl) (omega arith) tt),
-    λ none. absurd (let le = ltb-false 0 count none in let f : ⊥ = omega (arith, le, is) in f),
-  )
+  -- carried all that waits, where there is something
+  pub carry_gains : (after : Rings) (region : ℕ) (items : List PlacedNode) → 0 < length items
+      → new ≡ with_items column by region items → region < length column.copies
+      → names_of after ≡ names_of rings
+      → ((t : Tag) (log : List Told) → t.region ≡ column.region → t.regions ≡ column.regions → RingsFit t rings log
+      → OfTheirHeads region items × RingsFit t after (log ++ told_carry by region (held_of column region) items ∷ []))
+      → (newest_in new ≡ Some (told_carry by region (held_of column region) items))
+      × (length new.journal < 18446744073709551616)
+      × ((log : List Told) → StandsIn column seat rings log
+      → StandsIn new seat after (log ++ told_carry by region (held_of column region) items ∷ []))
+  carry_gains after region [] some same within names fits = absurd (let f : ⊥ = omega (arith, some) in f)
+  carry_gains after region (first ∷ rest) some same within names fits = (
+    newest_told column new t (ap (λ (c : ColumnState). c.journal) same)
+        (carried_newest column new by region first rest same within),
+    short,
+    λ log g.
+        let size = (column_seen seat).size in
+        let board = seat.inner.table_id in
+        let old = tag column.region column.colour column.regions size board (names_of rings) in
+        let f = fits old log refl refl g.1.1 in
+        let h = carries column new by region (first ∷ rest) same (omega arith) within f.0 in
+        let m = moved column new t h seat few tt (ids_of_heads region (first ∷ rest) f.0) (λ row. refl) (omega arith) tt log
+        (g.0, g.1.0) in
+        let is : tag new.region new.colour new.regions size board (names_of after) ≡ old =
+        ap (tag new.region new.colour new.regions size board) names ∙ moved_tag column new t h size board (names_of rings) in
+        (m.0, (m.1, subst (λ (u : Tag). RingsFit u after (log ++ t ∷ [])) (sym is) f.1)),
+  ) where
+    t : Told
+    t = told_carry by region (held_of column region) (first ∷ rest)
 
 -- a carry leaves the counts of what has entered
 pub carried_below : {T E : Type 0} (r : Result T E) (column new : ColumnState) (by region : ℕ) (items : List PlacedNode)
     (numbers : List ℕ) → OnOk r (new ≡ with_items column by region items) → OnErr r (new ≡ column)
-    → AreBelow column.journal numbers → (new.colour ≡ column.colour) × AreBelow new.journal numbers
+    → AreBelow column.journal numbers
+    → (new.colour ≡ column.colour) × AreBelow new.journal numbers × (new.regions ≡ column.regions)
 carried_below (Ok x) column new by region [] numbers ok err below = (
   ap (λ (c : ColumnState). c.colour) ok,
   subst (λ (c : ColumnState). AreBelow c.journal numbers) (sym ok) below,
+  ap (λ (c : ColumnState). c.regions) ok,
 )
 carried_below (Ok x) column new by region (item ∷ items) numbers ok err below = (
   ap (λ (c : ColumnState). c.colour) ok,
   subst (λ (c : ColumnState). AreBelow c.journal numbers) (sym ok)
       (below_same column.journal numbers (told_carry by region (held_of column region) (item ∷ items)).entry (λ id. refl)
       below),
+  ap (λ (c : ColumnState). c.regions) ok,
 )
 carried_below (Err e) column new by region items numbers ok err below = (
   ap (λ (c : ColumnState). c.colour) err,
   subst (λ (c : ColumnState). AreBelow c.journal numbers) (sym err) below,
+  ap (λ (c : ColumnState). c.regions) err,
 )
 
--- what is new of a part has its heads' ids as the part does
-pub new_heads : (column : ColumnState) (region : ℕ) (given : Given) → OfTheirHeads region given.items
-    → OfTheirHeads region (new_items column region given)
-new_heads column region given heads =
-    by_test (OfTheirHeads region (new_items column region given)) (nat_lt (held_of column region) given.start)
-    (λ yes. subst (OfTheirHeads region)
-    (sym (if_true (nat_lt (held_of column region) given.start) [] (drop (held_of column region - given.start) given.items) yes))
-    (λ n i at. absurd (let f : ⊥ = cc (at) in f)))
-    (λ no. subst (OfTheirHeads region)
-    (sym (if_false (nat_lt (held_of column region) given.start) [] (drop (held_of column region - given.start) given.items) no))
-    (λ n i at. let r = get_dropped (held_of column region - given.start) given.items n i at in heads r.0 i r.1))
+-- nodes that were taken over leave what never changes of a column
+pub items_keep : (column new : ColumnState) (by region : ℕ) (items : List PlacedNode) → new ≡ with_items column by region items
+    → (new.region ≡ column.region) × (new.colour ≡ column.colour) × (new.regions ≡ column.regions)
+items_keep column new by region [] is =
+    (ap (λ (c : ColumnState). c.region) is, ap (λ (c : ColumnState). c.colour) is, ap (λ (c : ColumnState). c.regions) is)
+items_keep column new by region (first ∷ rest) is =
+    (ap (λ (c : ColumnState). c.region) is, ap (λ (c : ColumnState). c.colour) is, ap (λ (c : ColumnState). c.regions) is)
+
+-- and its region's chain is longer by them
+pub items_held : (column new : ColumnState) (by region : ℕ) (items : List PlacedNode) → new ≡ with_items column by region items
+    → region ≢ column.region → held_of new region ≡ held_of column region + length items
+items_held column new by region [] is other =
+    let e = ap (λ (c : ColumnState). held_of c region) is in omega (arith, e)
+items_held column new by region (first ∷ rest) is other =
+    let own = column.region in
+    let items : List PlacedNode = first ∷ rest in
+    let e = (told_carry by region (held_of column region) items).entry in
+    let ds = dated own column.journal in
+    let d : Dated = record { entry = e; cut_before = cut own ds } in
+    let f : Dated → List Head = λ d. carried region d.entry.event in
+    let no = ne_eqb region own other in
+    let heads : List Head = map (λ (i : PlacedNode). i.head) items in
+    let now : held_of new region ≡ length (chain own (dated own (column.journal ++ e ∷ [])) region) =
+    ap (λ (c : ColumnState). held_of c region) is in
+    let long : length (chain own (dated own (column.journal ++ e ∷ [])) region) ≡ length (chain own (ds ++ d ∷ []) region) =
+    ap (λ (l : List Dated). length (chain own l region)) (dated-append own column.journal e) in
+    let one : chain own (ds ++ d ∷ []) region ≡ flat_map f (ds ++ d ∷ []) =
+    if_false (region == own) _ (flat_map f (ds ++ d ∷ [])) no in
+    let two : chain own ds region ≡ flat_map f ds = if_false (region == own) _ (flat_map f ds) no in
+    let three : flat_map f (ds ++ d ∷ []) ≡ flat_map f ds ++ flat_map f (d ∷ []) = flat_map-append f ds (d ∷ []) in
+    let four : flat_map f (d ∷ []) ≡ heads ++ [] =
+    ap (λ (l : List Head). l ++ []) (if_true (region == region) heads [] (eq-eqb region region refl)) in
+    omega (
+      arith,
+      now,
+      long,
+      ap length one,
+      ap length two,
+      ap length three,
+      ap length four,
+      length-append (flat_map f ds) (flat_map f (d ∷ [])),
+      length-append heads [],
+      length_map items,
+    ) where
+      length_map : (l : List PlacedNode) → length (map (λ (i : PlacedNode). i.head) l) ≡ length l
+      length_map [] = refl
+      length_map (x ∷ xs) = ap (λ (n : ℕ). suc n) (length_map xs)

@@ -90,10 +90,10 @@ first_numbered s key (Some begun) at log stands =
           let e = stands.0.stored w.key x (place.0, w, place.1, refl, refl) in
           let brings = stands.0.brings e.place e.told e.there in
           let r = entered_row (column_seen s.seat) s.column.region s.column.colour w.key.id x begun.row e.told.entry.event
-          e.told.nodes e.brought e.entered of.row brings (stands.1.backs e.place e.told e.there) in
+          e.told.nodes e.brought e.entered of.row brings (stands.1.0.backs e.place e.told e.there) in
           let it = enters_row s.column.region s.column.colour w.key.id x begun.row e.told.entry.event e.told.nodes e.brought
           e.entered of.row brings in
-          let same = stands.1.numbered begun.row r.0.inside in
+          let same = stands.1.0.numbered begun.row r.0.inside in
           let n = numbered (set_mark s.seat begun.row)
           (λ none. stamped begun.row log e.place e.told e.there it (same ∙ none)) in
           (n.0, n.1, same ∙ ap numbers n.1)

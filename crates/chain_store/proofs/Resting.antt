@@ -12,6 +12,7 @@ use Rattle.chain_store.specs.Passes.{IsLawfulTold}
 use Rattle.chain_store.specs.Regions.{tag_at}
 use Rattle.chain_store.specs.Holds.{IsHold, passes_of, history_seen, seen_in, entries_seen}
 use Rattle.chain_store.proofs.Places.{got}
+use Rattle.chain_store.proofs.Tagged.{tagged_at}
 
 -- it is a lawful history of each column
 pub lawful_seen : (r : Region) (h : Hold) (k : ℕ) → IsHold r h → k < r.board.size.colours
@@ -22,7 +23,7 @@ lawful_seen r h k is lt =
     let c = got r.columns.items k (omega (arith, lt, all)) in
     let p = got (passes_of h) k (omega (arith, lt, all, many)) in
     subst (λ (l : List Told). IsLawfulTold (tag_at r k) l) (sym (ap history_seen p.1))
-    (subst (λ (t : Tag). IsLawfulTold t (seen p.0)) (r.tied k c.0 c.1) (is.passes.1 k c.0 p.0 c.1 p.1).lawful)
+    (subst (λ (t : Tag). IsLawfulTold t (seen p.0)) (tagged_at r k c.0 c.1) (is.passes.1 k c.0 p.0 c.1 p.1).lawful)
 
 -- its ids are such as there may be
 pub ids_seen : (r : Region) (h : Hold) (k : ℕ) → IsHold r h → k < r.board.size.colours → HasIds (seen_in h k)

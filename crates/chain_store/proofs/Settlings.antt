@@ -431,10 +431,10 @@ may_settle_begun s t size begun outcome row m is sized later none stood possibly
     (possibly.2 ∙ stood ∙ sym (none row)))) in
     let there = outcome_learnt v w begun.row later.grows.size learns outcome known in (
       subst (λ (i : Id). MaySettle i outcome (entries s.column.journal) MAX_STAMP) (sym here.of.id)
-          (may_settle s.column t w.size.clients log st.0 st.1 possibly.0 may begun.row x of lawful s.column.colour has_it
+          (may_settle s.column t w.size.clients log st.0 st.1.0 possibly.0 may begun.row x of lawful s.column.colour has_it
           low mark outcome there),
       λ f final closed. subst (λ (i : Id). IsFinal s.column.journal i f) (sym here.of.id)
-          (was_settled s.column t w.size.clients log st.0 st.1 possibly.0 may begun.row x of lawful s.column.colour has_it
+          (was_settled s.column t w.size.clients log st.0 st.1.0 possibly.0 may begun.row x of lawful s.column.colour has_it
           low mark f (subst (λ (o : Outcome). KnowsOutcome w begun.row o) final there)
           (subst (λ (i : Id). open_entry i (entries s.column.journal) ≡ None) here.of.id closed)),
     )

@@ -2,6 +2,7 @@
 use Rattle.std.proofs.Common.{◌≡◌, ℕ, List, length, map, Some, slice_get, ap, subst, ◌∙◌, arith}
 use Rattle.std.proofs.lemmas.Option.{slice_get_within}
 use Rattle.column.specs.Columns.{ColumnState}
+use Rattle.ring_ends.specs.declared.rings.Rings.{Rings}
 use Rattle.stamp_board.specs.declared.view.Size.{Size}
 use Rattle.stamp_board.specs.declared.view.View.{View}
 use Rattle.stamp_board.specs.declared.seats.Seat.{Seat}
@@ -16,22 +17,21 @@ use Rattle.chain_store.specs.declared.hold.ColumnPasses.{ColumnPasses}
 use Rattle.chain_store.specs.declared.seated.Seated.{Seated}
 use Rattle.chain_store.specs.declared.region.Region.{Region}
 use Rattle.chain_store.specs.declared.closed.ClosedRegion.{ClosedRegion}
-use Rattle.chain_store.specs.Tied.{AreTied}
 use Rattle.chain_store.specs.Closings.{AreOfColour, AreClosed}
 use Rattle.chain_store.specs.Closing.{AreHoldsOf, Closed}
+use Rattle.chain_store.proofs.Tagged.{tagged_at}
 use Rattle.chain_store.proofs.Places.{got, choose}
 use Rattle.chain_store.proofs.Ending.{HoldOf, ColumnEnd, region_closes}
 
 -- the seat of a closed column is its colour's
 pub closed_seat : (r : Region) (clients : List ColumnPasses) (closed : List Seated)
-    → AreTied r.board r.number r.regions r.columns.items
     → length closed ≡ length r.columns.items
     → AreClosed r.columns.items clients closed
     → (c : ℕ) (s : Seated) → slice_get closed c ≡ Some s → IsColumnOf r.board s.seat × (s.seat.colour ≡ c)
-closed_seat r clients closed tied many shut c s at =
+closed_seat r clients closed many shut c s at =
     let near = slice_get_within closed c s at in
     let cell = got r.columns.items c (omega (arith, near, many)) in
-    let e = (shut c cell.0 s cell.1 at).ends.tagged ∙ tied c cell.0 cell.1 in
+    let e = (shut c cell.0 s cell.1 at).ends.tagged ∙ tagged_at r c cell.0 cell.1 in
     ((ap (λ (t : Tag). t.board) e, ap (λ (t : Tag). t.size) e), s.same ∙ ap (λ (t : Tag). t.colour) e)
 
 -- what the board says of its end
@@ -41,22 +41,23 @@ CloseOf k seats columns rows =
 
 -- the end of a region, from the lists into which it was taken apart
 pub ends_region : (r : Region) (hs : List Hold) (clients : List ColumnPasses) (seats : List Seat) (closed : List Seated)
-    (columns : List ColumnState) (column_seats : List ColumnSeat) (rows : List ClosedRow) (closes : ClosedRegion)
-    → AreTied r.board r.number r.regions r.columns.items
+    (columns : List ColumnState) (rings : List Rings) (column_seats : List ColumnSeat) (rows : List ClosedRow)
+    (closes : ClosedRegion)
     → length r.columns.items ≡ r.board.size.colours
     → IsSize r.board.size
     → AreHoldsOf r hs
     → clients ≡ map (λ (h : Hold). h.passes) hs
     → seats ≡ map (λ (h : Hold). h.seat) hs
     → columns ≡ map (λ (s : Seated). s.column) closed
+    → rings ≡ map (λ (s : Seated). s.rings) closed
     → column_seats ≡ map (λ (s : Seated). s.seat) closed
     → length closed ≡ length r.columns.items
     → AreClosed r.columns.items clients closed
     → CloseOf r.board.size seats column_seats rows
-    → closes.columns ≡ columns → closes.rows ≡ rows
+    → closes.columns ≡ columns → closes.ends.items ≡ rings → closes.rows ≡ rows
     → Closed r hs closes
-ends_region r hs clients seats closed columns column_seats rows closes tied cells size holds cs ss ds ts many shut z
-    ec er =
+ends_region r hs clients seats closed columns rings column_seats rows closes cells size holds cs ss ds ns ts many shut z
+    ec en er =
     let holder = choose (λ (n : ℕ) (x : HoldOf r). (slice_get hs n ≡ Some x.hold) × (x.hold.passes.number ≡ n))
     r.board.size.clients size.some_clients
     (λ n lt. let count = holds.0 in let t = got hs n (omega (arith, lt, count)) in let h = holds.1 n t.0 t.1 in
@@ -76,5 +77,5 @@ ends_region r hs clients seats closed columns column_seats rows closes tied cell
     )) in
     let closing : Closes r.board.size z.0 z.1 (map (λ (h : Hold). h.seat) hs) (map (λ (s : Seated). s.seat) closed) =
     subst (λ (l : List Seat × List ColumnSeat). Closes r.board.size z.0 z.1 l.0 l.1) (λ i. (ss i, ts i)) z.2 in
-    region_closes r hs closed z.0 z.1 tied holds.0 size.few_colours closing holder.0 holder.1 end.0 end.1 closes
-    (many ∙ cells) (ec ∙ ds) (er ∙ z.3 ∙ ap (λ l. map (closed_row r.board.size z.0) (all_begun l)) ss)
+    region_closes r hs closed z.0 z.1 holds.0 size.few_colours closing holder.0 holder.1 end.0 end.1 closes
+    (many ∙ cells) (ec ∙ ds) (en ∙ ns) (er ∙ z.3 ∙ ap (λ l. map (closed_row r.board.size z.0) (all_begun l)) ss)

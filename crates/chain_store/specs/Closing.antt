@@ -25,6 +25,10 @@ use Rattle.chain_store.specs.declared.region.Region.{Region}
 use Rattle.chain_store.specs.declared.closed.ClosedRegion.{ClosedRegion}
 use Rattle.chain_store.specs.Histories.{entries_in, maker}
 use Rattle.chain_store.specs.Columns.{IsOfHistory}
+use Rattle.ring_ends.specs.declared.rings.Rings.{Rings}
+use Rattle.ring_ends.specs.Rings.{names_of, IsForRegions}
+use Rattle.chain_store.specs.Rings.{RingsFit}
+use Rattle.chain_store.specs.Regions.{rings_at, tag_at}
 use Rattle.chain_store.specs.Holds.{IsHold, seen_in, made_in, view_of}
 
 -- they are the holds of all clients of the region, by number
@@ -45,6 +49,11 @@ pub record ClosesColumn (r : Region) (colour : ℕ) (column : ColumnState) (log 
   pub stands : IsOfHistory column r.board.size.clients log
   pub lawful : IsColumnHistory r.number r.regions (dated r.number (entries_in log))
 
+-- the rings are those that the colour's column began with, and fit its history
+abbrev pub ClosesRings : Region → ℕ → Rings → List Told → Type 0
+ClosesRings r colour rings log =
+    (names_of rings ≡ rings_at r colour) × IsForRegions r.regions rings × RingsFit (tag_at r colour) rings log
+
 -- the history begins with what the hold has seen, and has of its client just what the hold made
 pub record ClosesFor (h : Hold) (colour : ℕ) (log : List Told) : Type 0 where
   pub seen : IsPrefix (seen_in h colour) log
@@ -59,13 +68,16 @@ pub record AgreesWith (h : Hold) (b : BegunRow) : Type 0 where
 
 -- A region that has ended, of which the clients had these holds: its columns stand for lawful histories, beside which the
 -- begun rows are lawful. Each history begins with what a hold has seen, and has of its client just what it made; the
--- rows are those that the clients began, each as every hold knows it.
+-- rows are those that the clients began, each as every hold knows it. The columns' rings are at hand.
 pub record Closed (r : Region) (hs : List Hold) (closed : ClosedRegion) : Type 0 where
   pub logs : ℕ → List Told
   pub begun : List BegunRow
   pub count : length closed.columns ≡ r.board.size.colours
+  pub ends : length closed.ends.items ≡ r.board.size.colours
   pub columns : (colour : ℕ) (column : ColumnState) → slice_get closed.columns colour ≡ Some column
       → ClosesColumn r colour column (logs colour)
+  pub rings : (colour : ℕ) (rings : Rings) → slice_get closed.ends.items colour ≡ Some rings
+      → ClosesRings r colour rings (logs colour)
   pub rows : AreLawfulRows r.number r.board.size.colours (λ (c : ℕ). entries_in (logs c)) begun
   pub closing : closed.rows ≡ map closed_of begun
   pub in_order : map (λ (b : BegunRow). b.row) begun ≡ all_begun (map (λ (h : Hold). h.seat) hs)

@@ -3,7 +3,6 @@ use Rattle.std.specs.Prelude.{◌≡◌, List, [], fold, Some}
 use mathlib.Core.List.{IsPrefix}
 use Rattle.log_node.specs.declared.ids.Counts.{Counts}
 use Rattle.log_node.specs.Vectors.{zeros}
-use Rattle.col_core.specs.declared.view.View.{View}
 use Rattle.turn_cell.specs.declared.rest.Rest.{Rest}
 use Rattle.turn_cell.specs.declared.view.Stage.TheVariants.{Idle}
 use Rattle.turn_cell.specs.Cells.{seen, pass_table, pass_tag}

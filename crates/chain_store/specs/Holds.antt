@@ -8,14 +8,13 @@ use Rattle.stamp_board.specs.declared.view.View.{View}
 use Rattle.stamp_board.specs.Seats.{IsSeatOf, IsClients, seen as seat_seen}
 use Rattle.turn_cell.specs.Histories.{made_by}
 use Rattle.turn_cell.specs.Cells.{seen}
-use Rattle.column.specs.declared.given.Given.{Given}
 use Rattle.chain_store.specs.declared.told.Tag.{Tag}
 use Rattle.chain_store.specs.declared.told.Told.{Told}
 use Rattle.chain_store.specs.declared.hold.Hold.{Hold}
 use Rattle.chain_store.specs.declared.region.Region.{Region}
 use Rattle.chain_store.specs.Histories.{entries_in, maker}
 use Rattle.chain_store.specs.Passes.{ColumnCell, ColumnPass, IsHolder, SeesMore, MakesOne}
-use Rattle.chain_store.specs.Moves.{LooksAt, RaisesAt, GivesAt, CarriesAt, TrimsAt}
+use Rattle.chain_store.specs.Moves.{LooksAt, RaisesAt, GivesAt, CarriesAt, WaitsAt, TrimsAt}
 use Rattle.chain_store.specs.Owning.{Owns}
 use Rattle.chain_store.specs.Rows.{KnowsRow}
 use Rattle.chain_store.specs.Desks.{HasDesks}
@@ -93,15 +92,19 @@ module _ (colour : ℕ) (g h : Hold) where
   abbrev pub RaisesIn : ℕ → At → Type 0
   RaisesIn to at = RaisesAt g.passes.number to (seen_in g colour) (seen_in h colour) at
 
-  -- it has given the own line to a region, which has then asked past the number
-  abbrev pub GivesIn : Tag → ℕ → ℕ → At → Given → Type 0
-  GivesIn t region from at given =
-      GivesAt t g.passes.number region from (seen_in g colour) (seen_in h colour) at given
+  -- it has given the own line, which is so long, to a region, which has then asked past the number
+  abbrev pub GivesIn : ℕ → ℕ → At → ℕ → Type 0
+  GivesIn region from at lined =
+      GivesAt g.passes.number region from (seen_in g colour) (seen_in h colour) at lined
 
-  -- it has carried what is new, so many nodes, by an event exactly where there is something
-  abbrev pub CarriesIn : Tag → ℕ → Given → At → ℕ → Type 0
-  CarriesIn t region given at nodes =
-      CarriesAt t g.passes.number region given (seen_in g colour) (seen_in h colour) at nodes
+  -- it has carried what was received, so many nodes, by an event exactly where there is something
+  abbrev pub CarriesIn : Tag → ℕ → ℕ → At → ℕ → Type 0
+  CarriesIn t region least at nodes =
+      CarriesAt t g.passes.number region least (seen_in g colour) (seen_in h colour) at nodes
+
+  -- it has carried nothing, since fewer than the least are there
+  abbrev pub WaitsIn : Tag → ℕ → ℕ → Type 0
+  WaitsIn t region least = WaitsAt t g.passes.number region least (seen_in g colour) (seen_in h colour)
 
   -- it has trimmed nodes, and the answer is the base afterwards
   abbrev pub TrimsIn : Tag → Counts → At → Counts → Type 0

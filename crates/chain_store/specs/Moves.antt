@@ -1,17 +1,15 @@
 -- What a client sees and makes of a column by the calls that enter no node.
-use Rattle.std.specs.Prelude.{◌≡◌, ◌⊎◌, ℕ, ◌+◌, ◌-◌, ◌<◌, ◌≤◌, nat_lt, min, max, List, [], length, map, take, drop, Some, slice_get, if◌then◌else◌}
+use Rattle.std.specs.Prelude.{◌≡◌, ◌⊎◌, ℕ, ◌<◌, ◌≤◌, min, List, length}
 use Rattle.log_node.specs.declared.ids.Counts.{Counts}
 use Rattle.log_node.specs.declared.node.At.{At}
 use Rattle.log_node.specs.declared.node.At.TheVariants.{Look}
 use Rattle.log_node.specs.Seen.{PlacedNode}
-use Rattle.log_node.specs.Vectors.{at}
 use Rattle.col_core.specs.declared.Event.TheVariants.{Raise, Give, Trim}
 use Rattle.col_core.specs.History.{clock, line}
 use Rattle.col_core.specs.Cuts.{chain, base}
-use Rattle.column.specs.declared.given.Given.{Given}
 use Rattle.chain_store.specs.declared.told.Tag.{Tag}
 use Rattle.chain_store.specs.declared.told.Told.{Told}
-use Rattle.chain_store.specs.Histories.{entries_in, EntersAs}
+use Rattle.chain_store.specs.Histories.{entries_in}
 use Rattle.chain_store.specs.Columns.{told_event, told_carry}
 use Rattle.chain_store.specs.Passes.{SeesMore, MakesOne, dated_in}
 
@@ -33,38 +31,26 @@ pub record RaisesAt (n to : ℕ) (old new : List Told) (at : At) : Type 0 where
   pub either : LooksAt n old new at
       ⊎ ((m : MakesOne n (told_event n (Raise to)) old new at) × (clock (entries_in m.before) < to))
 
--- What is given of the own line after a history from a number on, which counts as the line's length where it is above:
--- the nodes from there on, or from the base on where that is greater, each as it entered, and of the history's region.
-pub record ShowsGiven (t : Tag) (log : List Told) (from : ℕ) (given : Given) : Type 0 where
-  pub start : given.start ≡ max (min from (length (line (entries_in log)))) (at (base_in t log) t.region)
-  pub heads : map (λ (i : PlacedNode). i.head) given.items
-      ≡ take (length (line (entries_in log)) - given.start)
-      (drop given.start (chain t.region (dated_in t log) t.region))
-  pub nodes : (n : ℕ) (i : PlacedNode) → slice_get given.items n ≡ Some i → EntersAs log i.head.key.id i.node
-  pub regions : (n : ℕ) (i : PlacedNode) → slice_get given.items n ≡ Some i → i.node.region ≡ t.region
-
--- the own line is given to a region, which has then asked past the number
-pub record GivesAt (t : Tag) (n region from : ℕ) (old new : List Told) (at : At) (given : Given) : Type 0 where
+-- the own line is given to a region, which has then asked past the number; the answer is the line's length
+pub record GivesAt (n region from : ℕ) (old new : List Told) (at : At) (lined : ℕ) : Type 0 where
   pub told : Told
   pub made : MakesOne n told old new at
   pub note : told ≡ told_event n (Give region (min from (length (line (entries_in made.before)))))
-  pub shows : ShowsGiven t made.before from given
+  pub line_is : lined ≡ length (line (entries_in made.before))
 
--- what is new of a part of a region's chain after a history: the nodes behind those held, and none where one between is
--- missing
-abbrev pub new_after : Tag → List Told → ℕ → Given → List PlacedNode
-new_after t log region given =
-    if nat_lt (held_in t log region) given.start then []
-    else drop (held_in t log region - given.start) given.items
+-- what was received is carried behind what was held, by an event exactly where there is something: so many nodes; no fewer
+-- than the least are held then
+pub record CarriesAt (t : Tag) (n region least : ℕ) (old new : List Told) (at : At) (nodes : ℕ) : Type 0 where
+  pub either : (LooksAt n old new at × (nodes ≡ 0))
+      ⊎ ((told : Told) × (items : List PlacedNode) × (m : MakesOne n told old new at)
+      × (told ≡ told_carry n region (held_in t m.before region) items)
+      × (nodes ≡ length items) × (0 < nodes))
+  pub covers : least ≤ held_in t new region
 
--- what is new is carried, by an event exactly where there is something: so many nodes
-pub record CarriesAt (t : Tag) (n region : ℕ) (given : Given) (old new : List Told) (at : At) (nodes : ℕ) : Type 0 where
-  pub either : (LooksAt n old new at × (new_after t new region given ≡ []) × (nodes ≡ 0))
-      ⊎ ((told : Told) × (m : MakesOne n told old new at)
-      × (told ≡ told_carry n region (held_in t m.before region) (new_after t m.before region given))
-      × (nodes ≡ length (new_after t m.before region given)) × (0 < nodes))
-  pub covers : given.start ≤ held_in t new region
-      → given.start + length given.items ≤ held_in t new region
+-- a carry that found fewer than the least: nothing is made, and fewer are held
+pub record WaitsAt (t : Tag) (n region least : ℕ) (old new : List Told) : Type 0 where
+  pub sees : SeesMore n old new
+  pub fewer : held_in t new region < least
 
 -- nodes are trimmed, and the answer is the base afterwards
 abbrev pub TrimsAt : Tag → ℕ → Counts → List Told → List Told → At → Counts → Type 0

@@ -2,6 +2,9 @@
 use Rattle.std.specs.Prelude.{◌≡◌, ℕ, List, [], length, Some, slice_get}
 use Rattle.log_node.specs.declared.node.Shape.{Shape}
 use Rattle.stamp_board.specs.declared.view.Size.{Size}
+use Rattle.ring_ends.specs.declared.rings.Rings.{Rings}
+use Rattle.ring_ends.specs.Rings.{IsForRegions}
+use Rattle.ring_ends.specs.NewRings.{AreUnused}
 use Rattle.chain_store.specs.declared.hold.Hold.{Hold}
 use Rattle.chain_store.specs.declared.region.Region.{Region}
 use Rattle.chain_store.specs.Holds.{seen_in, view_of}
@@ -22,3 +25,8 @@ pub record IsNewHold (h : Hold) : Type 0 where
 -- they are new holds of all clients of the region, by number
 abbrev pub AreNewHolds : Region → List Hold → Type 0
 AreNewHolds r hs = AreHoldsOf r hs × ((n : ℕ) (h : Hold) → slice_get hs n ≡ Some h → IsNewHold h)
+
+-- Ends of columns' rings: each column has one to each other region and one from each, through which nothing has gone.
+abbrev pub AreNewEnds : ℕ → List Rings → Type 0
+AreNewEnds regions ends =
+    (colour : ℕ) (rings : Rings) → slice_get ends colour ≡ Some rings → IsForRegions regions rings × AreUnused rings

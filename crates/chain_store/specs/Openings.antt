@@ -5,7 +5,6 @@ use Rattle.turn_cell.specs.Cells.{Pass, seen}
 use Rattle.chain_store.specs.declared.read_view.name.ColumnName.{ColumnName}
 use Rattle.chain_store.specs.declared.read_view.copies.Copies.{Copies}
 use Rattle.chain_store.specs.declared.read_view.desk.Share.{Share}
-use Rattle.chain_store.specs.declared.read_view.desk.Desk.{Desk}
 use Rattle.chain_store.specs.declared.hold.Hold.{Hold}
 use Rattle.chain_store.specs.declared.opening.Client.{Client}
 use Rattle.chain_store.specs.Passes.{ColumnCell, ColumnPass, IsHolder}

@@ -1,5 +1,5 @@
 // The calls of a region on one column, each under one turn of it.
-ghost use Rattle.std.specs.Prelude.{◌≡◌, ◌≢◌, ◌<◌, ◌≤◌, ◌+◌, ℕ, true, None, length, IfErr, IfOk, IfSome, OnOk, OnErr};
+ghost use Rattle.std.specs.Prelude.{◌≡◌, ◌≢◌, ◌<◌, ◌≤◌, ◌+◌, ℕ, true, Ok, None, length, IfErr, IfOk, IfSome, OnOk, OnErr};
 ghost use Rattle.std.specs.List.{position, filter, find};
 ghost use Rattle.std.specs.Option.{option_map};
 ghost use Rattle.log_node.specs.declared.marks.Mark.TheVariants.{Number, Fenced};
@@ -25,16 +25,16 @@ ghost use Rattle.chain_store.specs.Steps.{HasSingleCause, MatchAt};
 ghost use Rattle.chain_store.specs.Passes.{dated_in};
 ghost use Rattle.chain_store.specs.Regions.{tag_at};
 ghost use Rattle.chain_store.specs.Holds.{IsHold, KnowsAppend, SameBut, seen_in, entries_seen, view_of};
-ghost use Rattle.chain_store.specs.Holds.{SeesMoreIn, MakesOneIn, LooksIn, RaisesIn, GivesIn, CarriesIn, TrimsIn};
-ghost use Rattle.chain_store.specs.Givens.{OfTheirHeads};
+ghost use Rattle.chain_store.specs.Holds.{SeesMoreIn, MakesOneIn, LooksIn, RaisesIn, GivesIn, CarriesIn, WaitsIn, TrimsIn};
+ghost use Rattle.chain_store.specs.Moves.{held_in};
 
 use crate::calls::{Single, single_in};
-use crate::changes::{carry_in, give_in, raise_in, trim_in};
+use crate::changes::{carry_in, drain_in, feed_in, give_in, raise_in, trim_in};
 use crate::hold::Hold;
 use crate::looks::{clock_in, held_in, place_in};
 use crate::region::Region;
 use crate::rows::{Proposed, Settled, below_in, propose_in, settle_in};
-use column::{Below, ColumnFault, Given};
+use column::{Below, ColumnFault};
 use log_node::{At, Begun, Counts, Key, MAX_STAMP, Mark, Node, Outcome};
 use std::alloc::{AllocError, Global};
 use std::sync::{Arc, Wait};
@@ -149,57 +149,94 @@ impl Region {
         raised
     }
 
-    /// Gives another region the own nodes of the colour from a number on.
+    /// Notes in the colour's column that another region has asked past a number, and answers the line's length.
     pub fn give<R: Wait>(
         &self,
         rt: &R,
-        alloc: Global,
         hold: &mut Hold,
         colour: u8,
         region: u8,
         from: u64,
-    ) -> Result<(At, Given), AllocError>
-        requires hold { IsHold self.now hold.old }
-        requires colour { colour < self.now.board.size.colours }
-        requires other { (region ≢ self.now.number) × (region < self.now.regions) }
-        ensures hold { IsHold self.now hold.new }
-        ensures others { SameBut colour hold.old hold.new }
-        ensures same { (hold.new.seat ≡ hold.old.seat) × (hold.new.next ≡ hold.old.next) }
-        ensures ok { IfOk result (λ r. GivesIn colour hold.old hold.new (tag_at self.now colour) region from r.0 r.1) }
-        ensures err { OnErr result (SeesMoreIn colour hold.old hold.new) }
-    {
-        let by = hold.passes.number;
-        let pass = &mut hold.passes.items[colour as usize];
-        let given = give_in(rt, alloc, self.column(colour), pass, by, region, from);
-        self.behind(rt, &mut hold.desks, colour, by, given.is_ok());
-        given
-    }
-
-    /// Takes over what is new of a part of another region's line of the colour, and answers how many nodes that is.
-    pub fn carry<R: Wait>(
-        &self,
-        rt: &R,
-        alloc: Global,
-        hold: &mut Hold,
-        colour: u8,
-        region: u8,
-        given: &Given,
     ) -> Result<(At, u64), AllocError>
         requires hold { IsHold self.now hold.old }
         requires colour { colour < self.now.board.size.colours }
         requires other { (region ≢ self.now.number) × (region < self.now.regions) }
-        requires heads { OfTheirHeads region given.now.items }
         ensures hold { IsHold self.now hold.new }
         ensures others { SameBut colour hold.old hold.new }
         ensures same { (hold.new.seat ≡ hold.old.seat) × (hold.new.next ≡ hold.old.next) }
-        ensures ok { IfOk result (λ r.
-            CarriesIn colour hold.old hold.new (tag_at self.now colour) region given.now r.0 r.1) }
+        ensures ok { IfOk result (λ r. GivesIn colour hold.old hold.new region from r.0 r.1) }
         ensures err { OnErr result (SeesMoreIn colour hold.old hold.new) }
     {
         let by = hold.passes.number;
         let pass = &mut hold.passes.items[colour as usize];
-        let carried = carry_in(rt, alloc, self.column(colour), pass, by, region, given);
-        let event = matches!(carried, Ok((At::Event(_), _)));
+        let given = give_in(rt, self.column(colour), pass, by, region, from);
+        self.behind(rt, &mut hold.desks, colour, by, given.is_ok());
+        given
+    }
+
+    /// Sends own nodes of the colour to another region, in their order, while the ring takes them.
+    pub fn feed<R: Wait>(&self, rt: &R, hold: &mut Hold, colour: u8, region: u8)
+        requires hold { IsHold self.now hold.old }
+        requires colour { colour < self.now.board.size.colours }
+        requires other { (region ≢ self.now.number) × (region < self.now.regions) }
+        ensures hold { IsHold self.now hold.new }
+        ensures others { SameBut colour hold.old hold.new }
+        ensures same { (hold.new.seat ≡ hold.old.seat) × (hold.new.next ≡ hold.old.next) }
+        ensures sees { SeesMoreIn colour hold.old hold.new }
+    {
+        let by = hold.passes.number;
+        let pass = &mut hold.passes.items[colour as usize];
+        feed_in(rt, self.column(colour), pass, by, region)
+    }
+
+    /// Receives nodes of the colour that another region sent, and answers how many of its chain are held or received. Where
+    /// memory is refused, none is lost.
+    pub fn drain<R: Wait>(
+        &self,
+        rt: &R,
+        hold: &mut Hold,
+        colour: u8,
+        region: u8,
+    ) -> Result<u64, AllocError>
+        requires hold { IsHold self.now hold.old }
+        requires colour { colour < self.now.board.size.colours }
+        requires other { (region ≢ self.now.number) × (region < self.now.regions) }
+        ensures hold { IsHold self.now hold.new }
+        ensures others { SameBut colour hold.old hold.new }
+        ensures same { (hold.new.seat ≡ hold.old.seat) × (hold.new.next ≡ hold.old.next) }
+        ensures sees { SeesMoreIn colour hold.old hold.new }
+        ensures count { IfOk result (λ n. held_in (tag_at self.now colour) (seen_in hold.new colour) region ≤ n) }
+    {
+        let by = hold.passes.number;
+        let pass = &mut hold.passes.items[colour as usize];
+        drain_in(rt, self.column(colour), pass, by, region)
+    }
+
+    /// Takes over all nodes of the colour that were received from another region, and answers how many that are, an event
+    /// exactly where there is one. `None`, and nothing changes, where fewer than so many of its chain are held or received.
+    pub fn carry<R: Wait>(
+        &self,
+        rt: &R,
+        hold: &mut Hold,
+        colour: u8,
+        region: u8,
+        least: u64,
+    ) -> Result<Option<(At, u64)>, AllocError>
+        requires hold { IsHold self.now hold.old }
+        requires colour { colour < self.now.board.size.colours }
+        requires other { (region ≢ self.now.number) × (region < self.now.regions) }
+        ensures hold { IsHold self.now hold.new }
+        ensures others { SameBut colour hold.old hold.new }
+        ensures same { (hold.new.seat ≡ hold.old.seat) × (hold.new.next ≡ hold.old.next) }
+        ensures ok { IfOk result (λ carried. IfSome carried (λ r.
+            CarriesIn colour hold.old hold.new (tag_at self.now colour) region least r.0 r.1)) }
+        ensures none { result ≡ Ok None → WaitsIn colour hold.old hold.new (tag_at self.now colour) region least }
+        ensures err { OnErr result (SeesMoreIn colour hold.old hold.new) }
+    {
+        let by = hold.passes.number;
+        let pass = &mut hold.passes.items[colour as usize];
+        let carried = carry_in(rt, self.column(colour), pass, by, region, least);
+        let event = matches!(carried, Ok(Some((At::Event(_), _))));
         self.behind(rt, &mut hold.desks, colour, by, event);
         carried
     }

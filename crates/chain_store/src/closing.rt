@@ -11,39 +11,15 @@ use crate::read_view::desk::{Desk, Share};
 use crate::region::Region;
 use crate::seated::Seated;
 use column::Column;
+use ring_ends::Rings;
 use stamp_board::{ColumnSeat, Seat};
 use std::alloc::{AllocError, Global};
 use std::sync::Wait;
 use turn_cell::{Cell, Pass};
 
-// The passes, the seats and the desks of the holds.
-fn split_holds(
-    alloc: Global,
-    holds: Vec<Hold>,
-) -> Result<(Vec<ColumnPasses>, Vec<Seat>, Vec<Vec<Desk>>), AllocError>
-    ensures { IfOk result (λ r. (r.0.items ≡ map (λ h. h.passes) holds.items)
-        × (r.1.items ≡ map (λ h. h.seat) holds.items) × (r.2.items ≡ map (λ h. h.desks) holds.items)) }
-{
-    let mut passes = Vec::new(alloc);
-    let mut seats = Vec::new(alloc);
-    let mut desks = Vec::new(alloc);
-    for hold in holds {
-        let Hold {
-            passes: own,
-            seat,
-            next: _,
-            desks: at_copies,
-        } = hold;
-        passes.push(own)?;
-        seats.push(seat)?;
-        desks.push(at_copies)?;
-    }
-    Ok((passes, seats, desks))
-}
-
 // The end of the columns' copies, each by a client's desk: those of the last colour first.
-fn close_shares<R: Wait>(rt: &R, mut shares: Vec<Share>, mut desks: Vec<Desk>)
-    requires { HasDesks shares.items desks.items }
+fn close_shares<R: Wait>(rt: &R, mut shares: Vec<Share>, desks: &mut Vec<Desk>)
+    requires { HasDesks shares.items desks.old.items }
 {
     while let Some(share) = shares.pop() {
         match desks.pop() {
@@ -51,6 +27,29 @@ fn close_shares<R: Wait>(rt: &R, mut shares: Vec<Share>, mut desks: Vec<Desk>)
             None => unreachable!(),
         }
     }
+}
+
+// The passes and the seats of the holds.
+fn split_holds(
+    alloc: Global,
+    holds: Vec<Hold>,
+) -> Result<(Vec<ColumnPasses>, Vec<Seat>), AllocError>
+    ensures { IfOk result (λ r. (r.0.items ≡ map (λ h. h.passes) holds.items)
+        × (r.1.items ≡ map (λ h. h.seat) holds.items)) }
+{
+    let mut passes = Vec::new(alloc);
+    let mut seats = Vec::new(alloc);
+    for hold in holds {
+        let Hold {
+            passes: own,
+            seat,
+            next: _,
+            desks: _,
+        } = hold;
+        passes.push(own)?;
+        seats.push(seat)?;
+    }
+    Ok((passes, seats))
 }
 
 // The last pass of each client.
@@ -89,26 +88,29 @@ fn close_columns<R: Wait>(
     Ok(closed)
 }
 
-// The columns and their seats.
+// The columns, their ends of rings and their seats.
 fn split_columns(
     alloc: Global,
     closed: Vec<Seated>,
-) -> Result<(Vec<Column>, Vec<ColumnSeat>), AllocError>
+) -> Result<(Vec<Column>, Vec<Rings>, Vec<ColumnSeat>), AllocError>
     ensures { IfOk result (λ r. (r.0.items ≡ map (λ s. s.column) closed.items)
-        × (r.1.items ≡ map (λ s. s.seat) closed.items)) }
+        × (r.1.items ≡ map (λ s. s.rings) closed.items) × (r.2.items ≡ map (λ s. s.seat) closed.items)) }
 {
     let mut columns = Vec::new(alloc);
+    let mut ends = Vec::new(alloc);
     let mut seats = Vec::new(alloc);
     for seated in closed {
         let Seated {
             column,
+            rings,
             seat,
             entered: _,
         } = seated;
         columns.push(column)?;
+        ends.push(rings)?;
         seats.push(seat)?;
     }
-    Ok((columns, seats))
+    Ok((columns, ends, seats))
 }
 
 impl Region {
@@ -130,18 +132,16 @@ impl Region {
             columns,
             shares,
         } = self;
-        let (clients, seats, mut desks) = split_holds(alloc, holds.into_vec())?;
-        match desks.pop() {
-            Some(own) => close_shares(rt, shares, own),
-            None => unreachable!(),
-        }
-        drop(desks);
+        let mut holds = holds.into_vec();
+        close_shares(rt, shares, &mut holds[0].desks);
+        let (clients, seats) = split_holds(alloc, holds)?;
         let closed = close_columns(rt, alloc, columns, clients)?;
-        let (columns, column_seats) = split_columns(alloc, closed)?;
+        let (columns, ends, column_seats) = split_columns(alloc, closed)?;
         let rows = board.close(alloc, seats.into(), column_seats.into())?;
         Ok(ClosedRegion {
             columns: columns.into(),
             rows,
+            ends,
         })
     }
 }

@@ -41,6 +41,7 @@ impl Seated {
         requires row { node.now.value.row ≢ None }
         requires node { FitsColumn self.old.column.region self.old.column.colour node.now.value }
         ensures seat { self.new.seat ≡ self.old.seat }
+        ensures rings { self.new.rings ≡ self.old.rings }
         ensures tag { tag_of self.new ≡ tag_of self.old }
         ensures stamp { IfOk result IsStamp }
         ensures ok { IfOk result (λ n. Enters self.old.column self.new.column (column_seen self.old.seat).size.clients

@@ -53,13 +53,6 @@ module _ {A : Type 0} where
       let is : suc (length xs + j) ≡ suc (length xs) + j = omega arith in
       subst (λ n. slice_get (y ∷ (xs ++ more)) n ≡ Some x) is (get_onward xs more j x e)
 
-  -- what begins a list from a place on begins a longer one from there on
-  pub drop_longer : (n : ℕ) (xs more hs : List A) → IsPrefix hs (drop n xs) → IsPrefix hs (drop n (xs ++ more))
-  drop_longer zero xs more hs p = prefix_trans hs xs (xs ++ more) p (more, refl)
-  drop_longer (suc n) [] more [] p = (drop (suc n) more, refl)
-  drop_longer (suc n) [] more (h ∷ hs) p = let e = p.1 in absurd (let f : ⊥ = cc in f)
-  drop_longer (suc n) (x ∷ xs) more hs p = drop_longer n xs more hs p
-
 -- at another value
 pub at_new : {A : Type 0} (P : A → Type 0) (f : ℕ → A) (n : ℕ) (x : A) (m : ℕ) → (m ≡ n → P x)
     → (m ≢ n → P (f m)) → P (updated f n x m)

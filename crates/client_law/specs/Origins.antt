@@ -1,24 +1,17 @@
--- That copies are true, from what each client knows of what it carried and gave.
-use Rattle.std.specs.Prelude.{◌≡◌, ℕ, ◌<◌, ◌≤◌, List, length, drop, Some, slice_get}
+-- That copies are true, from what is known of the nodes that were handed over and of what each client asked for.
+use Rattle.std.specs.Prelude.{◌≡◌, ◌≢◌, ℕ, ◌<◌, ◌≤◌, List, length, Some, slice_get}
 use mathlib.Core.List.{IsPrefix}
-use Rattle.log_node.specs.declared.node.Head.{Head}
 use Rattle.col_core.specs.declared.Entry.{Entry}
-use Rattle.col_core.specs.declared.Event.TheVariants.{Carry, Give}
+use Rattle.col_core.specs.declared.Event.TheVariants.{Give}
 use Rattle.col_core.specs.Cuts.{chain}
 use Rattle.col_core.specs.Computed.{dated}
 use Rattle.col_core.specs.Legal.{IsColumnHistory}
 use Rattle.col_core.specs.Copies.{AreTrueCopies}
 
--- The heads are a stretch of the origin's own line, with its needs, from the start on, as far as its history was seen.
-abbrev pub IsStretchOfOrigin : ℕ → List Entry → ℕ → List Head → Type 0
-IsStretchOfOrigin origin seen start heads = IsPrefix heads (drop start (chain origin (dated origin seen) origin))
-
--- Each carry of a history, by whoever made it, brought a stretch of its origin's line that its maker had seen.
-abbrev pub CarriesOfOrigins : (ℕ → List Entry) → ℕ → Type 0
-CarriesOfOrigins histories copier =
-    (place : ℕ) (e : Entry) (origin start : ℕ) (heads : List Head) → slice_get (histories copier) place ≡ Some e
-    → e.event ≡ Carry origin start heads
-    → (seen : List Entry) × IsPrefix seen (histories origin) × IsStretchOfOrigin origin seen start heads
+-- What the copier holds of the origin's chain is a beginning of it.
+abbrev pub CopyBegins : (ℕ → List Entry) → ℕ → ℕ → Type 0
+CopyBegins histories origin copier =
+    IsPrefix (chain copier (dated copier (histories copier)) origin) (chain origin (dated origin (histories origin)) origin)
 
 -- Each give of a history asked from no greater number than its maker had seen to be held by the copier.
 abbrev pub GivesAreHeld : (ℕ → List Entry) → ℕ → Type 0
@@ -28,16 +21,11 @@ GivesAreHeld histories origin =
     → (seen : List Entry) × IsPrefix seen (histories copier)
     × (from ≤ length (chain copier (dated copier seen) origin))
 
--- What is of an origin as it was seen is of it as more is seen.
-abbrev pub OriginsStay : Type 0
-OriginsStay = (origin regions : ℕ) (seen more : List Entry) (start : ℕ) (heads : List Head)
-    → IsColumnHistory origin regions (dated origin more) → IsPrefix seen more
-    → IsStretchOfOrigin origin seen start heads → IsStretchOfOrigin origin more start heads
-
--- The copies of a colour are true where all its histories are lawful, and each carry and each give was made so.
+-- The copies of a colour are true where all its histories are lawful, each copy is a beginning of its origin's chain, and each
+-- give was made so.
 abbrev pub LawfulCopiesAreTrue : Type 0
 LawfulCopiesAreTrue = (regions : ℕ) (histories : ℕ → List Entry)
     → ((region : ℕ) → region < regions → IsColumnHistory region regions (dated region (histories region)))
-    → ((region : ℕ) → region < regions → CarriesOfOrigins histories region)
+    → ((origin copier : ℕ) → origin < regions → copier < regions → origin ≢ copier → CopyBegins histories origin copier)
     → ((region : ℕ) → region < regions → GivesAreHeld histories region)
     → AreTrueCopies regions (λ region. dated region (histories region))

@@ -4,7 +4,7 @@ ghost use Rattle.client_law.specs.Making.{MadeOnTop, PlacesCounted, PlacesGrow, 
 ghost use Rattle.client_law.specs.Kept.{KeptAfterEvent, KeptAfterLook, KeptStays, NothingIsKept, StartsWithin, StepsAtEnd};
 ghost use Rattle.client_law.specs.Appends.{AppendsStand, ClosedStays, FinalIsAbove, GoneAtEnd, GoneForMemory, KeptAfterAppend, KeptAfterRow, KeptAfterSeveral, NoStampWasLeft, NotOpenBetween, RowsBegin, SettledForGood, SeveralStand, StopsStand, WantsAreStarts};
 ghost use Rattle.client_law.specs.Moves.{KeptAfterGives, KeptAfterPull, KeptAfterSync, PlaysStand, PullsStand, SyncsStand, TrimmedThere, TrimsStand};
-ghost use Rattle.client_law.specs.Origins.{LawfulCopiesAreTrue, OriginsStay};
+ghost use Rattle.client_law.specs.Origins.{LawfulCopiesAreTrue};
 ghost use Rattle.client_law.specs.Unshown.{KeptUnshownAlone, KeptUnshownInAll, UnshownAlone, UnshownInAll};
 ghost use Rattle.client_law.specs.Pieces.{KeptAfterPiece, KeptUntold, PlayedUntold};
 ghost use Rattle.client_law.specs.StampedReads.{ClearSyncsOn, KeptWithFloor, RaiseStands, RaisesOn, ReadsStand};
@@ -81,11 +81,10 @@ pub fn trims_stand()
     ensures { TrimsStand }
 {}
 
-/// The copies of a colour are true where each carry is a stretch of its origin's line that its maker had seen, and each give
-/// asked for what its maker had seen to be held.
+/// The copies of a colour are true where each is a beginning of its origin's chain, and each give asked for what its maker
+/// had seen to be held.
 pub fn copies_are_true()
-    ensures stay { OriginsStay }
-    ensures copies { LawfulCopiesAreTrue }
+    ensures { LawfulCopiesAreTrue }
 {}
 
 /// An append whose answer does not show where its node stands stands as any other.

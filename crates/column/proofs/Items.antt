@@ -125,6 +125,36 @@ module _ (column : ColumnState) (h : IsColumn column)
       ∙ (sym entered.needs
       ∙ (ap (λ (k : Key). needs_of (history_of column) k.id) is ∙ ap (λ (b : Head). b.needs) key.2))
 
+  -- a kept entry stands in the line under its key, and in the chain with what it needs
+  pub own_entry : (position k : ℕ) (key : Key) (thing : EnteredNode) → k + column.queue.base ≡ position
+      → slice_get (line_of column.queue.entries) position ≡ Some key
+      → slice_get (map (λ (w : Waiting EnteredNode). w.thing) (kept_entries column.queue)) k ≡ Some thing
+      → HasStored column key thing.node
+      × (slice_get (chains_of column column.region) position ≡ Some (record { key = key; needs = thing.needs }))
+  own_entry position k key thing place at_position at_k =
+      let w = got_map (λ (v : Waiting EnteredNode). v.thing) (kept_entries column.queue) k thing at_k in
+      let there : slice_get (drop column.queue.base (line_of column.queue.entries)) k ≡ Some w.0.key =
+      ap (λ (ks : List Key). slice_get ks k) (sym same)
+      ∙ map_got (λ (v : Waiting EnteredNode). v.key) (kept_entries column.queue) k w.0 w.1 in
+      let is : w.0.key ≡ key = same_Some w.0.key key
+      (sym there ∙ (dropped_at column.queue.base (line_of column.queue.entries) k position place ∙ at_position)) in
+      let entered = each_at (IsEntered column.region column.colour column.journal) (kept_entries column.queue) k w.0
+      kept_things w.1 in
+      let needs : needs_of (history_of column) key.id ≡ thing.needs =
+      ap (λ (k : Key). needs_of (history_of column) k.id) (sym is)
+      ∙ (entered.needs ∙ ap (λ (e : EnteredNode). e.needs) w.2) in (
+        (
+          k,
+          w.0,
+          got_taken (kept_count column.queue) column.queue.stored k w.0 w.1,
+          is,
+          ap (λ (e : EnteredNode). e.node) w.2,
+        ),
+        ap (λ (hs : List Head). slice_get hs position) chain_is
+            ∙ (map_got head (line_of column.queue.entries) position key at_position
+            ∙ ap (λ (v : Counts). let a : Head = record { key = key; needs = v } in Some a) needs),
+      )
+
   -- the own nodes from a number on up to another
   module _ (from to first : ℕ) (low : first + column.queue.base ≡ from) where
     abbrev us : List (Waiting EnteredNode)

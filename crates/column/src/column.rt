@@ -2,21 +2,24 @@
 // a Distributed System" (1978), stamps and delivery those of Skeen's multicast, as in Birman and Joseph, "Reliable
 // Communication in the Presence of Failures" (1987), colours and chains those of Lockerman et al., "The FuzzyLog" (OSDI
 // 2018). The journal is this project's own.
-ghost use Rattle.std.specs.Prelude.{◌≡◌, ◌≢◌, ◌+◌, ◌<◌, ◌≤◌, ◌&&◌, true, false, None, nat_lt, length};
-ghost use Rattle.std.specs.Prelude.{if◌then◌else◌, IfOk, IfErr, OnOk, OnErr};
+ghost use Rattle.std.specs.Prelude.{◌≡◌, ◌≢◌, ◌+◌, ◌<◌, ◌≤◌, ◌&&◌, true, false, None, Some, [], nat_lt, length};
+ghost use Rattle.std.specs.Prelude.{if◌then◌else◌, slice_get, IfOk, IfErr, OnOk, OnErr};
 ghost use Rattle.log_node.specs.Sets.{has};
 ghost use Rattle.log_node.specs.Vectors.{at, IsWithin};
 ghost use Rattle.skeen_core.specs.Queues.{has_open, is_decided, IsContinued, MaySettle};
 ghost use Rattle.col_core.specs.History.{clock, last_stamp, next_stamp, entries, line, has_entered};
 ghost use Rattle.column.specs.Columns.{new_column, with_room, after_single, after_propose, after_settle, after_raise};
-ghost use Rattle.column.specs.Columns.{after_give, after_carry, after_trim, new_items, chains_of, base_of, cut_of};
-ghost use Rattle.column.specs.Columns.{stamp_for, HasEnterCause, AreItems, IsGiven};
+ghost use Rattle.column.specs.Columns.{after_give, after_carry, after_trim, with_items, new_items, chains_of, base_of, cut_of};
+ghost use Rattle.column.specs.Columns.{stamp_for, HasEnterCause, HasStored, AreItems, IsGiven};
 ghost use Rattle.log_node.specs.Reach.{Reachable};
 
 use crate::contents::Contents;
+use crate::entered::Entered;
 use crate::faults::ColumnFault;
 use crate::given::Given;
-use log_node::{At, Counts, Id, Items, MAX_COLOURS, MAX_REGIONS, MAX_STAMP, Node, Outcome, Shape};
+use log_node::{
+    At, Counts, Id, Item, Items, Key, MAX_COLOURS, MAX_REGIONS, MAX_STAMP, Node, Outcome, Shape,
+};
 use snapshot_cut::admit;
 use std::alloc::{AllocError, Global};
 use std::marker::Model;
@@ -206,6 +209,18 @@ impl Column {
             .stretch(alloc, self.contents.own_region(), start, start + count)
     }
 
+    /// The key and the node at a place of the own line, counted from 0, which is at least the base.
+    pub fn own_entered(&self, place: u64) -> (Key, &Entered)
+        requires base { at (base_of self.now) self.now.region ≤ place }
+        requires end { place < length (line self.now.journal) }
+        ensures key { slice_get (line self.now.journal) place ≡ Some result.0 }
+        ensures node { HasStored self.now result.0 result.1.now.node }
+        ensures head { slice_get (chains_of self.now self.now.region) place
+            ≡ Some (record { key = result.0; needs = result.1.now.needs }) }
+    {
+        self.contents.own_entered(place)
+    }
+
     /// Takes over what is new of a part of another region's line: the nodes behind those held, and none where one
     /// between is missing. An event exactly where there is one. Answers by how much the chain grew.
     pub fn carry(
@@ -227,6 +242,22 @@ impl Column {
         let answer = self.contents.carry(alloc, by, region, given)?;
         self.cut = admitted(&self.contents, self.cut);
         Ok(answer)
+    }
+
+    /// Takes over nodes of another region's chain, the next ones after those held: all of them, and leaves none. An
+    /// event exactly where there is one.
+    pub fn take_over(&mut self, by: u8, region: u8, items: &mut Vec<Item>) -> Result<At, AllocError>
+        requires other { region ≢ self.old.region }
+        requires region { region < self.old.regions }
+        ensures at { let place = length self.old.journal in
+            IfOk result (λ at. at ≡ (if nat_lt 0 (length items.old.items) then At.Event place else At.Look place)) }
+        ensures column { OnOk result (self.new ≡ with_items self.old by region items.old.items) }
+        ensures left { OnOk result (items.new.items ≡ []) }
+        ensures err { OnErr result ((self.new ≡ self.old) × (items.new.items ≡ items.old.items)) }
+    {
+        let at = self.contents.take_over(by, region, items)?;
+        self.cut = admitted(&self.contents, self.cut);
+        Ok(at)
     }
 
     /// Drops the nodes below the least of these counts and the cut, and of the own nodes those alone past which every

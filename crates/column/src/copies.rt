@@ -39,12 +39,13 @@ impl Carried {
         self.items.as_slice()
     }
 
-    // More nodes at the end.
-    fn append(&mut self, mut items: Vec<Item>) -> Result<(), AllocError>
-        ensures ok { OnOk result (self.new ≡ self.old ++ items.items) }
-        ensures err { OnErr result (self.new ≡ self.old) }
+    // These nodes come to the end.
+    fn append(&mut self, items: &mut Vec<Item>) -> Result<(), AllocError>
+        ensures ok { OnOk result (self.new ≡ self.old ++ items.old.items) }
+        ensures left { OnOk result (items.new.items ≡ []) }
+        ensures err { OnErr result ((self.new ≡ self.old) × (items.new.items ≡ items.old.items)) }
     {
-        self.items.append(&mut items)
+        self.items.append(items)
     }
 
     // Without so many of the first ones.
@@ -92,12 +93,13 @@ impl Copies {
         self.chains[region as usize].as_slice()
     }
 
-    /// More nodes at the end of a region's chain.
-    pub(crate) fn append(&mut self, region: u8, items: Vec<Item>) -> Result<(), AllocError>
+    /// These nodes come to the end of a region's chain.
+    pub(crate) fn append(&mut self, region: u8, items: &mut Vec<Item>) -> Result<(), AllocError>
         requires { region < length self.old }
         ensures ok { OnOk result
-            (self.new ≡ slice_set self.old region (slice_index_or self.old region [] ++ items.items)) }
-        ensures err { OnErr result (self.new ≡ self.old) }
+            (self.new ≡ slice_set self.old region (slice_index_or self.old region [] ++ items.old.items)) }
+        ensures left { OnOk result (items.new.items ≡ []) }
+        ensures err { OnErr result ((self.new ≡ self.old) × (items.new.items ≡ items.old.items)) }
     {
         self.chains[region as usize].append(items)
     }

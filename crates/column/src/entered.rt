@@ -43,7 +43,7 @@ impl Entered {
     }
 
     /// What the node needs.
-    pub(crate) fn needs(&self) -> Counts
+    pub fn needs(&self) -> Counts
         ensures { result ≡ self.now.needs }
     {
         self.needs

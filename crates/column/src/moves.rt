@@ -92,37 +92,53 @@ impl Contents {
         ensures cut { OnOk result (IsStillReached self.old self.new) }
         ensures err { OnErr result (self.new ≡ self.old) }
     {
-        let place = self.journal.len() as u64;
         let held = self.carried.of_region(region);
-        let items = shared_from(alloc, held, given)?;
+        let mut items = shared_from(alloc, held, given)?;
         let count = items.len() as u64;
-        if count == 0 {
-            return Ok((At::Look(place), 0));
+        let at = self.take_over(by, region, &mut items)?;
+        Ok((at, count))
+    }
+
+    /// Takes over nodes of another region's chain, the next ones after those held: all of them, and leaves none. An
+    /// event exactly where there is one.
+    pub(crate) fn take_over(
+        &mut self,
+        by: u8,
+        region: u8,
+        items: &mut Vec<Item>,
+    ) -> Result<At, AllocError>
+        requires other { region ≢ self.old.region }
+        requires region { region < self.old.regions }
+        ensures at { let place = length self.old.journal in
+            IfOk result (λ at. at ≡ (if nat_lt 0 (length items.old.items) then At.Event place else At.Look place)) }
+        ensures column { OnOk result (self.new ≡ with_items self.old by region items.old.items) }
+        ensures left { OnOk result (items.new.items ≡ []) }
+        ensures cut { OnOk result (IsStillReached self.old self.new) }
+        ensures err { OnErr result ((self.new ≡ self.old) × (items.new.items ≡ items.old.items)) }
+    {
+        let place = self.journal.len() as u64;
+        if items.is_empty() {
+            return Ok(At::Look(place));
         }
-        self.add_items(alloc, by, region, items)?;
-        Ok((At::Event(place), count))
+        self.add_items(by, region, items)?;
+        Ok(At::Event(place))
     }
 
     // The nodes come to the end of a region's chain.
-    fn add_items(
-        &mut self,
-        alloc: Global,
-        by: u8,
-        region: u8,
-        items: Vec<Item>,
-    ) -> Result<(), AllocError>
+    fn add_items(&mut self, by: u8, region: u8, items: &mut Vec<Item>) -> Result<(), AllocError>
         requires other { region ≢ self.old.region }
         requires region { region < self.old.regions }
-        requires items { 0 < vec_len items }
-        ensures column { OnOk result (self.new ≡ with_items self.old by region items.items) }
+        requires items { 0 < vec_len items.old }
+        ensures column { OnOk result (self.new ≡ with_items self.old by region items.old.items) }
+        ensures left { OnOk result (items.new.items ≡ []) }
         ensures cut { OnOk result (IsStillReached self.old self.new) }
-        ensures err { OnErr result (self.new ≡ self.old) }
+        ensures err { OnErr result ((self.new ≡ self.old) × (items.new.items ≡ items.old.items)) }
     {
         let start = self.carried.of_region(region);
         let Some(end) = start.checked_add(items.len() as u64) else {
             return Err(AllocError);
         };
-        let heads = heads_of(alloc, &items)?;
+        let heads = heads_of(*items.allocator(), items)?;
         self.journal
             .reserve(self.opens + self.spare + self.spare + 1)?;
         self.copies.append(region, items)?;

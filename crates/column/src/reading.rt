@@ -9,7 +9,7 @@ ghost use Rattle.log_node.specs.Vectors.{at};
 ghost use Rattle.log_node.specs.Standings.{queue_of};
 ghost use Rattle.col_core.specs.History.{clock, entries, line};
 ghost use Rattle.col_core.specs.Cuts.{held};
-ghost use Rattle.column.specs.Columns.{history_of, chains_of, copy_of, held_of, base_of, items_under, AreItems};
+ghost use Rattle.column.specs.Columns.{history_of, chains_of, copy_of, held_of, base_of, items_under, AreItems, HasStored};
 ghost use Rattle.column.specs.Entering.{EnteredNode};
 ghost use Rattle.column.specs.Inside.{IsColumn};
 ghost use Rattle.column.specs.Views.{IsBelow};
@@ -229,6 +229,20 @@ impl Contents {
         ensures { result ≡ base_of self.now }
     {
         self.base
+    }
+
+    /// The key and the node at a place of the own line, counted from 0, which is at least the base.
+    pub(crate) fn own_entered(&self, place: u64) -> (Key, &Entered)
+        requires base { at (base_of self.now) self.now.region ≤ place }
+        requires end { place < length (line self.now.journal) }
+        ensures key { slice_get (line self.now.journal) place ≡ Some result.0 }
+        ensures node { HasStored self.now result.0 result.1.now.node }
+        ensures head { slice_get (chains_of self.now self.now.region) place
+            ≡ Some (record { key = result.0; needs = result.1.now.needs }) }
+    {
+        let keys = self.queue.line();
+        let (base, things) = self.queue.kept();
+        (keys[place as usize], &things[(place - base) as usize])
     }
 
     /// The facts that tie a column's entries to its journal.

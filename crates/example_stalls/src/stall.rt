@@ -103,7 +103,7 @@ impl Stall {
         ensures stall { IsStall store.now self.new }
         ensures err { IfErr result (PullRefused store.now self.old.client self.new.client from cups) }
     {
-        let pulled = self.client.pull(rt, alloc, store, from, CUPS)?;
+        let pulled = self.client.pull(rt, store, from, CUPS)?;
         Ok(pulled.nodes)
     }
 

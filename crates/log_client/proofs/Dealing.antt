@@ -185,7 +185,6 @@ module _ (shape : Shape) (s : Store) (n : ℕ) (c : Client) (fresh : IsFresh sha
       rows = λ k j h at lt. absurd (let e = (region_of k h at).0.used in let f : ⊥ = omega (arith, e, lt) in f);
     };
     pulls = record {
-      carries = λ from to g h k p lt i t made. absurd (none_at (made_in h k) i t (nothing_made p.m h p.to_hold k) made);
       gives = λ from to g h k p lt i t made. absurd (none_at (made_in g k) i t (nothing_made p.n g p.from_hold k) made);
     };
     helps = λ k h t by. absurd (none_at (made_in h by.colour) by.n t (nothing_made k h by.there by.colour) by.made);

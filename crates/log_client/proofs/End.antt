@@ -1,5 +1,6 @@
 -- The end of a store.
 pub mod ByClient
+pub mod CarriedNodes
 pub mod ClosesStore
 pub mod Endings
 pub mod Ends
@@ -7,4 +8,5 @@ pub mod EndsClients
 pub mod EndsLog
 pub mod EndsRows
 pub mod Handing
+pub mod JoinedEnds
 pub mod LeftOpen

@@ -8,6 +8,7 @@ mod End
 mod Going
 mod Telling
 mod Dealing
+mod Joining
 mod Read
 mod Results
 mod Object

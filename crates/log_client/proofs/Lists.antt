@@ -100,12 +100,6 @@ module _ {A : Type 0} where
   got_taken (suc k) (y ∷ xs) zero x lt e = e
   got_taken (suc k) (y ∷ xs) (suc n) x lt e = got_taken k xs n x (omega (arith, lt)) e
 
-  pub got_dropped : (k : ℕ) (xs : List A) (n : ℕ) → slice_get (drop k xs) n ≡ slice_get xs (k + n)
-  got_dropped zero xs n = let e : n ≡ 0 + n = omega arith in ap (slice_get xs) e
-  got_dropped (suc k) [] n = refl
-  got_dropped (suc k) (x ∷ xs) n =
-      let e : suc (k + n) ≡ suc k + n = omega arith in got_dropped k xs n ∙ ap (slice_get (x ∷ xs)) e
-
   -- a list whose items stand at the same places of another begins it
   pub prefix_by : (xs ys : List A) → ((n : ℕ) (y : A) → slice_get ys n ≡ Some y → slice_get xs n ≡ Some y) → IsPrefix ys xs
   prefix_by xs [] each = (xs, refl)

@@ -7,7 +7,7 @@ use Rattle.chain_store.specs.Holds.{SeesMoreIn}
 use Rattle.region_pull.specs.declared.pulled.Pulled.{Pulled}
 use Rattle.region_pull.specs.declared.pulled.PullFault.{PullFault}
 use Rattle.region_pull.specs.declared.pulled.PullFault.TheVariants as pull_faults
-use Rattle.region_pull.specs.Origins.{OfOrigin, AsksForHeld}
+use Rattle.region_pull.specs.Origins.{AsksForHeld}
 use Rattle.region_pull.specs.Pulls.{PullsByHolds, GivesAlone}
 
 -- The holds are as before but for two, of different regions.
@@ -22,7 +22,6 @@ abbrev pub PullsBetween : Region → Region → ℕ → List Hold → List Hold 
 PullsBetween from to colour gs hs p =
     (g g' h h' : Hold) × ChangesTwo from.number to.number gs hs g g' h h'
     × GoesOnIn from colour g g' × GoesOnIn to colour h h' × PullsByHolds from to colour g g' h h' p
-    × (OfOrigin from colour g h → OfOrigin from colour g' h')
     × (AsksForHeld from to colour g h → AsksForHeld from to colour g' h')
 
 -- the same of one that was refused for want of memory
@@ -31,5 +30,4 @@ LeavesBetween from to colour gs hs fault =
     (g g' h h' : Hold) × ChangesTwo from.number to.number gs hs g g' h h'
     × GoesOnIn from colour g g' × GoesOnIn to colour h h' × (fault ≡ pull_faults.NoMemory)
     × GivesAlone from to colour g g' h h' × SeesMoreIn colour h h'
-    × (OfOrigin from colour g h → OfOrigin from colour g' h')
     × (AsksForHeld from to colour g h → AsksForHeld from to colour g' h')

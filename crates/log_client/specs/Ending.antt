@@ -11,7 +11,7 @@ use Rattle.chain_store.specs.declared.hold.Hold.{Hold}
 use Rattle.chain_store.specs.declared.region.Region.{Region}
 use Rattle.chain_store.specs.Owning.{row_of}
 use Rattle.chain_store.specs.Holds.{IsHold, made_in, view_of}
-use Rattle.region_pull.specs.Origins.{OfOrigin, AsksForHeld}
+use Rattle.region_pull.specs.Origins.{AsksForHeld}
 use Rattle.append_core.specs.Settled.{HoldKnowsComplete}
 use Rattle.append_core.specs.Standing.{IsSingleOf}
 use Rattle.lawful_run.specs.Lawful.{IsHelp}
@@ -46,10 +46,8 @@ pub record ArePair (rs : List Region) (hs : List Hold) (from to : Region) (g h :
   pub from_hold : slice_get hs n ≡ Some g
   pub to_hold : slice_get hs m ≡ Some h
 
--- What the client carried from region to region is of its origin, and what it asked for was held.
+-- What the client asked for, from region to region, was held.
 pub record PullsTruly (rs : List Region) (hs : List Hold) : Type 0 where
-  pub carries : (from to : Region) (g h : Hold) (colour : ℕ) → ArePair rs hs from to g h
-      → colour < from.board.size.colours → OfOrigin from colour g h
   pub gives : (from to : Region) (g h : Hold) (colour : ℕ) → ArePair rs hs from to g h
       → colour < to.board.size.colours → AsksForHeld from to colour g h
 

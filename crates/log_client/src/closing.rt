@@ -9,7 +9,7 @@ use crate::client::Client;
 use crate::closed::{Closed, Leaving, RowNodes};
 use crate::opening::Clients;
 use crate::store::Store;
-use chain_store::{ClosedRegion, Hold, Region};
+use chain_store::{ClosedRegion, Hold, Region, check_rings};
 use log_node::ListOf;
 use std::alloc::{AllocError, Global};
 use std::sync::Wait;
@@ -86,9 +86,11 @@ impl Store {
         requires { AreClients self clients }
         ensures { IfOk result (ClosesAsLog self clients) }
     {
-        let Store { size: _, regions } = self;
+        let Store { size, regions } = self;
         let (holds, nodes) = split_clients(alloc, clients.into_vec())?;
-        let ends = close_regions(rt, alloc, regions.into_vec(), holds)?;
+        let mut ends = close_regions(rt, alloc, regions.into_vec(), holds)?;
+        let count = ends.len() as u8;
+        check_rings(&mut ends, count, size.colours);
         Ok(Closed {
             regions: ends.into(),
             nodes: nodes.into(),

@@ -12,6 +12,7 @@ use crate::track::Track;
 use chain_store::{Hold, Region};
 use log_node::{Counts, ListOf, MAX_CLIENTS, MAX_REGIONS, Shape};
 use playback::Snapshot;
+use ring_ends::make_rings;
 use stamp_board::Size;
 use std::alloc::{AllocError, Global};
 
@@ -95,10 +96,12 @@ impl Store {
             colours: shape.colours,
             rows: shape.rows,
         };
+        let rings = make_rings(alloc, shape)?;
         let mut clients = fresh_clients(alloc, shape)?;
         let mut regions = Vec::new(alloc);
-        for number in 0..shape.regions {
-            let (region, holds) = Region::open(alloc, number, shape)?;
+        for ends in rings.into_vec() {
+            let number = regions.len() as u8;
+            let (region, holds) = Region::open(alloc, number, shape, ends)?;
             deal(&mut clients, holds.into_vec())?;
             regions.push(region)?;
         }

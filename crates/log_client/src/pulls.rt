@@ -13,13 +13,11 @@ use crate::client::Client;
 use crate::store::Store;
 use chain_store::{Hold, Region};
 use region_pull::{PullFault, Pulled, pull};
-use std::alloc::Global;
 use std::sync::Wait;
 
 // Pulls from the one region to the other, of the holds by region.
 fn pull_between<R: Wait>(
     rt: &R,
-    alloc: Global,
     from: &Region,
     to: &Region,
     holds: &mut Vec<Hold>,
@@ -37,21 +35,20 @@ fn pull_between<R: Wait>(
     let own = to.number() as usize;
     if far < own {
         let (low, high) = holds.split_at_mut(own);
-        pull(rt, alloc, from, to, &mut low[far], &mut high[0], colour)
+        pull(rt, from, to, &mut low[far], &mut high[0], colour)
     } else {
         let (low, high) = holds.split_at_mut(far);
-        pull(rt, alloc, from, to, &mut high[0], &mut low[own], colour)
+        pull(rt, from, to, &mut high[0], &mut low[own], colour)
     }
 }
 
 impl Client {
     /// Brings what is new of another region's line of the colour into the column of the client's region. Each step waits
-    /// for one turn. It ends unless others go on pulling and trimming between its steps.
+    /// for one turn.
     #[tactic(auto, using(crate::proofs::Going::Growing::grown_same))]
     pub fn pull<R: Wait>(
         &mut self,
         rt: &R,
-        alloc: Global,
         store: &Store,
         from: u8,
         colour: u8,
@@ -74,6 +71,6 @@ impl Client {
         }
         let other = store.region(from);
         let own = store.region(self.region);
-        pull_between(rt, alloc, other, own, &mut self.holds, colour)
+        pull_between(rt, other, own, &mut self.holds, colour)
     }
 }

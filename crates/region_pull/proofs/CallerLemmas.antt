@@ -1,4 +1,4 @@
 -- What callers may cite of this crate's proofs; all else there is private.
-pub use Rattle.region_pull.proofs.Seen.{chain_longer, held_longer, of_line_longer, of_origin_longer, held_for_longer}
+pub use Rattle.region_pull.proofs.Seen.{chain_longer, held_longer, held_for_longer}
 pub use Rattle.region_pull.proofs.Carrying.{carries_more, looks_carries}
-pub use Rattle.region_pull.proofs.Kept.{origin_stays, held_stays}
+pub use Rattle.region_pull.proofs.Kept.{held_stays}

@@ -1,23 +1,21 @@
--- The gives of a pull, one after another.
-use Rattle.std.proofs.Common.{◌≡◌, ℕ, ◌<◌, ◌≤◌, List, [], ◌∷◌, ◌++◌, length, map, take, Some, refl, ap, sym, subst, ◌∙◌, inl, inr, arith, min, length-append, append_assoc, append-nil, eq-eqb, take_all}
+-- The give of a pull.
+use Rattle.std.proofs.Common.{◌≡◌, ℕ, zero, suc, ◌<◌, ◌≤◌, List, [], ◌∷◌, ◌++◌, length, map, take, Some, refl, ap, sym, subst, ◌∙◌, inl, inr, arith, min, append_assoc, append-nil, eq-eqb, take_all}
 use Rattle.std.specs.Prelude.{◌==◌, slice_get}
 use mathlib.Core.List.{IsPrefix}
 use Rattle.std.proofs.lemmas.List.{map-append}
 use Rattle.std.proofs.lemmas.List.Elements.{filter-append}
 use Rattle.std.proofs.lemmas.Option.{slice_get_within}
 use Rattle.log_node.specs.declared.node.At.{At}
-use Rattle.log_node.specs.Vectors.{at}
 use Rattle.col_core.specs.History.{line}
 use Rattle.col_core.specs.declared.Event.TheVariants.{Give}
 use Rattle.col_core.proofs.CallerLemmas.{if_true}
-use Rattle.column.specs.declared.given.Given.{Given}
 use Rattle.turn_cell.specs.Histories.{made_by}
 use Rattle.chain_store.specs.declared.told.Tag.{Tag}
 use Rattle.chain_store.specs.declared.told.Told.{Told}
 use Rattle.chain_store.specs.Histories.{entries_in, maker}
 use Rattle.chain_store.specs.Passes.{SeesMore, MakesOne, IsLawfulTold}
-use Rattle.chain_store.specs.Moves.{held_in, base_in, GivesAt, ShowsGiven}
-use Rattle.region_pull.specs.Pulls.{GiveOfPull, told_gave, before_gave, MakesGives, AsksOn, IsTooLow, AsksByGives}
+use Rattle.chain_store.specs.Moves.{held_in, GivesAt}
+use Rattle.region_pull.specs.Pulls.{GiveOfPull, told_gave, before_gave, MakesGives, AsksOn, AsksByGives}
 use Rattle.region_pull.specs.Origins.{IsHeldFor}
 use Rattle.region_pull.proofs.Lists.{prefix_same, prefix_then, prefix_long, prefix_get, prefix_take, taken_prefix, take_front, get_last, get_cases, get_split, got_mapped}
 use Rattle.region_pull.proofs.Seen.{held_longer, held_for_longer}
@@ -115,137 +113,74 @@ module _ (t u : Tag) (log log' old new new' : List Told) (x : GiveOfPull) (withi
             (sym (prefix_take new new' longer a.looked a.there)));
       }
 
-  pub low_later : IsTooLow t log x → IsTooLow t log' x
-  low_later low = subst (λ (l : List Told). x.from < at (base_in t l) t.region) (sym same_before) low
+-- where none was made
+pub asks_none : (t u : Tag) (n : ℕ) (old new to_old to_new : List Told) → SeesMore n old new
+    → AsksByGives t u n old new to_old to_new []
+asks_none t u n old new to_old to_new s = record {
+  makes = gives_seen n u.region old old new [] (gives_none n u.region old) s;
+  on = λ i x e. absurd (let f : ⊥ = cc (e) in f);
+}
 
--- The gives so far, all from too low a number.
-pub record Asked (t u : Tag) (n : ℕ) (old new to_old to_new : List Told) (gives : List GiveOfPull) : Type 0 where
-  pub makes : MakesGives n u.region old new gives
-  pub on : (i : ℕ) (x : GiveOfPull) → slice_get gives i ≡ Some x → AsksOn t u new to_old to_new x
-  pub low : (i : ℕ) (x : GiveOfPull) → slice_get gives i ≡ Some x → IsTooLow t new x
-
-module _ (t u : Tag) (n : ℕ) (old : List Told) (to_old : List Told) where
-  pub asked_none : Asked t u n old old to_old to_old []
-  asked_none = record {
-    makes = gives_none n u.region old;
-    on = λ i x e. absurd (let f : ⊥ = cc (e) in f);
-    low = λ i x e. absurd (let f : ⊥ = cc (e) in f);
+-- the one give, from what was found held
+module _ (t u : Tag) (n : ℕ) (old later to_old to_new : List Told) (to_more : IsPrefix to_old to_new) (from lined : ℕ)
+    (place : At) (is : from ≡ held_in u to_new t.region) (gave : GivesAt n u.region from old later place lined) where
+  abbrev pub the_give : GiveOfPull
+  the_give = record {
+    place = length gave.made.before;
+    from = min from (length (line (entries_in gave.made.before)));
   }
 
-  pub asks_alone : (new to_new : List Told) (gives : List GiveOfPull) → Asked t u n old new to_old to_new gives
-      → AsksByGives t u n old new to_old to_new gives
-  asks_alone new to_new gives a = record { makes = a.makes; on = a.on; again = λ i x e lt. a.low i x e }
+  abbrev makes_it : MakesOne n (told_gave n u.region the_give) old later place
+  makes_it = record {
+    before = gave.made.before;
+    more = gave.made.more;
+    none = gave.made.none;
+    adds = gave.made.adds ∙ ap (λ (w : Told). gave.made.before ++ w ∷ []) gave.note;
+    place = gave.made.place;
+  }
 
-  module _ (new to_new : List Told) (gives : List GiveOfPull) (a : Asked t u n old new to_old to_new gives) where
-    -- the place of each lies within what was seen
-    within : (i : ℕ) (x : GiveOfPull) → slice_get gives i ≡ Some x → x.place ≤ length new
-    within i x e = let lt = gave_within n u.region old new new gives a.makes i x e in omega (arith, lt)
+  pub same_past : before_gave later the_give ≡ gave.made.before
+  same_past = ap (take (length gave.made.before)) gave.made.adds ∙ take_front gave.made.before (gave.told ∷ [])
 
-    -- the other region was looked at
-    pub asked_looked : (later : List Told) → IsPrefix to_new later → Asked t u n old new to_old later gives
-    asked_looked later more = record {
-      makes = a.makes;
-      on = λ i x e. asks_later t u new new to_old to_new later x (within i x e) (prefix_same new) more (a.on i x e);
-      low = a.low;
-    }
-
-    -- a give was refused
-    pub asked_seen : (later : List Told) → SeesMore n new later → Asked t u n old later to_old to_new gives
-    asked_seen later s = record {
-      makes = gives_seen n u.region old new later gives a.makes s;
-      on = λ i x e. asks_later t u new later to_old to_new to_new x (within i x e) s.more (prefix_same to_new) (a.on i x e);
-      low = λ i x e. low_later t u new later to_old to_new to_new x (within i x e) s.more (a.low i x e);
-    }
-
-    -- one more give
-    module _ (later : List Told) (from : ℕ) (place : At) (given : Given) (more : IsPrefix old new)
-        (to_more : IsPrefix to_old to_new) (is : from ≡ held_in u to_new t.region)
-        (gave : GivesAt t n u.region from new later place given) where
-      abbrev pub last : GiveOfPull
-      last = record {
-        place = length gave.made.before;
-        from = min from (length (line (entries_in gave.made.before)));
+  asks_on_it : AsksOn t u later to_old to_new the_give
+  asks_on_it =
+      let held = ap (λ (l : List Told). held_in u l t.region) (take_all (length to_new) to_new (omega arith)) in
+      record {
+        looked = length to_new;
+        unseen = prefix_long to_old to_new to_more;
+        there = omega arith;
+        number = subst (λ (l : List Told). the_give.from
+            ≡ min (length (line (entries_in l))) (held_in u (take (length to_new) to_new) t.region)) (sym same_past)
+            (omega (arith, is, held));
       }
 
-      abbrev makes_it : MakesOne n (told_gave n u.region last) new later place
-      makes_it = record {
-        before = gave.made.before;
-        more = gave.made.more;
-        none = gave.made.none;
-        adds = gave.made.adds ∙ ap (λ (w : Told). gave.made.before ++ w ∷ []) gave.note;
-        place = gave.made.place;
-      }
+  pub asks_once : AsksByGives t u n old later to_old to_new (the_give ∷ [])
+  asks_once = record {
+    makes = gives_more n u.region old old later [] (gives_none n u.region old) the_give place (prefix_same old) makes_it refl;
+    on = λ i x e. on_it i x e;
+  } where
+    on_it : (i : ℕ) (x : GiveOfPull) → slice_get (the_give ∷ []) i ≡ Some x → AsksOn t u later to_old to_new x
+    on_it zero x e = let same : the_give ≡ x = cc (e) in subst (AsksOn t u later to_old to_new) same asks_on_it
+    on_it (suc i) x e = absurd (let f : ⊥ = cc (e) in f)
 
-      pub same_past : before_gave later last ≡ gave.made.before
-      same_past =
-          ap (take (length gave.made.before)) gave.made.adds ∙ take_front gave.made.before (gave.told ∷ [])
+  pub line_then : lined ≡ length (line (entries_in (before_gave later the_give)))
+  line_then = gave.line_is ∙ ap (λ (l : List Told). length (line (entries_in l))) (sym same_past)
 
-      makes_all : MakesGives n u.region old later (gives ++ last ∷ [])
-      makes_all = gives_more n u.region old new later gives a.makes last place more makes_it refl
+-- both columns have gone on
+module _ (t u : Tag) (n : ℕ) (old new new' to_old to_new to_new' : List Told) (gives : List GiveOfPull)
+    (a : AsksByGives t u n old new to_old to_new gives) where
+  within : (i : ℕ) (x : GiveOfPull) → slice_get gives i ≡ Some x → x.place ≤ length new
+  within i x e = let lt = gave_within n u.region old new new gives a.makes i x e in omega (arith, lt)
 
-      asks_on_last : AsksOn t u later to_old to_new last
-      asks_on_last =
-          let held = ap (λ (l : List Told). held_in u l t.region) (take_all (length to_new) to_new (omega arith)) in
-          record {
-            looked = length to_new;
-            unseen = prefix_long to_old to_new to_more;
-            there = omega arith;
-            number = subst (λ (l : List Told). last.from
-                ≡ min (length (line (entries_in l))) (held_in u (take (length to_new) to_new) t.region)) (sym same_past)
-                (omega (arith, is, held));
-          }
+  pub asks_further : SeesMore n new new' → IsPrefix to_new to_new' → AsksByGives t u n old new' to_old to_new' gives
+  asks_further s more = record {
+    makes = gives_seen n u.region old new new' gives a.makes s;
+    on = λ i x e. asks_later t u new new' to_old to_new to_new' x (within i x e) s.more more (a.on i x e);
+  }
 
-      all_on : (i : ℕ) (x : GiveOfPull) → slice_get (gives ++ last ∷ []) i ≡ Some x → AsksOn t u later to_old to_new x
-      all_on i x e = elim (get_cases gives last i x e) [
-        | inl before ↦
-            asks_later t u new later to_old to_new to_new x (within i x before)
-            (made_more n (told_gave n u.region last) new later place makes_it) (prefix_same to_new) (a.on i x before)
-        | inr same ↦ subst (AsksOn t u later to_old to_new) same.1 asks_on_last
-      ]
-
-      old_low : (i : ℕ) (x : GiveOfPull) → slice_get gives i ≡ Some x → IsTooLow t later x
-      old_low i x e =
-          low_later t u new later to_old to_new to_new x (within i x e)
-          (made_more n (told_gave n u.region last) new later place makes_it) (a.low i x e)
-
-      pub asks_last : AsksByGives t u n old later to_old to_new (gives ++ last ∷ [])
-      asks_last = record {
-        makes = makes_all;
-        on = all_on;
-        again = λ i x e lt. elim (get_cases gives last i x e) [
-          | inl before ↦ old_low i x before
-          | inr same ↦
-              absurd (let s = same.0 in let long = length-append gives (last ∷ []) in
-              let f : ⊥ = omega (arith, s, long, lt) in f)
-        ];
-      }
-
-      pub asked_again : from < given.start → Asked t u n old later to_old to_new (gives ++ last ∷ [])
-      asked_again above = record {
-        makes = makes_all;
-        on = all_on;
-        low = λ i x e. elim (get_cases gives last i x e) [
-          | inl before ↦ old_low i x before
-          | inr same ↦
-              subst (IsTooLow t later) same.1
-              (subst (λ (l : List Told). last.from < at (base_in t l) t.region) (sym same_past)
-              (let start = gave.shows.start in omega (arith, start, above)))
-        ];
-      }
-
-      pub shows_last : ShowsGiven t (before_gave later last) from given
-      shows_last = subst (λ (l : List Told). ShowsGiven t l from given) (sym same_past) gave.shows
-
--- the asking column has gone on
-pub asks_further : (t u : Tag) (n : ℕ) (old new to_old to_new later : List Told) (gives : List GiveOfPull)
-    → AsksByGives t u n old new to_old to_new gives → IsPrefix to_new later → AsksByGives t u n old new to_old later gives
-asks_further t u n old new to_old to_new later gives a more = record {
-  makes = a.makes;
-  on = λ i x e.
-      let lt = gave_within n u.region old new new gives a.makes i x e in
-      asks_later t u new new to_old to_new later x (omega (arith, lt)) (prefix_same new) more (a.on i x e);
-  again = a.again;
-}
+  pub line_stays : IsPrefix new new' → (i : ℕ) (x : GiveOfPull) → slice_get gives i ≡ Some x
+      → before_gave new' x ≡ before_gave new x
+  line_stays more i x e = same_before t u new new' to_old to_new to_new' x (within i x e) more
 
 -- what a pull asks for is held
 pub asks_held : (t u : Tag) (n : ℕ) (old new to_old to_new : List Told) (gives : List GiveOfPull)

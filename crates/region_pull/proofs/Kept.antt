@@ -7,22 +7,9 @@ use Rattle.chain_store.specs.declared.hold.Hold.{Hold}
 use Rattle.chain_store.specs.declared.region.Region.{Region}
 use Rattle.chain_store.specs.Regions.{tag_at}
 use Rattle.chain_store.specs.Holds.{IsHold, seen_in, made_in}
-use Rattle.region_pull.specs.Origins.{IsOfOrigin, IsHeldFor, OfOrigin, AsksForHeld}
+use Rattle.region_pull.specs.Origins.{IsHeldFor, AsksForHeld}
 use Rattle.chain_store.proofs.CallerLemmas.{lawful_seen}
-use Rattle.region_pull.proofs.Seen.{of_origin_longer, held_for_longer}
-
--- a client that has seen more of the origin, and made only entries more by which it carries none of its nodes
-pub origin_stays : (from : Region) (k : ℕ) (g g' h h' : Hold) → IsHold from g' → k < from.board.size.colours
-    → IsPrefix (seen_in g k) (seen_in g' k)
-    → ((n : ℕ) (told : Told) → slice_get (made_in h' k) n ≡ Some told
-    → ((m : ℕ) × (slice_get (made_in h k) m ≡ Some told)) ⊎ IsOfOrigin (tag_at from k) (seen_in g' k) told)
-    → OfOrigin from k g h → OfOrigin from k g' h'
-origin_stays from k g g' h h' is lt more made was n told e = elim (made n told e) [
-  | inl old ↦
-      of_origin_longer (tag_at from k) (seen_in g k) (seen_in g' k) more (lawful_seen from g' k is lt) told
-      (was old.0 told old.1)
-  | inr new ↦ new
-]
+use Rattle.region_pull.proofs.Seen.{held_for_longer}
 
 -- a client that has seen more of the asking column, and gave to it only from what it holds
 pub held_stays : (from to : Region) (k : ℕ) (g g' h h' : Hold) → IsHold to h' → k < to.board.size.colours

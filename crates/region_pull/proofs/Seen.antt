@@ -2,32 +2,19 @@
 use Rattle.std.proofs.Common.{◌≡◌, ℕ, ◌≤◌, List, ◌++◌, ap, sym, subst, ◌∙◌, arith}
 use mathlib.Core.List.{IsPrefix}
 use Rattle.std.proofs.lemmas.List.{map-append}
-use Rattle.log_node.specs.declared.ids.Id.{Id}
-use Rattle.log_node.specs.declared.node.Node.{Node}
-use Rattle.log_node.specs.Seen.{PlacedNode}
 use Rattle.col_core.specs.Cuts.{Dated, chain}
 use Rattle.col_core.specs.Computed.{dated}
 use Rattle.col_core.specs.Legal.{IsColumnHistory}
 use Rattle.col_core.proofs.CallerLemmas.{chains_grow, dates_longer, later}
 use Rattle.chain_store.specs.declared.told.Tag.{Tag}
 use Rattle.chain_store.specs.declared.told.Told.{Told}
-use Rattle.chain_store.specs.Histories.{entries_in, EntersAs}
+use Rattle.chain_store.specs.Histories.{entries_in}
 use Rattle.chain_store.specs.Passes.{dated_in, IsLawfulTold}
 use Rattle.chain_store.specs.Moves.{held_in}
-use Rattle.region_pull.specs.Origins.{AreOfLine, IsOfOrigin, IsHeldFor}
-use Rattle.region_pull.proofs.Lists.{prefix_get, prefix_long}
+use Rattle.region_pull.specs.Origins.{IsHeldFor}
+use Rattle.region_pull.proofs.Lists.{prefix_long}
 
 module _ (t : Tag) (old new : List Told) (more : IsPrefix old new) where
-  pub enters_longer : (id : Id) (node : Node) → EntersAs old id node → EntersAs new id node
-  enters_longer id node h = record {
-    place = h.place;
-    told = h.told;
-    there = prefix_get old new more h.place h.told h.there;
-    brought = h.brought;
-    entered = h.entered;
-    of_id = h.of_id;
-  }
-
   module _ (lawful : IsLawfulTold t new) where
     pub chain_longer : (region : ℕ)
         → IsPrefix (chain t.region (dated_in t old) region) (chain t.region (dated_in t new) region)
@@ -45,19 +32,6 @@ module _ (t : Tag) (old new : List Told) (more : IsPrefix old new) where
     held_longer region =
         prefix_long (chain t.region (dated_in t old) region) (chain t.region (dated_in t new) region)
         (chain_longer region)
-
-    pub of_line_longer : (start : ℕ) (items : List PlacedNode) → AreOfLine t old start items
-        → AreOfLine t new start items
-    of_line_longer start items h k i e =
-        let r = h k i e in (
-          prefix_get (chain t.region (dated_in t old) t.region) (chain t.region (dated_in t new) t.region)
-              (chain_longer t.region) _ i.head r.0,
-          enters_longer i.head.key.id i.node r.1,
-        )
-
-    pub of_origin_longer : (told : Told) → IsOfOrigin t old told → IsOfOrigin t new told
-    of_origin_longer told h start heads is =
-        let r = h start heads is in (r.0, r.1, r.2, of_line_longer start r.0 r.3)
 
     pub held_for_longer : (region : ℕ) (told : Told) → IsHeldFor t old region told → IsHeldFor t new region told
     held_for_longer region told h from is =

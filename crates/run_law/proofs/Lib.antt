@@ -1,3 +1,4 @@
+mod AllReplies
 mod AskedIs
 mod CanTold
 mod ClosingLemmas
@@ -5,6 +6,7 @@ mod ColumnPlaces
 mod CopiesLemmas
 mod CopyLemmas
 mod FinalLemmas
+mod FirstLemmas
 mod HeadLemmas
 mod LeftLemmas
 mod ListedLaws
@@ -17,6 +19,7 @@ mod PastLemmas
 mod PlaceLemmas
 mod PrintLemmas
 mod ProposalLemmas
+mod RepliesLemmas
 mod RisingLemmas
 mod RowLemmas
 mod RowOrder

@@ -9,6 +9,7 @@ pub mod Listed
 pub mod Lists
 pub mod PlaceTables
 pub mod Proposals
+pub mod Replies
 pub mod RowsBeside
 pub mod Subjects
 pub mod Tables

@@ -10,7 +10,6 @@ use Rattle.report_text.specs.declared.report.Report.{Report}
 use Rattle.lawful_run.specs.Columns.{column_numbers}
 use Rattle.run_rules.specs.Rules.{IsNamed}
 use Rattle.run_rules.specs.Telling.{account_of, is_in, no_nodes}
-use Rattle.run_law.specs.Listed.{IsListed}
 
 -- the fields of the first rule, at the account with no nodes, and of a well formed report that are not of replies; that no two
 -- columns have the same numbers follows
@@ -23,11 +22,3 @@ pub record HasLists (script : Script) (report : Report) : Type 0 where
   pub rows : report.rows ≡ flat_map (λ region. filter (is_in region) report.rows) (range_with_len 0 script.shape.regions)
   pub by_client : (region : ℕ) → region < script.shape.regions
       → IsNonDecreasing (map (λ (r : BegunRow). r.row.client) ((account_of script report no_nodes).log.rows region))
-
--- A report is listed where it has these.
-abbrev pub ListedHaveLists : Type 0
-ListedHaveLists = (script : Script) (report : Report) → IsListed script report → HasLists script report
-
--- And only there.
-abbrev pub ListsAreListed : Type 0
-ListsAreListed = (script : Script) (report : Report) → HasLists script report → IsListed script report

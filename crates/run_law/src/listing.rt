@@ -6,6 +6,7 @@ ghost use Rattle.report_text.specs.declared.report.ColumnReport.{ColumnReport};
 ghost use Rattle.column_track.specs.Tracks.{Tells};
 ghost use Rattle.lawful_run.specs.Columns.{column_numbers};
 ghost use Rattle.run_rules.specs.Rules.{IsNamed};
+ghost use Rattle.run_law.specs.Lists.{HasLists};
 ghost use Rattle.run_law.specs.Listed.{ClientsRise, IsListed, RisesFrom, numbers_of};
 
 use crate::texts::same_text;
@@ -139,8 +140,8 @@ fn are_by_clients(rows: &[RowReport], regions: u8) -> bool
     true
 }
 
-/// Whether all that a report has to list is there, and in its order.
-pub fn is_listed(alloc: Global, script: &Script, report: &Report) -> Result<bool, AllocError>
+// Whether each list of a report is as it has to be, item by item.
+fn are_lists(alloc: Global, script: &Script, report: &Report) -> Result<bool, AllocError>
     ensures { IfOk result (λ ok. Tells ok (IsListed script.now report.now)) }
 {
     let (regions, colours) = (script.shape.regions, script.shape.colours);
@@ -162,4 +163,11 @@ pub fn is_listed(alloc: Global, script: &Script, report: &Report) -> Result<bool
         return Ok(false);
     }
     Ok(are_by_clients(rows, regions))
+}
+
+/// Whether all that a report has to list is there, and in its order.
+pub fn is_listed(alloc: Global, script: &Script, report: &Report) -> Result<bool, AllocError>
+    ensures { IfOk result (λ ok. Tells ok (HasLists script.now report.now)) }
+{
+    are_lists(alloc, script, report)
 }

@@ -4,3 +4,6 @@ pub use Rattle.run_rules.proofs.ReportsTell.{reports_tell}
 pub use Rattle.run_rules.proofs.OneAccount.{told_accounts_agree}
 pub use Rattle.run_rules.proofs.NodesAlike.{told_nodes_agree}
 pub use Rattle.run_rules.proofs.RulesAlike.{one_account_decides}
+pub use Rattle.run_rules.proofs.Decided.{first_rules_decided}
+pub use Rattle.run_rules.proofs.FirstAlike.{found_told, told_reads}
+pub use Rattle.run_rules.proofs.WellFormed.{OnceEach, columns_apart, once_rows}

@@ -77,7 +77,7 @@ module _ (script : Script) (fits : IsFitting script) (n : ℕ) (one two : Log)
     (home : (caller_of script n).own < script.shape.regions)
     (rows : map (row_report (caller_of script n).own) (one.rows (caller_of script n).own)
     ≡ map (row_report (caller_of script n).own) (two.rows (caller_of script n).own))
-    (Seen : Id → Type 0) (texts : TextsAlike script n one two Seen)
+    (Decided : Type 0) (Seen : Id → Type 0) (texts : TextsAlike script n Decided one two Seen)
     (fit : All (FitsRow (caller_of script n).own) (two.rows (caller_of script n).own))
     (row_nodes : (r : BegunRow) → Contains (two.rows (caller_of script n).own) r → r.row.client ≡ n
     → slice_get (two.nodes n) r.node.id.count ≡ Some r.node) where
@@ -253,7 +253,7 @@ module _ (script : Script) (fits : IsFitting script) (n : ℕ) (one two : Log)
     cause_alike answers.SameRegion can named used x = x
     cause_alike answers.NoTx can named used x = (x.0, x.1, x.2, x.3, sym (reads x.0) ∙ x.4)
     cause_alike (answers.Trimmed colour base) can named used x =
-        trimmed_alike script n one two histories home rows Seen texts s colour base
+        trimmed_alike script n one two histories home rows Seen texts.known s colour base
         (synced_within script fits n what within colour (in_contains (colours_synced who what) colour can.1)) x
     cause_alike (answers.NotHome home_told) can named used x = x
     cause_alike _ can named used x = tt

@@ -59,7 +59,7 @@ use Rattle.run_rules.specs.Laws.{FindsAreRight, ToldFindsAgree}
 use Rattle.run_rules.proofs.Lists.{zip_at}
 use Rattle.run_rules.proofs.Numbers.{rule1, rule2, rule3, rule4, rule5, rule9, rule10}
 use Rattle.run_rules.proofs.FirstAlike.{read_reads, told_reads}
-use Rattle.run_rules.proofs.KeysTold.{IsAbove, key_above}
+use Rattle.run_rules.proofs.KeysTold.{key_above}
 use Rattle.run_rules.proofs.LeftOut.{Obeys}
 use Rattle.run_rules.proofs.NodesAlike.{NodesAt, all_at_places, nodes_from, over, over_same}
 use Rattle.run_rules.proofs.OneAccount.{told_accounts_agree, obeys, step_with}
@@ -418,16 +418,16 @@ zip_each R S (x ∷ xs) (y ∷ ys) r f = (f x y (λ w. (r w).0), zip_each R S xs
 
 -- WRITES
 
-form_same : DecisionsArePlain → (t u : List ℕ) → (t ≡ u) ⊎ (IsText ADecision t × IsText ADecision u)
+pub form_same : DecisionsArePlain → (t u : List ℕ) → (t ≡ u) ⊎ (IsText ADecision t × IsText ADecision u)
     → form_of t ≡ form_of u
 form_same plain t u (inl e) = ap form_of e
 form_same plain t u (inr d) = ap form_of d.0.1 ∙ (plain d.0.0 ∙ (sym (plain d.1.0) ∙ ap form_of (sym d.1.1)))
 
-abbrev write : List Write → ObjectNode → List Write
+abbrev pub write : List Write → ObjectNode → List Write
 write writes node = writes_with node.key writes (form_of node.text)
 
 -- nodes with the same keys and forms write the same
-writes_same : (one two : Log) (keys : List Key) (xs ys : List ObjectNode) → AreObjectNodes one keys xs
+pub writes_same : (one two : Log) (keys : List Key) (xs ys : List ObjectNode) → AreObjectNodes one keys xs
     → AreObjectNodes two keys ys
     → ((k : Key) → In k keys → (x y : ObjectNode) → IsObjectNode one k x → IsObjectNode two k y
     → form_of x.text ≡ form_of y.text)
@@ -488,13 +488,38 @@ form_by plain w t u mine yours tm uy above is stamp lt le other same (inr texts)
 
 -- ACCOUNTS
 
-module _ (unique : RegionOrderIsUnique) (plain : DecisionsArePlain) (script : Script) (report : Report) (a b : Account)
-    (fits : IsFitting script) (ta : IsTold script report a) (tb : IsTold script report b)
-    (ra : RulesTo script report a 9) (rb : RulesTo script report b 5) (fa : HasItsFinds script report a)
-    (fb : HasItsFinds script report b) where
-  abbrev five : RulesTo script report a 5
-  five = ra.0.0.0.0
+-- a shown client has a node of the key's id, with a floor below its stamp
+pub record StandsAbove (report : Report) (log : Log) (key : Key) : Type 0 where
+  pub client : ClientReport
+  pub shown : slice_get report.clients key.id.client ≡ Some client
+  pub node : Node
+  pub there : slice_get (log.nodes key.id.client) key.id.count ≡ Some node
+  pub its_id : node.id ≡ key.id
+  pub below : node.floor < key.stamp
 
+-- so it is of each key in a line
+abbrev pub KeysStandAbove : Script → Report → Log → Type 0
+KeysStandAbove script report log = (r k : ℕ) → HasColumn script r k → (key : Key) (events : ℕ)
+    → In key (line (take events (log.histories r k))) → StandsAbove report log key
+
+-- where nodes are of commands and moves name their events
+pub keys_above : (script : Script) (report : Report) (a : Account) → IsFitting script → IsTold script report a
+    → RulesTo script report a 9 → KeysStandAbove script report a.log
+keys_above script report a fits ta rules r k has key events i =
+    let five = rules.0.0.0.0 in
+    let above = key_above script report a fits ta (rule1 five.0.0.0.0.1) (rule2 five.0.0.0.1) (rule3 five.0.0.1) (rule4 five.0.1)
+    (rule5 five.1) (rule9 rules.1) r k has key events i in record {
+      client = above.client;
+      shown = above.shown;
+      node = above.node;
+      there = above.there;
+      its_id = above.its_id;
+      below = above.below;
+    }
+
+module _ (plain : DecisionsArePlain) (script : Script) (report : Report) (a b : Account)
+    (fits : IsFitting script) (ta : IsTold script report a) (tb : IsTold script report b)
+    (five : RulesTo script report a 5) (rb : RulesTo script report b 5) (keys : KeysStandAbove script report a.log) where
   a1 : Rule1 script report a
   a1 = rule1 five.0.0.0.0.1
 
@@ -559,23 +584,20 @@ module _ (unique : RegionOrderIsUnique) (plain : DecisionsArePlain) (script : Sc
   module _ (w : ℕ) (found : (n : ℕ) (c : ClientReport) → slice_get report.clients n ≡ Some c
       → AllZip (FoundBelow w) (a.steps n) (b.steps n)) where
     -- the node of a key that stands up to the stamp has the same form by both
-    form_there : (r k : ℕ) → HasColumn script r k → (key : Key) (events : ℕ)
+    pub form_there : (r k : ℕ) → HasColumn script r k → (key : Key) (events : ℕ)
         → In key (line (take events (a.log.histories r k))) → key.stamp ≤ w → (x y : ObjectNode) → IsObjectNode a.log key x
         → IsObjectNode b.log key y → form_of x.text ≡ form_of y.text
     form_there r k has key events i le x y ix iy =
-        by (key_above script report a fits ta a1 (rule2 five.0.0.0.1) (rule3 five.0.0.1) a4 a5 (rule9 ra.1) r k has key events i)
-      where
-        by : IsAbove script report a fits ta a1 (rule2 five.0.0.0.1) (rule3 five.0.0.1) a4 a5 (rule9 ra.1) key
-            → form_of x.text ≡ form_of y.text
-        by above =
-            let n = key.id.client in
-            let at = zip_at (NodeBelow w) (a.log.nodes n) (b.log.nodes n)
-            (nodes_below n above.client above.shown w (found n above.client above.shown)) key.id.count ix.appended ix.there in
-            form_by plain w x.text y.text ix.appended iy.appended ix.text iy.text above.node
-            (let s = ix.there in let t = above.there in cc (s, t)) key.stamp above.below le at.0
-            (let s = at.1 in let t = iy.there in cc (s, t)) at.2
+        let above = keys r k has key events i in
+        let n = key.id.client in
+        let at = zip_at (NodeBelow w) (a.log.nodes n) (b.log.nodes n)
+        (nodes_below n above.client above.shown w (found n above.client above.shown)) key.id.count ix.appended ix.there in
+        form_by plain w x.text y.text ix.appended iy.appended ix.text iy.text above.node
+        (let s = ix.there in let t = above.there in cc (s, t)) key.stamp above.below le at.0
+        (let s = at.1 in let t = iy.there in cc (s, t)) at.2
 
-    module _ (n : ℕ) (c : ClientReport) (there : slice_get report.clients n ≡ Some c) where
+    module _ (unique : RegionOrderIsUnique) (fa : HasItsFinds script report a) (fb : HasItsFinds script report b) (n : ℕ)
+        (c : ClientReport) (there : slice_get report.clients n ≡ Some c) where
       -- the lines that a read looked at are the same by both
       lines_same : (syncs : List SyncPiece) → ((x : SyncPiece) → In x syncs → x.colour < script.shape.colours)
           → lines_read a.log (caller_of script n) syncs ≡ lines_read b.log (caller_of script n) syncs
@@ -634,35 +656,36 @@ module _ (unique : RegionOrderIsUnique) (plain : DecisionsArePlain) (script : Sc
           p.1
           (subst (λ (s : Step). IsFound b.log (caller_of script n) s.command.what s.reply.answer s.untold.found) is q)))
 
-  all_found : (w : ℕ) → (n : ℕ) (c : ClientReport) → slice_get report.clients n ≡ Some c
-      → AllZip (FoundBelow w) (a.steps n) (b.steps n)
-  all_found zero n c there =
-      zip_with {R = AreStepsAlike script (caller_of script n)} {S = FoundBelow 0} {P = λ (s : Step). Unit {0}}
-      {Q = λ (s : Step). Unit {0}} (a.steps n) (b.steps n) (agree.steps n c there) (λ k d lt. tt) (λ k d lt. tt)
-      (λ x y r p q. found_none x.command.what x.reply.answer x.untold.found y.untold.found)
-  all_found (suc w) n c there = found_next w (all_found w) n c there
+  module _ (unique : RegionOrderIsUnique) (fa : HasItsFinds script report a) (fb : HasItsFinds script report b) where
+    all_found : (w : ℕ) → (n : ℕ) (c : ClientReport) → slice_get report.clients n ≡ Some c
+        → AllZip (FoundBelow w) (a.steps n) (b.steps n)
+    all_found zero n c there =
+        zip_with {R = AreStepsAlike script (caller_of script n)} {S = FoundBelow 0} {P = λ (s : Step). Unit {0}}
+        {Q = λ (s : Step). Unit {0}} (a.steps n) (b.steps n) (agree.steps n c there) (λ k d lt. tt) (λ k d lt. tt)
+        (λ x y r p q. found_none x.command.what x.reply.answer x.untold.found y.untold.found)
+    all_found (suc w) n c there = found_next w (all_found w) unique fa fb n c there
 
-  -- so are nodes
-  node_alike : (p q : Node) → ((w : ℕ) → NodeBelow w p q) → HaveText p q
-  node_alike p q f = by (f (suc p.floor)) where
-    by : NodeBelow (suc p.floor) p q → HaveText p q
-    by (inl le) = absurd (let e : ⊥ = omega (arith, le) in e)
-    by (inr same) = same
+    -- so are nodes
+    node_alike : (p q : Node) → ((w : ℕ) → NodeBelow w p q) → HaveText p q
+    node_alike p q f = by (f (suc p.floor)) where
+      by : NodeBelow (suc p.floor) p q → HaveText p q
+      by (inl le) = absurd (let e : ⊥ = omega (arith, le) in e)
+      by (inr same) = same
 
-  all_agree : AgreeOnFinds report a b
-  all_agree = record {
-    found = λ n c there. zip_each FoundBelow
-        (λ (x y : Step). FoundSame x.command.what x.reply.answer x.untold.found y.untold.found) (a.steps n) (b.steps n)
-        (λ w. all_found w n c there)
-        (λ x y f. found_alike x.command.what x.reply.answer x.untold.found y.untold.found f);
-    steps = λ n c there. zip_each (λ (w : ℕ) (x y : Step). SameBelow w x.kept y.kept)
-        (λ (x y : Step). KeepReads x.kept y.kept) (a.steps n) (b.steps n)
-        (λ w. (below n c there w (all_found w n c there)).0) (λ x y f. kept_alike x.kept y.kept f);
-    last = λ n c there. kept_alike (a.last n) (b.last n) (λ w. (below n c there w (all_found w n c there)).1);
-    nodes = λ n c there. zip_each NodeBelow HaveText (a.log.nodes n) (b.log.nodes n)
-        (λ w. nodes_below n c there w (all_found w n c there)) node_alike;
-  }
+    all_agree : AgreeOnFinds report a b
+    all_agree = record {
+      found = λ n c there. zip_each FoundBelow
+          (λ (x y : Step). FoundSame x.command.what x.reply.answer x.untold.found y.untold.found) (a.steps n) (b.steps n)
+          (λ w. all_found w n c there)
+          (λ x y f. found_alike x.command.what x.reply.answer x.untold.found y.untold.found f);
+      steps = λ n c there. zip_each (λ (w : ℕ) (x y : Step). SameBelow w x.kept y.kept)
+          (λ (x y : Step). KeepReads x.kept y.kept) (a.steps n) (b.steps n)
+          (λ w. (below n c there w (all_found w n c there)).0) (λ x y f. kept_alike x.kept y.kept f);
+      last = λ n c there. kept_alike (a.last n) (b.last n) (λ w. (below n c there w (all_found w n c there)).1);
+      nodes = λ n c there. zip_each NodeBelow HaveText (a.log.nodes n) (b.log.nodes n)
+          (λ w. nodes_below n c there w (all_found w n c there)) node_alike;
+    }
 
 pub finds_agree : RegionOrderIsUnique → DecisionsArePlain → ToldFindsAgree
 finds_agree unique plain script report a b fits ta tb ra rb fa fb =
-    all_agree unique plain script report a b fits ta tb ra rb fa fb
+    all_agree plain script report a b fits ta tb ra.0.0.0.0 rb (keys_above script report a fits ta ra) unique fa fb

@@ -76,7 +76,7 @@ module _ (log : Log) (caller : Caller) (id : Id) (floor : ℕ) (wants : Counts) 
   -- the client has a node of this id with this floor
   abbrev pub HasFloor : Type 0
   HasFloor =
-      (node : Node) × (slice_get (log.nodes caller.client) id.count ≡ Some node) × (node.floor ≡ floor)
+      (node : Node) × (slice_get (log.nodes caller.client) id.count ≡ Some node) × (node.id ≡ id) × (node.floor ≡ floor)
       × (id.client ≡ caller.client)
 
   -- at such a place stands none
@@ -119,6 +119,7 @@ module _ (log : Log) (caller : Caller) (id : Id) (floor : ℕ) (wants : Counts) 
       let its_floor : floor ≡ kept.floor = cc (one) in (
         node_of caller kept h.0 h.1,
         ap (λ (k : Id). slice_get (log.nodes caller.client) k.count) its_id ∙ h.3,
+        sym its_id,
         sym its_floor,
         ap (λ (k : Id). k.client) its_id,
       )
@@ -213,12 +214,13 @@ module _ (script : Script) (report : Report) (a : Account) (fits : IsFitting scr
         subst (All (λ (e : Entry). e.by < length script.clients)) is l.makers,
       )
 
-  -- a shown client has a node of the id, with a floor below the stamp
+  -- a shown client has the node of the id, with a floor below the stamp
   pub record IsAbove (key : Key) : Type 0 where
     pub client : ClientReport
     pub shown : slice_get report.clients key.id.client ≡ Some client
     pub node : Node
     pub there : slice_get (a.log.nodes key.id.client) key.id.count ≡ Some node
+    pub its_id : node.id ≡ key.id
     pub below : node.floor < key.stamp
 
   module _ (r c : ℕ) (has : HasColumn script r c) (key : Key) where
@@ -247,8 +249,8 @@ module _ (script : Script) (report : Report) (a : Account) (fits : IsFitting scr
               → slice_get report.clients n ≡ Some d
               → In p (printed_by (caller_of script n) (a.steps n) r c)
               ⊎ StandsLeftOut a.log (caller_of script n) nothing_kept.ids r c p
-              → (node : Node) × (slice_get (a.log.nodes n) key.id.count ≡ Some node) × (node.floor ≡ floor)
-              × (key.id.client ≡ n)
+              → (node : Node) × (slice_get (a.log.nodes n) key.id.count ≡ Some node) × (node.id ≡ key.id)
+              × (node.floor ≡ floor) × (key.id.client ≡ n)
           turn n p there obeying d shown (inl j) =
               steps_floor a.log (caller_of script n) key.id floor wants r c p e there is script (a.steps n) obeying
               (fifth.used n d shown) (ninth.shows n d shown) j
@@ -264,14 +266,15 @@ module _ (script : Script) (report : Report) (a : Account) (fits : IsFitting scr
                 none l = elim (subst (IsLeftOut n (caller_of script n).own 0) event l) [ inl x ↦ x.2 | inr g ↦ g ]
 
           of_floor : (n : ℕ) (d : ClientReport) → slice_get report.clients n ≡ Some d
-              → (node : Node) × (slice_get (a.log.nodes n) key.id.count ≡ Some node) × (node.floor ≡ floor)
-              × (key.id.client ≡ n) → IsAbove key
+              → (node : Node) × (slice_get (a.log.nodes n) key.id.count ≡ Some node) × (node.id ≡ key.id)
+              × (node.floor ≡ floor) × (key.id.client ≡ n) → IsAbove key
           of_floor n d shown f = record {
             client = d;
-            shown = ap (slice_get report.clients) f.3 ∙ shown;
+            shown = ap (slice_get report.clients) f.4 ∙ shown;
             node = f.0;
-            there = ap (λ (k : ℕ). slice_get (a.log.nodes k) key.id.count) f.3 ∙ f.1;
-            below = let e = f.2 in omega (arith, e, lt);
+            there = ap (λ (k : ℕ). slice_get (a.log.nodes k) key.id.count) f.4 ∙ f.1;
+            its_id = f.2;
+            below = let e = f.3 in omega (arith, e, lt);
           }
 
     row_above : (e : Entry) → In e (a.log.histories r c) → (floor : ℕ) (wants : Counts)
@@ -297,6 +300,7 @@ module _ (script : Script) (report : Report) (a : Account) (fits : IsFitting scr
           node = row.node;
           there = ap (λ (k : ℕ). slice_get (a.log.nodes k) key.id.count) client
               ∙ (ap (λ (k : Id). slice_get (a.log.nodes n) k.count) (sym f.3) ∙ node);
+          its_id = f.3;
           below = let e = f.5 in omega (arith, e, lt);
         }
 

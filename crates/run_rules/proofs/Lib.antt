@@ -2,9 +2,13 @@ mod AnswersAlike
 mod AppendsAlike
 mod AppendsTold
 mod BareObjects
+mod CausalAlike
 mod CausesAlike
 mod Computed
+mod ChosenFinds
+mod ComputedFinds
 mod ComputedNodes
+mod ComputedRules
 mod ComputedSteps
 pub mod CallerLemmas
 mod EntersBelow
@@ -21,9 +25,12 @@ mod LawfulRules
 mod LeftOut
 mod HeadsTold
 mod KeysTold
+mod LinesShown
 mod Lists
 mod MarksWithin
 mod NamesAlike
+mod NinthDecided
+mod NinthRule
 mod NodesAlike
 mod NodesTold
 mod Numbers
@@ -38,6 +45,7 @@ mod Room
 mod RowsTold
 mod RulesAlike
 mod RulesLawful
+mod SaidTexts
 mod SameKept
 mod ShowsAlike
 mod StepsTold

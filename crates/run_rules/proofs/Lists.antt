@@ -92,6 +92,19 @@ pub map_map : {A B C : Type 0} (g : B → C) (f : A → B) (xs : List A) → map
 map_map g f [] = refl
 map_map {A} {B} {C} g f (x ∷ xs) = ap (λ (l : List C). g (f x) ∷ l) (map_map g f xs)
 
+-- what a map has at a place
+pub slice_mapped : {A B : Type 0} (f : A → B) (xs : List A) (n : ℕ) (x : A) → slice_get xs n ≡ Some x
+    → slice_get (map f xs) n ≡ Some (f x)
+slice_mapped f [] n x e = absurd (let h : ⊥ = cc (e) in h)
+slice_mapped {A} {B} f (y ∷ ys) zero x e = let h : y ≡ x = cc (e) in ap (λ (z : A). Some (f z)) h
+slice_mapped f (y ∷ ys) (suc n) x e = slice_mapped f ys n x e
+
+pub slice_unmapped : {A B : Type 0} (f : A → B) (xs : List A) (n : ℕ) (y : B) → slice_get (map f xs) n ≡ Some y
+    → (x : A) × (slice_get xs n ≡ Some x) × (f x ≡ y)
+slice_unmapped f [] n y e = absurd (let g : ⊥ = cc (e) in g)
+slice_unmapped f (x ∷ xs) zero y e = (x, refl, cc (e))
+slice_unmapped f (x ∷ xs) (suc n) y e = slice_unmapped f xs n y e
+
 -- what holds of each item of a map holds of each of its own
 pub all_mapped : {A B : Type 0} (P : B → Type 0) (f : A → B) (xs : List A) → All P (map f xs) → All (λ x. P (f x)) xs
 all_mapped P f [] all = λ k d lt. absurd (let g : ⊥ = omega (arith, lt) in g)

@@ -17,7 +17,7 @@ use Rattle.col_core.specs.Computed.{dated}
 use Rattle.col_core.specs.Cuts.{base, chain}
 use Rattle.col_core.specs.History.{clock, line}
 use Rattle.col_core.specs.Keeping.{Kept, seen_after}
-use Rattle.col_core.specs.Log.{Log}
+use Rattle.col_core.specs.Log.{Log, HasText}
 use Rattle.col_core.specs.PlayOrder.{Place, IsPlayOrder, Stands}
 use Rattle.col_core.specs.RegionOrder.{IsClearUpTo, IsRegionOrder}
 use Rattle.col_core.proofs.CallerLemmas.{In, all_in, contains_in, in_contains, in_map}
@@ -30,7 +30,7 @@ use Rattle.lawful_run.specs.Moves.{AsksFor, CarriesNodes, GivesFrom, GivesTooLow
 use Rattle.lawful_run.specs.Reads.{AreKeysRead, ClearSyncs, IsAboveClocks, IsReadStamp, IsTrimmed, Raises, RaisesClock, ReadsAt, ShowsKey, ShowsNode, ShowsPlayed, Syncs, events_until, kept_after_place, lines_read}
 use Rattle.run_rules.specs.Told.{kept_after_raises, kept_after_read, kept_after_syncs}
 use Rattle.run_rules.specs.Agreeing.{HasColumn, KeepSame}
-use Rattle.run_rules.proofs.TextsAlike.{TextsAlike, zip_mapped}
+use Rattle.run_rules.proofs.TextsAlike.{AreKnown, ShownAlike, zip_mapped}
 use Rattle.run_rules.proofs.SameKept.{piece_same, place_same, raises_same}
 
 module _ (script : Script) (n : ℕ) (one two : Log)
@@ -38,7 +38,7 @@ module _ (script : Script) (n : ℕ) (one two : Log)
     (home : (caller_of script n).own < script.shape.regions)
     (rows : map (row_report (caller_of script n).own) (one.rows (caller_of script n).own)
     ≡ map (row_report (caller_of script n).own) (two.rows (caller_of script n).own))
-    (Known : Id → Type 0) (texts : TextsAlike script n one two Known) where
+    (Known : Id → Type 0) (known : AreKnown script n one Known) where
   abbrev who : Caller
   who = caller_of script n
 
@@ -65,25 +65,35 @@ module _ (script : Script) (n : ℕ) (one two : Log)
     within = subst (λ (k : ℕ). k ≤ at snapshot own) (s.known colour) x.within;
   }
 
-  node_shown : (colour events : ℕ) → Low colour → (place : Place) (item : PlacedNode)
+  -- a text that is shown under an id
+  by_shown : (shown : List PlacedNode) → ShownAlike one two Known shown → (item : PlacedNode) → In item shown → (key : Key)
+      → item.head.key ≡ key → Known key.id → HasText one key.id item.node.text → HasText two key.id item.node.text
+  by_shown shown said item i key is has h =
+      subst (λ (k : Key). HasText two k.id item.node.text) is
+      (said item i (subst (λ (k : Key). Known k.id) (sym is) has)
+      (subst (λ (k : Key). HasText one k.id item.node.text) (sym is) h))
+
+  node_shown : (colour events : ℕ) → Low colour → (shown : List PlacedNode) → ShownAlike one two Known shown
+      → (place : Place) (item : PlacedNode) → In item shown
       → ShowsNode one who colour events place item → ShowsNode two who colour events place item
-  node_shown colour events lt place item x = record {
+  node_shown colour events lt shown said place item i x = record {
     head = x.head;
     stands = by_history (λ (h : List Entry). Stands (chain own (dated own (take events h))) place x.head) colour lt x.stands;
     key = x.key;
-    text = texts.text x.head.key.id (texts.of_chain colour lt events place x.head x.stands) item.node.text x.text;
+    text = by_shown shown said item i x.head.key x.key (known.of_chain colour lt events place x.head x.stands) x.text;
   }
 
   pub played_alike : {a b : Kept} → KeepSame script a b → (colour events : ℕ) (snapshot : Counts) (shown : List PlacedNode)
-      → Low colour → ShowsPlayed one who a colour events snapshot shown → ShowsPlayed two who b colour events snapshot shown
-  played_alike {a} {b} s colour events snapshot shown lt x = record {
+      → Low colour → ShownAlike one two Known shown → ShowsPlayed one who a colour events snapshot shown
+      → ShowsPlayed two who b colour events snapshot shown
+  played_alike {a} {b} s colour events snapshot shown lt said x = record {
     order = x.order;
     played = subst (λ (v : Counts). IsPlayOrder (chain own (dated own (take events (two.histories own colour)))) v snapshot
         x.order) (s.starts colour)
         (by_history (λ (h : List Entry). IsPlayOrder (chain own (dated own (take events h))) (a.starts colour) snapshot x.order)
         colour lt x.played);
     lines = zip_mapped (ShowsNode one who colour events) (ShowsNode two who colour events) x.order shown
-        (λ place item i. node_shown colour events lt place item) x.lines;
+        (λ place item i j. node_shown colour events lt shown said place item j) x.lines;
   }
 
   pub trimmed_alike : {a b : Kept} → KeepSame script a b → (colour : ℕ) (shown : Counts) → Low colour
@@ -206,13 +216,13 @@ module _ (script : Script) (n : ℕ) (one two : Log)
       let o = x.no_other key (contains_in keys key i) in
       let l = in_map (λ (s : SyncPiece). line (take s.events (one.histories own s.colour))) syncs o.1
       (in_contains (lines_read one who syncs) o.1 o.2) in
-      texts.of_line l.0.colour (low l.0 l.1) l.0.events key
+      known.of_line l.0.colour (low l.0 l.1) l.0.events key
       (subst (In key) (sym l.2) (in_contains o.1 key o.3))
 
   pub shown_alike : (keys : List Key) (shown : List PlacedNode) → ((key : Key) → In key keys → Known key.id)
-      → AllZip (ShowsKey one) keys shown → AllZip (ShowsKey two) keys shown
-  shown_alike keys shown known x = zip_mapped (ShowsKey one) (ShowsKey two) keys shown
-      (λ k item i y. (y.0, texts.text k.id (known k i) item.node.text y.1)) x
+      → ShownAlike one two Known shown → AllZip (ShowsKey one) keys shown → AllZip (ShowsKey two) keys shown
+  shown_alike keys shown of_keys said x = zip_mapped (ShowsKey one) (ShowsKey two) keys shown
+      (λ k item i j y. (y.0, by_shown shown said item j k y.0 (of_keys k i) y.1)) x
 
   -- MOVES
 

@@ -1,5 +1,5 @@
 -- The rows that a report tells, with nodes by their proposals, are lawful where they are so with some nodes.
-use Rattle.std.proofs.Common.{◌≡◌, ◌∙◌, refl, ap, sym, subst, Bool, true, false, cond, ℕ, zero, suc, ◌<◌, List, [], ◌∷◌, length, map, Option, Some, None, ◌⊎◌, inl, inr, arith}
+use Rattle.std.proofs.Common.{◌≡◌, ◌∙◌, refl, ap, sym, subst, Bool, true, false, cond, ℕ, suc, ◌<◌, List, [], ◌∷◌, length, map, Option, Some, None, ◌⊎◌, inl, inr, arith}
 use Rattle.std.specs.Prelude.{◌≢◌, ◌==◌, max, slice_get}
 use Rattle.std.specs.List.{All, AllPairs, filter, range_with_len}
 use Rattle.std.proofs.lemmas.Bool.{eqb-true, eq-eqb, false_from_ne_true}
@@ -34,7 +34,7 @@ use Rattle.run_rules.specs.Told.{Account, IsTold}
 use Rattle.run_rules.specs.Telling.{IsWellFormed, account_of, floor_or, floor_told, is_among, journal_among, marked_colours, no_nodes, proposal_in, proposal_or, row_of, wants_or}
 use Rattle.run_rules.specs.Rules.{Rule1, Rule3}
 use Rattle.run_rules.specs.Agreeing.{HasColumn}
-use Rattle.run_rules.proofs.Lists.{map_map, same_by}
+use Rattle.run_rules.proofs.Lists.{map_map, same_by, slice_mapped}
 use Rattle.run_rules.proofs.OneAccount.{histories_alike, rows_alike}
 use Rattle.run_rules.proofs.ComputedSteps.{among_in}
 use Rattle.run_rules.proofs.ReportsTell.{its_id, reports_tell, rows_again}
@@ -52,12 +52,6 @@ pairs_mapped f R S g (x ∷ xs) p =
     let l = c.1 in
     subst (S (f x)) m.2 (g x m.0 (subst (R x) c.2 (p 0 (suc c.0) m.0 (omega arith) (omega (arith, l)))))))
     (pairs_mapped f R S g xs (λ i j d lt within. p (suc i) (suc j) d (omega (arith, lt)) (omega (arith, within))))
-
-slice_mapped : {A B : Type 0} (f : A → B) (xs : List A) (n : ℕ) (x : A) → slice_get xs n ≡ Some x
-    → slice_get (map f xs) n ≡ Some (f x)
-slice_mapped f [] n x e = absurd (let h : ⊥ = cc (e) in h)
-slice_mapped {A} {B} f (y ∷ ys) zero x e = let h : y ≡ x = cc (e) in ap (λ (z : A). Some (f z)) h
-slice_mapped f (y ∷ ys) (suc n) x e = slice_mapped f ys n x e
 
 pub filter_mapped : {A B : Type 0} (f : A → B) (test : B → Bool) (xs : List A)
     → filter test (map f xs) ≡ map f (filter (λ (x : A). test (f x)) xs)

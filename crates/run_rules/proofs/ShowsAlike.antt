@@ -36,7 +36,7 @@ use Rattle.run_rules.proofs.Deciding.{decide_own}
 use Rattle.run_rules.proofs.Reached.{Below, kind_within, synced_within}
 use Rattle.run_rules.proofs.ReadsAlike.{keys_alike, keys_known, played_alike, pulls_alike, read_alike, shown_alike, syncs_alike, trims_alike}
 use Rattle.run_rules.proofs.SameKept.{SamePlaces, piece_same}
-use Rattle.run_rules.proofs.TextsAlike.{TextsAlike}
+use Rattle.run_rules.proofs.TextsAlike.{AreKnown, ShownAlike}
 use Rattle.run_rules.proofs.ToldAlike.{behind_same, decide_below, got_below, mapped_below, one_below, points_below}
 
 module _ (script : Script) (fits : IsFitting script) (n : ℕ) (one two : Log)
@@ -44,7 +44,7 @@ module _ (script : Script) (fits : IsFitting script) (n : ℕ) (one two : Log)
     (home : (caller_of script n).own < script.shape.regions)
     (rows : map (row_report (caller_of script n).own) (one.rows (caller_of script n).own)
     ≡ map (row_report (caller_of script n).own) (two.rows (caller_of script n).own))
-    (Known : Id → Type 0) (texts : TextsAlike script n one two Known) where
+    (Known : Id → Type 0) (known : AreKnown script n one Known) where
   abbrev who : Caller
   who = caller_of script n
 
@@ -53,7 +53,7 @@ module _ (script : Script) (fits : IsFitting script) (n : ℕ) (one two : Log)
       → (stamp : ℕ) (raises : List RaisePiece) (syncs : List SyncPiece) → HasReads colours raises syncs
       → ReadsColours one who a colours stamp raises syncs → ReadsColours two who b colours stamp raises syncs
   colours_alike s colours low stamp raises syncs has x =
-      read_alike script n one two histories home rows Known texts s colours stamp raises syncs low
+      read_alike script n one two histories home rows Known known s colours stamp raises syncs low
       (mapped_below script.shape.colours (λ (r : RaisePiece). r.colour) raises colours has.0 low)
       (mapped_below script.shape.colours (λ (p : SyncPiece). p.colour) syncs colours has.1 low) _ x
 
@@ -79,7 +79,7 @@ module _ (script : Script) (fits : IsFitting script) (n : ℕ) (one two : Log)
     piece_alike : (sync : SyncPiece) → sync.colour < script.shape.colours → {c d : Kept} → KeepSame script c d
         → SyncsAsTold one who c sync → SyncsAsTold two who d sync
     piece_alike sync lt t x =
-        syncs_alike script n one two histories home rows Known texts t sync.colour sync.events sync.counts lt x
+        syncs_alike script n one two histories home rows Known known t sync.colour sync.events sync.counts lt x
 
     -- behind an append
     stood_same : (row : Option ℕ) (points : List PointPiece) → HasPoints (colours_asked who a what) row points
@@ -102,73 +102,73 @@ module _ (script : Script) (fits : IsFitting script) (n : ℕ) (one two : Log)
         (rising colours) (λ c i. low c (inr i)) stamp raises syncs has
         (subst (λ (cs : List ℕ). ReadsColours one who (kept_after_piece one who a sync) cs stamp raises syncs) is x))
 
-    pub shows_alike : (answer : Answer) → CanHave who a what shown answer
+    pub shows_alike : (answer : Answer) → CanHave who a what shown answer → ShownAlike one two Known shown
         → (IsTrue (begins_row (is_several who a what) answer) → SamePlaces script who one two histories home rows u v)
         → (IsPulled answer → u.too_low ≡ v.too_low) → Shows one u who a what shown answer → Shows two v who b what shown answer
-    shows_alike (answers.Synced sync plays) can places low x =
+    shows_alike (answers.Synced sync plays) can said places low x =
         let lt = one_below script fits n one two histories home rows what within u v a b s shown sync.colour
         (ap (colours_synced who) can) in (
           x.0,
           piece_alike sync lt s x.1,
-          played_alike script n one two histories home rows Known texts s sync.colour sync.events sync.counts shown lt x.2,
+          played_alike script n one two histories home rows Known known s sync.colour sync.events sync.counts shown lt said x.2,
         )
-    shows_alike (answers.Scanned stamp count raises syncs) can places low x =
+    shows_alike (answers.Scanned stamp count raises syncs) can said places low x =
         let has : HasReads (colours_synced who what) raises syncs =
         subst (λ (cs : List ℕ). HasReads cs raises syncs) (sym (ap (colours_synced who) can.1)) can.2 in (
           x.0,
           asked_alike stamp raises syncs has s x.1,
           x.2,
-          keys_alike script n one two histories home rows Known texts stamp syncs x.2
+          keys_alike script n one two histories home rows Known known stamp syncs x.2
               (mapped_below script.shape.colours (λ (p : SyncPiece). p.colour) syncs (colours_synced who what) has.1
               (synced_within script fits n what within)) x.3,
-          shown_alike script n one two histories home rows Known texts x.2 shown
-              (keys_known script n one two histories home rows Known texts stamp syncs x.2
+          shown_alike script n one two histories home rows Known known x.2 shown
+              (keys_known script n one two histories home rows Known known stamp syncs x.2
               (mapped_below script.shape.colours (λ (p : SyncPiece). p.colour) syncs (colours_synced who what) has.1
-              (synced_within script fits n what within)) x.3) x.4,
+              (synced_within script fits n what within)) x.3) said x.4,
         )
-    shows_alike (answers.Pulled count give carry) can places low x = (
+    shows_alike (answers.Pulled count give carry) can said places low x = (
       x.0,
       x.1,
       x.2,
       x.3,
       x.4,
       subst (λ (l : List ℕ). Pulls two who b x.0 x.1 count x.3 carry l) (low tt)
-          (pulls_alike script n one two histories home rows Known texts x.0 x.1
+          (pulls_alike script n one two histories home rows Known known x.0 x.1
           (subst (IsWithin script.shape.regions script.shape.colours) x.2 within) s count x.3 carry u.too_low x.5),
     )
-    shows_alike (answers.Based given base) can places low x = (
+    shows_alike (answers.Based given base) can said places low x = (
       x.0,
       x.1,
       x.2,
       x.3,
-      trims_alike script n one two histories home rows Known texts s x.0 x.2 base
+      trims_alike script n one two histories home rows Known known s x.0 x.2 base
           (subst (IsWithin script.shape.regions script.shape.colours) x.1 within) x.4,
     )
-    shows_alike (answers.Got value sync) can places low x =
+    shows_alike (answers.Got value sync) can said places low x =
         piece_alike sync (got_below script fits n one two histories home rows what within u v a b s shown value sync
         (kind_asked who what) can.1) s x
-    shows_alike (answers.GotMany values sync) can places low x =
+    shows_alike (answers.GotMany values sync) can said places low x =
         piece_alike sync (kind_within script fits n can.1 _ can.4) s x
-    shows_alike (answers.GotKeys stamp keys raises syncs) can places low x = asked_alike stamp raises syncs can.2 s x
-    shows_alike (answers.Ruled conflict stamp row points read_stamp raises syncs) can places low x =
+    shows_alike (answers.GotKeys stamp keys raises syncs) can said places low x = asked_alike stamp raises syncs can.2 s x
+    shows_alike (answers.Ruled conflict stamp row points read_stamp raises syncs) can said places low x =
         asked_alike read_stamp raises syncs can.3 (stood_same row points can.2 places) x
-    shows_alike (answers.Changed failed stamp row points read_stamp raises syncs) can places low x =
+    shows_alike (answers.Changed failed stamp row points read_stamp raises syncs) can said places low x =
         asked_alike read_stamp raises syncs can.3 (stood_same row points can.2 places) x
-    shows_alike (answers.Listed names stamp raises syncs) can places low x = asked_alike stamp raises syncs can.4 s x
-    shows_alike (answers.Undecided stamp sync) can places low x =
+    shows_alike (answers.Listed names stamp raises syncs) can said places low x = asked_alike stamp raises syncs can.4 s x
+    shows_alike (answers.Undecided stamp sync) can said places low x =
         piece_alike sync (one_below script fits n one two histories home rows what within u v a b s shown sync.colour can.4.3)
         s x
-    shows_alike (answers.Decided commits stamp sync read_stamp raises syncs ended) can places low x =
+    shows_alike (answers.Decided commits stamp sync read_stamp raises syncs ended) can said places low x =
         let lt = decide_below script fits n one two histories home rows what within u v a b s shown sync can.1 can.2
         sync.colour (inl refl) in
         (piece_alike sync lt s x.0, decided_alike sync read_stamp raises syncs can.1 can.2 can.3 x.1)
-    shows_alike (answers.Took value point sync) can places low x =
+    shows_alike (answers.Took value point sync) can said places low x =
         piece_alike sync
         (subst (λ (c : ℕ). c < script.shape.colours) (sym can.3)
         (points_below script fits n one two histories home rows what within u v a b s shown None (point ∷ []) can.2 point
         (inl refl)))
         (stood_same None (point ∷ []) can.2 (λ t. absurd (let f : ⊥ = cc (t) in f))) x
-    shows_alike _ can places low x = tt
+    shows_alike _ can said places low x = tt
 
     next_point : (point : PointPiece) → point.colour < script.shape.colours → WasNext one who a point → WasNext two who b point
     next_point point lt x = (

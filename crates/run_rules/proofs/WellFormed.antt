@@ -19,7 +19,7 @@ use Rattle.run_rules.proofs.OneAccount.{shows_region}
 -- COLUMNS
 
 -- each is there once
-abbrev OnceEach : List (ℕ × ℕ) → Type 0
+abbrev pub OnceEach : List (ℕ × ℕ) → Type 0
 OnceEach [] = Unit {0}
 OnceEach (x ∷ xs) = (In x xs → ⊥) × OnceEach xs
 
@@ -42,7 +42,7 @@ once_row region from (suc k) = (
   once_row region (from + 1) k,
 )
 
-once_rows : (colours from k : ℕ)
+pub once_rows : (colours from k : ℕ)
     → OnceEach (flat_map (λ (r : ℕ). map (λ (c : ℕ). (r, c)) (range_with_len 0 colours)) (range_with_len from k))
 once_rows colours from zero = tt
 once_rows colours from (suc k) =
@@ -58,10 +58,10 @@ once_rows colours from (suc k) =
       row : ℕ → List (ℕ × ℕ)
       row r = map (λ (c : ℕ). (r, c)) (range_with_len 0 colours)
 
-abbrev numbers_of : ColumnReport → ℕ × ℕ
+abbrev pub numbers_of : ColumnReport → ℕ × ℕ
 numbers_of c = (c.region, c.colour)
 
-columns_apart : (cs : List ColumnReport) → OnceEach (map numbers_of cs)
+pub columns_apart : (cs : List ColumnReport) → OnceEach (map numbers_of cs)
     → AllPairs (λ (c d : ColumnReport). c.region ≡ d.region → c.colour ≢ d.colour) cs
 columns_apart [] o = λ i j d lt within. absurd (let f : ⊥ = omega (arith, within) in f)
 columns_apart (c ∷ cs) o =

@@ -11,8 +11,11 @@ use Rattle.lawful_run.specs.Lawful.{LawfulRun}
 use Rattle.run_rules.specs.Told.{Account, IsTold}
 use Rattle.run_rules.specs.Telling.{FindKeys, IsWellFormed, account_of, account_with, no_nodes}
 use Rattle.run_rules.specs.Rules.{Rule1, Rule3}
+use Rattle.run_rules.specs.Shown.{Rule9}
+use Rattle.run_rules.specs.Said.{DecisionsShown, ShownCouldBeSaid, nodes_shown}
 use Rattle.run_rules.specs.Nodes.{HasItsNodes, nodes_told, nodes_with}
 use Rattle.run_rules.specs.Finding.{HasItsFinds, AgreeOnFinds, DecisionsSame, FindSame}
+use Rattle.run_rules.specs.Computing.{account_finding, finds_of}
 use Rattle.run_rules.specs.Keeping.{Keeps, RulesTo, IsLeastBroken, HidesNothing, rule_count}
 use Rattle.run_rules.specs.Agreeing.{Agree, AgreeOnNodes}
 
@@ -122,6 +125,14 @@ LaterRulesDecided = (script : Script) (report : Report) → IsFitting script →
     → Keeps script report n
     ↔ (IsWellFormed script report × RulesTo script report (account_of script report (nodes_told script report)) n)
 
+-- The ninth is decided by the texts that node lines show: it holds where nodes have these, and their commands could have said
+-- them.
+abbrev pub NinthRuleDecided : Type 0
+NinthRuleDecided = (script : Script) (report : Report) → IsFitting script
+    → Keeps script report 9
+    ↔ (IsWellFormed script report × RulesTo script report (account_of script report (nodes_told script report)) 8
+    × Rule9 script report (account_of script report (nodes_shown script report)) × ShownCouldBeSaid script report)
+
 -- Two accounts that a report of a script tells, and at which rules 1 to 4 hold, agree within the script's shape.
 abbrev pub ToldAccountsAgree : Type 0
 ToldAccountsAgree = (script : Script) (report : Report) (a b : Account) → IsFitting script
@@ -189,3 +200,27 @@ abbrev pub OneAccountDecides : Type 0
 OneAccountDecides = (script : Script) (report : Report) (account : Account) → IsFitting script
     → IsTold script report account → RulesTo script report account 5 → (n : ℕ) → n ≤ 8
     → Keeps script report n → RulesTo script report account n
+
+-- What reads found is computed: where a report keeps the rules up to the ninth, the reads of the account that is computed with it
+-- found what they had to, whatever decisions say.
+abbrev pub ComputedFindsAreRight : Type 0
+ComputedFindsAreRight = (script : Script) (report : Report) (decided : ℕ → ℕ → Decision) → IsFitting script
+    → Keeps script report 9 → HasItsFinds script report (account_finding script report (finds_of script report) decided)
+
+-- So it decides the rules from the tenth to the thirteenth, where its decisions say what is shown of them: a report keeps those
+-- up to a number where they hold at it.
+abbrev pub ComputedFindsDecide : Type 0
+ComputedFindsDecide = (script : Script) (report : Report) (decided : ℕ → ℕ → Decision) → IsFitting script
+    → DecisionsShown report (account_finding script report (finds_of script report) decided)
+    → (n : ℕ) → 10 ≤ n → n ≤ 13
+    → Keeps script report n
+    ↔ (IsWellFormed script report
+    × RulesTo script report (account_finding script report (finds_of script report) decided) n)
+
+-- And it keeps all rules where some told account does that has the texts of its decisions.
+abbrev pub ComputedFindsKeep : Type 0
+ComputedFindsKeep = (script : Script) (report : Report) (decided : ℕ → ℕ → Decision) → IsFitting script
+    → (a : Account) → IsTold script report a
+    → DecisionsSame report a (account_finding script report (finds_of script report) decided)
+    → RulesTo script report a rule_count
+    → RulesTo script report (account_finding script report (finds_of script report) decided) rule_count

@@ -9,4 +9,6 @@ pub mod Shown
 pub mod Finding
 pub mod Keeping
 pub mod Agreeing
+pub mod Said
+pub mod Computing
 pub mod Laws

@@ -1,8 +1,9 @@
 // Laws of the rules. Each function does nothing, and its contract is the law.
-ghost use Rattle.run_rules.specs.Laws.{BrokenIsUnlawful, ComputedAccountAgrees, ComputedAccountDecides, ComputedAccountKeeps, FindsAreRight, FindsDecide, FindsKeep, FindsTell, FirstRulesDecided, FoundAccountDecides, FoundAccountKeeps, LaterRulesDecided, LawfulRunsKeepRules, LeastIsOne, NodesAreFound, NodesAreTold, NodesChangeNoStep, OneAccountDecides, ReportsTell, RightFindsDecide, RuleOneForms, RulesMakeLawful, SameFindsDecide, ToldAccountsAgree, ToldFindsAgree, ToldNodesAgree};
+ghost use Rattle.run_rules.specs.Laws.{BrokenIsUnlawful, ComputedAccountAgrees, ComputedAccountDecides, ComputedAccountKeeps, ComputedFindsAreRight, ComputedFindsDecide, ComputedFindsKeep, FindsAreRight, FindsDecide, FindsKeep, FindsTell, FirstRulesDecided, FoundAccountDecides, FoundAccountKeeps, LaterRulesDecided, LawfulRunsKeepRules, LeastIsOne, NinthRuleDecided, NodesAreFound, NodesAreTold, NodesChangeNoStep, OneAccountDecides, ReportsTell, RightFindsDecide, RuleOneForms, RulesMakeLawful, SameFindsDecide, ToldAccountsAgree, ToldFindsAgree, ToldNodesAgree};
 
 use col_core::region_order_is_unique;
 use part_fold::decisions_are_plain;
+use playback::region_order_is_lawful;
 
 /// A report that hides nothing keeps all rules where it is that of a lawful run.
 pub fn lawful_runs_keep_rules()
@@ -89,6 +90,11 @@ pub fn later_rules_decided()
     ensures { LaterRulesDecided }
 {}
 
+/// With the texts that node lines show it decides the ninth.
+pub fn ninth_rule_decided()
+    ensures { NinthRuleDecided }
+{}
+
 /// Two accounts of one report at which the first four rules hold agree.
 pub fn told_accounts_agree()
     ensures { ToldAccountsAgree }
@@ -142,3 +148,29 @@ pub fn found_account_keeps()
 pub fn one_account_decides()
     ensures { OneAccountDecides }
 {}
+
+/// What reads found is computed, one stamp after another.
+pub fn computed_finds_are_right()
+    ensures { ComputedFindsAreRight }
+{
+    region_order_is_lawful();
+    decisions_are_plain();
+}
+
+/// The account that is computed with it decides the rules from the tenth to the thirteenth.
+pub fn computed_finds_decide()
+    ensures { ComputedFindsDecide }
+{
+    region_order_is_unique();
+    region_order_is_lawful();
+    decisions_are_plain();
+}
+
+/// It keeps all rules where some told account does that has the texts of its decisions.
+pub fn computed_finds_keep()
+    ensures { ComputedFindsKeep }
+{
+    region_order_is_unique();
+    region_order_is_lawful();
+    decisions_are_plain();
+}

@@ -11,6 +11,7 @@ mod parts;
 mod plays;
 mod queues;
 mod regions;
+mod rings;
 mod streams;
 mod trees;
 mod worlds;

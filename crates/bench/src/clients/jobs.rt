@@ -121,7 +121,7 @@ pub fn pulled<R: Wait>(rt: &R, alloc: Global, store: &Store, client: &mut Client
     requires client { IsClient store.now client.old }
     ensures { IsClient store.now client.new }
 {
-    match client.pull(rt, alloc, store, 0, 0) {
+    match client.pull(rt, store, 0, 0) {
         Ok(pulled) => pulled.nodes,
         Err(_) => 0,
     }

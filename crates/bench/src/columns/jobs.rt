@@ -6,6 +6,7 @@ ghost use Rattle.bench.specs.Jobs.{IsBenchColumn, IsJob, AreJobs};
 use crate::columns::nodes::node;
 use chain_store::{Seated, open_column, single_in};
 use log_node::{ListOf, Shape};
+use ring_ends::Rings;
 use stamp_board::Board;
 use std::alloc::{AllocError, Global};
 use std::sync::Wait;
@@ -37,7 +38,11 @@ fn open(alloc: Global) -> Result<(Cell<Seated>, Passes<Seated>), AllocError>
     let Some(seat) = columns.pop() else {
         unreachable!()
     };
-    open_column(alloc, &board, seat, 0, 0, &shape, 4)
+    let rings = Rings {
+        sends: Vec::new(alloc),
+        receives: Vec::new(alloc),
+    };
+    open_column(alloc, &board, seat, 0, 0, &shape, rings, 4)
 }
 
 // So many jobs more, each at the column.

@@ -227,7 +227,7 @@ b deq q
 ];
 
 /// The script is done on threads as in the order of the file, and its report has the part.
-fn is_the_same<R: Threads + Wait + Sync + Abort>(
+pub fn is_the_same<R: Threads + Wait + Sync + Abort>(
     alloc: Global,
     rt: &R,
     script: &[u8],
@@ -300,14 +300,16 @@ const BEHIND_A_STOP: [(&str, [&str; 3]); 2] = [
 const STOPPED: &str = "fuzzylog 1\nregions r\ncolours x y o p\nclient a r\nclient b r\nbegin
 a stop 3 x,y q\nb append o,p begin\n";
 
-/// On threads the script is done, and its report has all these parts.
-fn has_all<R: Threads + Wait + Sync + Abort>(
+/// On threads, where each client passes so many steps before the next one goes on, the script is done, and its report has all
+/// these parts.
+pub fn has_all<R: Threads + Wait + Sync + Abort>(
     alloc: Global,
     rt: &R,
     script: &[u8],
+    wanted: [u64; 3],
     parts: &[&str],
 ) -> Result<(), Fail> {
-    let gate = InTurn::new([2, 0, 0]);
+    let gate = InTurn::new(wanted);
     let (status, sink) = run_at(alloc, rt, script, &gate)?;
     assert_eq!(rt; status, Status::Done);
     assert!(rt; !gate.late.load(Ordering::SeqCst));
@@ -321,7 +323,7 @@ fn has_all<R: Threads + Wait + Sync + Abort>(
 fn who_meets_a_stop_on_threads_completes_it(rt: HostRuntime) -> Result<(), Fail> {
     for (lines, parts) in BEHIND_A_STOP {
         let script = script_of(rt.alloc(), STOPPED, lines)?;
-        has_all(rt.alloc(), &rt, script.as_bytes(), &parts)?;
+        has_all(rt.alloc(), &rt, script.as_bytes(), [2, 0, 0], &parts)?;
     }
     Ok(())
 }

@@ -1,10 +1,16 @@
 // With ample memory no size makes a body give up: scripts whose reports tell no want of memory, up to the limits of a script.
 use super::*;
+use crate::tests::in_turn::is_the_same;
 use memchr::memmem;
 
-/// So many appends of `a` in the region e, and then these lines.
-fn after_appends(alloc: Global, count: u32, lines: &str) -> Result<String, AllocError> {
-    let mut script = String::from_str(alloc, TWO_REGIONS)?;
+/// A script that begins so and goes on with so many appends of `a` to x, and then with these lines.
+pub fn after_appends(
+    alloc: Global,
+    begin: &str,
+    count: u32,
+    lines: &str,
+) -> Result<String, AllocError> {
+    let mut script = String::from_str(alloc, begin)?;
     for _ in 0..count {
         script.push_str("a append x p\n")?;
     }
@@ -29,12 +35,40 @@ fn is_done_whole<R: Threads + Wait + Sync + Abort>(
 #[test]
 fn thousands_of_nodes_are_carried_played_and_trimmed(rt: HostRuntime) -> Result<(), Fail> {
     let lines = "b pull e x\nb sync x\na sync x\na trim x\n";
-    let script = after_appends(rt.alloc(), 4_200, lines)?;
+    let script = after_appends(rt.alloc(), TWO_REGIONS, 4_200, lines)?;
     is_done_whole(
         rt.alloc(),
         &rt,
         script.as_bytes(),
         "\n4209 sync ok x?1/4200,0 plays 4200\n",
+    )
+}
+
+/// Three clients in two regions, and colours of which each client appends to two alone when it begins or ends.
+pub const WITH_TURNS: &str =
+    "fuzzylog 1\nregions e w\ncolours x m n o p q r\nclient a e\nclient b w\nclient c w\nbegin\n";
+
+/// What the western column x has where it carried so many nodes of `a` by one event, and nothing else has come.
+fn carried_at_once(alloc: Global, count: u32) -> Result<String, AllocError> {
+    let mut column = String::from_str(alloc, "\ncolumn w x\n0 b carry e 0")?;
+    for number in 0..count {
+        column.push_str(format!(in alloc; " a.{}:{}/0,0", number, number + 1)?.as_str())?;
+    }
+    column.push_str("\n= clock 0 line - queue - cut 200,0 base 0,0\n")?;
+    Ok(column)
+}
+
+#[test]
+fn two_hundred_nodes_come_by_one_carry(rt: HostRuntime) -> Result<(), Fail> {
+    let lines = "a append m,n end\nb append o,p begin\nb pull e x\n";
+    let script = after_appends(rt.alloc(), WITH_TURNS, 200, lines)?;
+    let column = carried_at_once(rt.alloc(), 200)?;
+    is_the_same(
+        rt.alloc(),
+        &rt,
+        script.as_bytes(),
+        [1, 0, 0],
+        column.as_str(),
     )
 }
 

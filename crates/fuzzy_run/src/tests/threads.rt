@@ -1,5 +1,7 @@
 // Runs on threads.
 use super::*;
+use crate::tests::in_turn::has_all;
+use crate::tests::large::{WITH_TURNS, after_appends};
 use crate::tests::several::FEW_ROWS;
 use crate::tests::stops::STOPS;
 use fuzzy_io::Gate;
@@ -307,4 +309,22 @@ a append x,y q\nb append x,y t\nb append x s\nb append x,y u\n";
     }
     assert!(rt; sink.bytes().ends_with(b" cut 3 base 0\n"));
     Ok(())
+}
+
+#[test]
+fn two_clients_who_pull_at_once_bring_all_nodes(rt: HostRuntime) -> Result<(), Fail> {
+    let lines =
+        "a append m,n end\nb append o,p begin\nb pull e x\nc append q,r begin\nc pull e x\n";
+    let script = after_appends(rt.alloc(), WITH_TURNS, 200, lines)?;
+    has_all(
+        rt.alloc(),
+        &rt,
+        script.as_bytes(),
+        [1, 1, 0],
+        &[
+            "\n210 pull ok ",
+            "\n212 pull ok ",
+            "\n= clock 0 line - queue - cut 200,0 base 0,0\ncolumn w m\n",
+        ],
+    )
 }

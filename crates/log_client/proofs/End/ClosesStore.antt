@@ -32,6 +32,7 @@ use Rattle.chain_store.specs.Beginning.{begun_for}
 use Rattle.chain_store.specs.Histories.{entries_in}
 use Rattle.chain_store.specs.Holds.{IsHold, entries_seen, made_in, view_of}
 use Rattle.chain_store.specs.Closing.{AgreesWith}
+use Rattle.chain_store.specs.Joined.{ends_in, ended_past, AreCarriedAlong}
 use Rattle.append_core.specs.Settled.{HoldKnowsComplete, HoldKnewSettled}
 use Rattle.lawful_run.specs.Lawful.{IsHelp}
 use Rattle.client_law.specs.Making.{made_of, own_steps}
@@ -48,6 +49,7 @@ use Rattle.log_client.specs.Closes.{AreClients, EndsComplete, EndsFor, ClosesAsL
 use Rattle.log_client.proofs.Lists.{got, mapped, same_items, unmapped}
 use Rattle.log_client.proofs.End.Endings.{store_ends}
 use Rattle.log_client.proofs.End.EndsClients.{own_row_known, own_row_nodes, steps_same}
+use Rattle.log_client.proofs.End.JoinedEnds.{ends_alike}
 use Rattle.log_client.proofs.End.LeftOpen.{closed_in_row, closed_where_settled, ids_not_open, one_row, row_not_open}
 use Rattle.log_client.proofs.Known.Seeing.{made_there, seen_there}
 
@@ -75,7 +77,7 @@ all_leave s clients ls all same = record {
 }
 
 module _ (s : Store) (clients : List Client) (all : AreClients s clients) (ends : List ClosedRegion)
-    (ended : HaveEnded s.regions (map holds_of clients) ends) where
+    (ended : HaveEnded s.regions (map holds_of clients) ends) (along : AreCarriedAlong (ends_in ends)) where
   are : AreRegions (length s.regions) s.regions
   are n r at = let i = s.fit.each n r at in (i.number, i.regions)
 
@@ -123,7 +125,7 @@ module _ (s : Store) (clients : List Client) (all : AreClients s clients) (ends 
   pub end_log : (l : Log) × EndsStore (length s.regions) s.size.colours (map holds_of clients) ends l
       × ((u : ℕ) → l.nodes u ≡ nodes_of u)
   end_log = store_ends s.regions (length s.regions) s.size.colours (map holds_of clients) ends nodes_of are refl sizes holds
-      pulls own ended
+      pulls own ended along
 
   module _ (log : Log) (store : EndsStore (length s.regions) s.size.colours (map holds_of clients) ends log)
       (same : (u : ℕ) → log.nodes u ≡ nodes_of u) (n : ℕ) (c : Client) (at : slice_get clients n ≡ Some c) where
@@ -359,16 +361,16 @@ module _ (s : Store) (clients : List Client) (all : AreClients s clients) (ends 
       row_nodes = row_node_listed;
     }
 
--- the store closes with these regions' ends, and the nodes of its clients' rows
+-- the store closes with such as these regions' ends, and the nodes of its clients' rows
 pub store_closes : (s : Store) (clients : List Client) (all : AreClients s clients) (ends : List ClosedRegion) (closed : Closed)
-    → HaveEnded s.regions (map holds_of clients) ends → closed.regions ≡ ends
+    → HaveEnded s.regions (map holds_of clients) ends → AreCarriedAlong (ends_in ends)
+    → map ended_past closed.regions ≡ map ended_past ends
     → closed.nodes ≡ map (λ (c : Client). c.rows.items) clients → ClosesAsLog s clients closed
-store_closes s clients all ends closed ended same rows =
-    let l = end_log s clients all ends ended in
+store_closes s clients all ends closed ended along same rows =
+    let l = end_log s clients all ends ended along in
     record {
       log = l.0;
-      ends = subst (λ (es : List ClosedRegion). EndsStore (length s.regions) s.size.colours (map holds_of clients) es l.0)
-          (sym same) l.1;
-      each = λ n c at. ends_for s clients all ends ended l.0 l.1 l.2 n c at;
+      ends = ends_alike (length s.regions) s.size.colours (map holds_of clients) ends closed.regions l.0 same l.1;
+      each = λ n c at. ends_for s clients all ends ended along l.0 l.1 l.2 n c at;
       nodes = rows;
     }

@@ -1,5 +1,5 @@
 -- The log with which a store ends, put together.
-use Rattle.std.proofs.Common.{◌≡◌, ℕ, ◌<◌, ◌≤◌, List, length, Option, Some, None, slice_get, refl, subst, ◌∙◌, inl, inr, arith}
+use Rattle.std.proofs.Common.{◌≡◌, ℕ, ◌<◌, ◌≤◌, List, length, Option, Some, None, slice_get, refl, sym, subst, ◌∙◌, inl, inr, arith}
 use Rattle.std.proofs.lemmas.Bool.{cases_lt}
 use Rattle.std.proofs.lemmas.Option.{same_Some, slice_get_within}
 use Rattle.log_node.specs.declared.node.Node.{Node}
@@ -7,10 +7,12 @@ use Rattle.col_core.specs.Log.{Log}
 use Rattle.chain_store.specs.declared.hold.Hold.{Hold}
 use Rattle.chain_store.specs.declared.region.Region.{Region}
 use Rattle.chain_store.specs.declared.closed.ClosedRegion.{ClosedRegion}
+use Rattle.chain_store.specs.Joined.{ends_in, AreCarriedAlong}
 use Rattle.log_client.specs.Ending.{AreRegions, AreHoldsIn, PullsTruly, HasOwnNodes}
 use Rattle.log_client.specs.Closing.{AreHoldsAt, HaveEnded, EndsRegion, EndsStore}
 use Rattle.log_client.proofs.Lists.{got, same_items}
-use Rattle.log_client.proofs.End.Ends.{Ended, IsEnd}
+use Rattle.log_client.proofs.End.Ends.{Ended, IsEnd, AreCopied}
+use Rattle.log_client.proofs.End.JoinedEnds.{copied_at}
 use Rattle.log_client.proofs.End.EndsLog.{client_ends, copies, lawful, log, makers}
 use Rattle.log_client.proofs.End.EndsRows.{enters_listed, region_ends}
 
@@ -40,7 +42,7 @@ module _ (rs : List Region) (regions colours : ℕ) (clients : List (List Hold))
     (holds : (u : ℕ) (hs : List Hold) → slice_get clients u ≡ Some hs → AreHoldsIn rs hs)
     (pulls : (u : ℕ) (hs : List Hold) → slice_get clients u ≡ Some hs → PullsTruly rs hs)
     (own : (u : ℕ) (hs : List Hold) → slice_get clients u ≡ Some hs → HasOwnNodes u hs (nodes u))
-    (ended : HaveEnded rs clients ends) where
+    (ended : HaveEnded rs clients ends) (along : AreCarriedAlong (ends_in ends)) where
   ends_at : (n : ℕ) → n < regions → (x : Ended) × IsEnd rs clients ends n x
   ends_at n lt =
       let many = ended.0 in
@@ -66,8 +68,19 @@ module _ (rs : List Region) (regions colours : ℕ) (clients : List (List Hold))
   unfolding end_of
   none_beyond n le = (choice_at (IsEnd rs clients ends) regions ends_at n).3 le
 
+  below : (n : ℕ) (x : Ended) → end_of n ≡ Some x → n < regions
+  below n x e = elim (cases_lt n regions) [
+    | inl lt ↦ lt
+    | inr le ↦ absurd (let none = sym e ∙ none_beyond n le in let f : ⊥ = cc (none) in f)
+  ]
+
+  copied : AreCopied colours end_of
+  copied n m colour x y x_there y_there ne lt =
+      copied_at rs regions colours clients ends are sizes along n m colour x y (is_end n x x_there) (is_end m y y_there)
+      (below n x x_there) (below m y y_there) ne lt
+
   abbrev the_log : Log
-  the_log = log rs regions colours clients ends nodes are few sizes holds pulls own end_of is_end has_end none_beyond
+  the_log = log rs regions colours clients ends nodes are few sizes holds pulls own end_of is_end copied has_end none_beyond
 
   -- A store whose regions have ended, of which each client pulled truly and has its nodes, ends with a log in which each
   -- client has these nodes.
@@ -76,16 +89,16 @@ module _ (rs : List Region) (regions colours : ℕ) (clients : List (List Hold))
     the_log,
     record {
       many = ended.0 ∙ few;
-      lawful = lawful rs regions colours clients ends nodes are few sizes holds pulls own end_of is_end has_end none_beyond;
-      makers = makers rs regions colours clients ends nodes are few sizes holds pulls own end_of is_end has_end none_beyond;
+      lawful = lawful rs regions colours clients ends nodes are few sizes holds pulls own end_of is_end copied has_end none_beyond;
+      makers = makers rs regions colours clients ends nodes are few sizes holds pulls own end_of is_end copied has_end none_beyond;
       ends_with = λ n e at. of_region n e at;
       copies = λ colour lt.
-          copies rs regions colours clients ends nodes are few sizes holds pulls own end_of is_end has_end none_beyond colour;
+          copies rs regions colours clients ends nodes are few sizes holds pulls own end_of is_end copied has_end none_beyond colour lt;
       each_client = λ u hs at.
-          client_ends rs regions colours clients ends nodes are few sizes holds pulls own end_of is_end has_end none_beyond
+          client_ends rs regions colours clients ends nodes are few sizes holds pulls own end_of is_end copied has_end none_beyond
           u hs at;
       entered =
-          enters_listed rs regions colours clients ends nodes are few sizes holds pulls own end_of is_end has_end none_beyond;
+          enters_listed rs regions colours clients ends nodes are few sizes holds pulls own end_of is_end copied has_end none_beyond;
     },
     λ u. refl,
   ) where
@@ -99,6 +112,6 @@ module _ (rs : List Region) (regions colours : ℕ) (clients : List (List Hold))
           x.0.ks,
           is.holds,
           subst (EndsRegion the_log regions colours n x.0.ks) (same_items ends n x.0.e e is.end at)
-              (region_ends rs regions colours clients ends nodes are few sizes holds pulls own end_of is_end has_end none_beyond
+              (region_ends rs regions colours clients ends nodes are few sizes holds pulls own end_of is_end copied has_end none_beyond
               n x.0 x.1),
         )

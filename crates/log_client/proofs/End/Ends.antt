@@ -1,7 +1,8 @@
 -- The log with which a store ends: whose its nodes are.
-use Rattle.std.proofs.Common.{◌≡◌, ℕ, ◌<◌, List, [], ◌∷◌, length, map, take, Option, Some, None, true, slice_get, refl, ap, sym, subst, ◌∙◌, inl, inr, ◌⊎◌, arith}
+use Rattle.std.proofs.Common.{◌≡◌, ◌≢◌, ℕ, ◌<◌, List, [], ◌∷◌, length, map, take, Option, Some, None, true, slice_get, refl, ap, sym, subst, ◌∙◌, inl, inr, ◌⊎◌, arith}
 use Rattle.std.specs.Prelude.{nat_lt, if◌then◌else◌}
 use Rattle.std.specs.List.{Contains}
+use Rattle.std.proofs.lemmas.List.{length-map}
 use Rattle.std.proofs.lemmas.Option.{slice_get_within}
 use mathlib.Core.List.{IsPrefix}
 use Rattle.log_node.specs.declared.ids.Id.{Id}
@@ -27,17 +28,19 @@ use Rattle.chain_store.specs.declared.closed.ClosedRegion.{ClosedRegion}
 use Rattle.chain_store.specs.Histories.{entries_in, Names, EntersAs, Brings}
 use Rattle.chain_store.specs.Owning.{row_of}
 use Rattle.chain_store.specs.Regions.{tag_at}
+use Rattle.chain_store.specs.Rings.{IsCopied}
 use Rattle.chain_store.specs.Holds.{made_in, seen_in, view_of}
 use Rattle.chain_store.specs.Closing.{AreHoldsOf, Closed, ClosesColumn}
 use Rattle.chain_store.proofs.CallerLemmas.{row_place}
 use Rattle.append_core.specs.Standing.{IsSingleOf}
-use Rattle.region_pull.specs.Origins.{IsOfOrigin, IsHeldFor}
+use Rattle.region_pull.specs.Origins.{IsHeldFor}
 use Rattle.client_law.proofs.CallerLemmas.{lawful_at}
 use Rattle.lawful_run.proofs.CallerLemmas.{prefix_get}
 use Rattle.log_client.specs.Fits.{IsListed}
 use Rattle.log_client.specs.Ending.{AreRegions, AreHoldsIn, PullsTruly, HasOwnNodes}
 use Rattle.log_client.specs.Closing.{AreHoldsAt}
 use Rattle.log_client.proofs.Lists.{got, mapped, unmapped}
+use Rattle.log_client.proofs.End.CarriedNodes.{carried_node}
 
 -- a region that has ended, with the holds of all its clients
 pub record Ended : Type 0 where
@@ -62,15 +65,11 @@ pub record IsEnd (rs : List Region) (clients : List (List Hold)) (ends : List Cl
   pub end : slice_get ends n ≡ Some x.e
   pub holds : AreHoldsAt clients n x.ks
 
-enters_longer : (old new : List Told) (id : Id) (x : Node) → IsPrefix old new → EntersAs old id x → EntersAs new id x
-enters_longer old new id x p n = record {
-  place = n.place;
-  told = n.told;
-  there = prefix_get old new n.place n.told p n.there;
-  brought = n.brought;
-  entered = n.entered;
-  of_id = n.of_id;
-}
+-- what the regions that have ended carried of one another, by each colour
+abbrev pub AreCopied : ℕ → (ℕ → Option Ended) → Type 0
+AreCopied colours end_of =
+    (n m colour : ℕ) (x y : Ended) → end_of n ≡ Some x → end_of m ≡ Some y → n ≢ m → colour < colours
+    → IsCopied (tag_at x.r colour) (x.closed.logs colour) (y.closed.logs colour)
 
 module _ (rs : List Region) (regions colours : ℕ) (clients : List (List Hold)) (ends : List ClosedRegion)
     (nodes : ℕ → List Node)
@@ -81,6 +80,7 @@ module _ (rs : List Region) (regions colours : ℕ) (clients : List (List Hold))
     (own : (u : ℕ) (hs : List Hold) → slice_get clients u ≡ Some hs → HasOwnNodes u hs (nodes u))
     (end_of : ℕ → Option Ended)
     (is_end : (n : ℕ) (x : Ended) → end_of n ≡ Some x → IsEnd rs clients ends n x)
+    (copied : AreCopied colours end_of)
     (has_end : (n : ℕ) → n < regions → (x : Ended) × (end_of n ≡ Some x)) where
   -- a client's hold of a region is among those with which it ended
   pub hold_at : (n : ℕ) (x : Ended) → end_of n ≡ Some x → (u : ℕ) (hs : List Hold) → slice_get clients u ≡ Some hs
@@ -202,41 +202,19 @@ module _ (rs : List Region) (regions colours : ℕ) (clients : List (List Hold))
               by_in (inl is) = is
               by_in (inr f) = absurd f
 
-      -- an entry that carries: whence, and what its maker had seen there
-      pub carry_of : (place : ℕ) (t : Told) (origin start : ℕ) (heads : List Head)
+      -- an entry that carries: whence
+      origin_of : (place : ℕ) (t : Told) (origin start : ℕ) (heads : List Head)
           → slice_get (x.closed.logs colour) place ≡ Some t → t.entry.event ≡ events.Carry origin start heads
-          → (o : Ended) × (g : Hold) × (end_of origin ≡ Some o) × (slice_get o.ks t.entry.by ≡ Some g)
-          × (o.r.number ≡ origin) × IsOfOrigin (tag_at o.r colour) (seen_in g colour) t
-      carry_of place t origin start heads at is =
-          let c = maker_of place t at in
+          → (o : Ended) × (end_of origin ≡ Some o) × (o.r.number ≡ origin) × (origin ≢ n)
+      origin_of place t origin start heads at is =
           let l = subst (λ (ev : event_types.Event). IsLawfulEvent x.r.number x.r.regions (before place) ev t.entry.stamp) is
           (lawful_at x.r.number x.r.regions (entries_in (x.closed.logs colour)) place t.entry column.1.lawful
           (mapped (λ (u : Told). u.entry) (x.closed.logs colour) place t at)) in
           let mine = are n x.r (is_end n x e).region in
           let o = has_end origin (subst (λ (k : ℕ). origin < k) mine.1 l.2) in
-          let g = hold_at origin o.0 o.1 t.entry.by c.0 c.3 in
-          let low = within_of origin o.0 o.1 in (
-            o.0,
-            g.0,
-            o.1,
-            g.1,
-            (are origin o.0.r (is_end origin o.0 o.1).region).0,
-            (pulls t.entry.by c.0 c.3).carries o.0.r x.r g.0 c.1 colour
-                (record {
-                  n = origin;
-                  m = n;
-                  apart = λ same. l.1 (same ∙ sym mine.0);
-                  from_there = (is_end origin o.0 o.1).region;
-                  to_there = (is_end n x e).region;
-                  from_hold = g.2;
-                  to_hold = c.4;
-                }) low c.2 t c.5,
-          ) where
+          (o.0, o.1, (are origin o.0.r (is_end origin o.0 o.1).region).0, λ same. l.1 (same ∙ sym mine.0)) where
             before : ℕ → List Dated
             before place = take place (dated x.r.number (entries_in (x.closed.logs colour)))
-
-            within_of : (origin : ℕ) (o : Ended) → end_of origin ≡ Some o → colour < o.r.board.size.colours
-            within_of origin o at_o = let size = sizes origin o.r (is_end origin o at_o).region in omega (arith, lt, size)
 
       -- an entry that gives: to whom, and what its maker had seen held there
       pub give_of : (place : ℕ) (t : Told) (copier from : ℕ)
@@ -286,18 +264,15 @@ module _ (rs : List Region) (regions colours : ℕ) (clients : List (List Hold))
         none is = absurd (in_contains [] y (subst (λ (l : List Node). Contains l y) is na.brought))
 
         carried : (origin start : ℕ) (heads : List Head) → na.told.entry.event ≡ events.Carry origin start heads
-            → IsListed nodes y
-        carried origin start heads is =
-            let c = carry_of n x e colour lt na.place na.told origin start heads na.there is in
-            let of = c.5 start heads (is ∙ ap (λ (r : ℕ). events.Carry r start heads) (sym c.4)) in
-            let at = in_slice na.told.nodes y (in_contains na.told.nodes y na.brought) in
-            let i = unmapped (λ (p : PlacedNode). p.node) of.0 at.0 y
-            (ap (λ (l : List Node). slice_get l at.0) (sym of.2) ∙ at.1) in
-            let en = (of.3 at.0 i.0 i.1).1 in
-            subst (IsListed nodes) i.2
-            (entered_listed origin c.0 c.2 colour lt i.0.head.key.id i.0.node
-            (enters_longer (seen_in c.1 colour) (c.0.closed.logs colour) i.0.head.key.id i.0.node
-            (c.0.closed.holds na.told.entry.by c.1 c.3 colour (within origin c.0 c.2 colour lt)).seen en))
+            → length na.told.nodes ≡ length heads → IsListed nodes y
+        carried origin start heads is long =
+            let o = origin_of n x e colour lt na.place na.told origin start heads na.there is in
+            let i = carried_node o.0.r.number (x.closed.logs colour) na.place na.told start heads y na.there
+            (is ∙ ap (λ (r : ℕ). events.Carry r start heads) (sym o.2)) long
+            (in_slice na.told.nodes y (in_contains na.told.nodes y na.brought)) in
+            let c = copied origin n colour o.0 x o.1 e o.3 lt in
+            subst (IsListed nodes) i.3
+            (entered_listed origin o.0 o.1 colour lt i.1.head.key.id i.1.node (c.entered i.0 i.1 i.2))
 
         by_event : (ev : event_types.Event) → na.told.entry.event ≡ ev
             → Brings (column n x e colour lt).0.region (column n x e colour lt).0.colour ev na.told.nodes
@@ -309,5 +284,7 @@ module _ (rs : List Region) (regions colours : ℕ) (clients : List (List Hold))
         by_event (events.Settle other outcome) is b = none b
         by_event (events.Raise to) is b = none b
         by_event (events.Give region from) is b = none b
-        by_event (events.Carry origin start heads) is b = carried origin start heads is
+        by_event (events.Carry origin start heads) is b =
+            carried origin start heads is
+            (sym (length-map na.told.nodes (λ (z : Node). z.id)) ∙ (ap length b ∙ length-map heads (λ (h : Head). h.key.id)))
         by_event (events.Trim counts) is b = none b

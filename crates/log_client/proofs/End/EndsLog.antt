@@ -1,5 +1,5 @@
 -- The log with which a store ends: what its clients know of it, and that its rows are lawful and its copies true.
-use Rattle.std.proofs.Common.{◌≡◌, ℕ, ◌+◌, ◌<◌, ◌≤◌, List, [], length, map, drop, Option, Some, None, slice_get, refl, ap, sym, subst, ◌∙◌, inl, inr, ◌⊎◌, arith}
+use Rattle.std.proofs.Common.{◌≡◌, ◌≢◌, ℕ, ◌<◌, ◌≤◌, List, [], length, map, Option, Some, None, slice_get, refl, ap, sym, subst, ◌∙◌, inl, inr, ◌⊎◌, arith}
 use Rattle.std.specs.Prelude.{nat_lt}
 use Rattle.std.specs.List.{Contains}
 use Rattle.std.proofs.lemmas.Bool.{cases_lt, lt-ltb, le-ltb}
@@ -9,7 +9,6 @@ use Rattle.log_node.specs.declared.ids.Id.{Id}
 use Rattle.log_node.specs.declared.ids.Row.{Row}
 use Rattle.log_node.specs.declared.node.Node.{Node}
 use Rattle.log_node.specs.declared.node.Head.{Head}
-use Rattle.log_node.specs.Seen.{PlacedNode}
 use Rattle.col_core.specs.declared.Event.TheVariants as events
 use Rattle.col_core.specs.declared.Entry.{Entry}
 use Rattle.col_core.specs.Computed.{dated}
@@ -26,28 +25,20 @@ use Rattle.chain_store.specs.declared.told.Told.{Told}
 use Rattle.chain_store.specs.declared.hold.Hold.{Hold}
 use Rattle.chain_store.specs.declared.region.Region.{Region}
 use Rattle.chain_store.specs.declared.closed.ClosedRegion.{ClosedRegion}
-use Rattle.chain_store.specs.Histories.{entries_in, maker, Names}
+use Rattle.chain_store.specs.Histories.{entries_in, maker, Names, Brings}
 use Rattle.chain_store.specs.Holds.{entries_seen, seen_in, view_of}
+use Rattle.chain_store.proofs.CallerLemmas.{carried_heads}
 use Rattle.client_law.specs.Knowing.{MoreIsSeen, AreLawful}
 use Rattle.client_law.specs.Making.{made_of}
-use Rattle.client_law.specs.Origins.{CarriesOfOrigins, GivesAreHeld}
+use Rattle.client_law.specs.Origins.{CopyBegins, GivesAreHeld}
 use Rattle.client_law.proofs.CallerLemmas.{copies_are_true}
 use Rattle.log_client.specs.Fits.{entries_by, seen_by, IsListed, HasBegunRow}
 use Rattle.log_client.specs.Ending.{AreRegions, AreHoldsIn, PullsTruly, HasOwnNodes}
 use Rattle.log_client.specs.Closing.{EndsClient}
-use Rattle.log_client.proofs.Lists.{got, got_dropped, prefix_by, same_items, unmapped}
+use Rattle.log_client.proofs.Lists.{got, same_items, unmapped}
 use Rattle.log_client.proofs.Known.Fitting.{names_longer}
 use Rattle.log_client.proofs.Known.Seeing.{entries_longer, made_entries, made_there, nothing_beyond, nothing_lawful}
-use Rattle.log_client.proofs.End.Ends.{Ended, IsEnd, told_at, rows_at, hold_at, carry_of, give_of, named_listed, row_node_listed}
-
--- items that stand in a list from a number on are a stretch of it
-stretch : (xs : List Head) (items : List PlacedNode) (start : ℕ)
-    → ((k : ℕ) (i : PlacedNode) → slice_get items k ≡ Some i → slice_get xs (start + k) ≡ Some i.head)
-    → IsPrefix (map (λ (i : PlacedNode). i.head) items) (drop start xs)
-stretch xs items start each =
-    prefix_by (drop start xs) (map (λ (i : PlacedNode). i.head) items)
-    (λ k y at. let i = unmapped (λ (i : PlacedNode). i.head) items k y at in
-    got_dropped start xs k ∙ (each k i.0 i.1 ∙ ap (λ (h : Head). Some h) i.2))
+use Rattle.log_client.proofs.End.Ends.{Ended, IsEnd, AreCopied, told_at, rows_at, hold_at, column, give_of, named_listed, row_node_listed}
 
 module _ (rs : List Region) (regions colours : ℕ) (clients : List (List Hold)) (ends : List ClosedRegion)
     (nodes : ℕ → List Node)
@@ -58,6 +49,7 @@ module _ (rs : List Region) (regions colours : ℕ) (clients : List (List Hold))
     (own : (u : ℕ) (hs : List Hold) → slice_get clients u ≡ Some hs → HasOwnNodes u hs (nodes u))
     (end_of : ℕ → Option Ended)
     (is_end : (n : ℕ) (x : Ended) → end_of n ≡ Some x → IsEnd rs clients ends n x)
+    (copied : AreCopied colours end_of)
     (has_end : (n : ℕ) → n < regions → (x : Ended) × (end_of n ≡ Some x))
     (none_beyond : (n : ℕ) → regions ≤ n → end_of n ≡ None) where
   abbrev pub told_of : ℕ → ℕ → List Told
@@ -147,7 +139,7 @@ module _ (rs : List Region) (regions colours : ℕ) (clients : List (List Hold))
         let lt = slice_get_within hs n h there in
         let many = (holds u hs at).0 in
         let x = has_end n (omega (arith, lt, many, few)) in
-        let k = hold_at rs regions colours clients ends nodes are few sizes holds pulls own end_of is_end has_end
+        let k = hold_at rs regions colours clients ends nodes are few sizes holds pulls own end_of is_end copied has_end
         n x.0 x.1 u hs at in
         (x.0, x.1, k.1 ∙ ap (λ (h : Hold). Some h) (same_items hs n k.0 h k.2 there))
 
@@ -229,7 +221,7 @@ module _ (rs : List Region) (regions colours : ℕ) (clients : List (List Hold))
             agree,
           ),
           subst (IsListed nodes) b.4
-              (row_node_listed rs regions colours clients ends nodes are few sizes holds pulls own end_of is_end has_end
+              (row_node_listed rs regions colours clients ends nodes are few sizes holds pulls own end_of is_end copied has_end
               n x.0 x.1 b.0 b.1 b.2),
         )
 
@@ -240,7 +232,7 @@ module _ (rs : List Region) (regions colours : ℕ) (clients : List (List Hold))
       by_colour (inl lt) =
           let x = region_of n h there in
           let size = sizes n x.0.r (is_end n x.0 x.1).region in
-          named_listed rs regions colours clients ends nodes are few sizes holds pulls own end_of is_end has_end
+          named_listed rs regions colours clients ends nodes are few sizes holds pulls own end_of is_end copied has_end
           n x.0 x.1 colour lt id y
           (names_longer (seen_in h colour) (x.0.closed.logs colour) id y
           (x.0.closed.holds u h x.2 colour (omega (arith, size, lt))).seen na)
@@ -270,28 +262,37 @@ module _ (rs : List Region) (regions colours : ℕ) (clients : List (List Hold))
       subst (λ (l : List Told). IsPrefix (entries_seen g colour) (entries_in l)) (sym (told_is n x e colour lt))
       (entries_longer (seen_in g colour) (x.closed.logs colour) (x.closed.holds v g at colour (omega (arith, size, lt))).seen)
 
-  carries_true : (colour region : ℕ) → CarriesOfOrigins (λ (r : ℕ). log.histories r colour) region
-  carries_true colour region place e origin start heads at is =
-      let t = unmapped (λ (u : Told). u.entry) (told_of region colour) place e at in
-      let f = found region colour place t.0 t.1 in
-      let c = carry_of rs regions colours clients ends nodes are few sizes holds pulls own end_of is_end has_end
-      region f.0 f.1 colour f.2 place t.0 origin start heads f.3 (ap (λ (x : Entry). x.event) t.2 ∙ is) in
-      let of = c.5 start heads
-      (ap (λ (x : Entry). x.event) t.2 ∙ (is ∙ ap (λ (r : ℕ). events.Carry r start heads) (sym c.4))) in (
-        entries_seen c.1 colour,
-        seen_begins origin c.0 c.2 t.0.entry.by c.1 c.3 colour f.2,
-        subst (λ (r : ℕ). IsPrefix heads (drop start (chain r (dated r (entries_seen c.1 colour)) r))) c.4
-            (subst (λ (l : List Head). IsPrefix l (drop start (chain c.0.r.number
-            (dated c.0.r.number (entries_seen c.1 colour)) c.0.r.number))) (sym of.1)
-            (stretch (chain c.0.r.number (dated c.0.r.number (entries_seen c.1 colour)) c.0.r.number) of.0 start
-            (λ k i there. (of.3 k i there).0))),
-      )
+  copy_begins : (colour : ℕ) → colour < colours → (origin copier : ℕ) → origin < regions → copier < regions
+      → origin ≢ copier → CopyBegins (λ (r : ℕ). log.histories r colour) origin copier
+  copy_begins colour lt origin copier origin_in copier_in ne =
+      let x = has_end origin origin_in in
+      let y = has_end copier copier_in in
+      let theirs = x.0.closed.logs colour in
+      let copied_log = y.0.closed.logs colour in
+      let origin_is = (are origin x.0.r (is_end origin x.0 x.1).region).0 in
+      let copier_is = (are copier y.0.r (is_end copier y.0 y.1).region).0 in
+      let c = column rs regions colours clients ends nodes are few sizes holds pulls own end_of is_end copied has_end
+      copier y.0 y.1 colour lt in
+      let heads = carried_heads y.0.r.number c.0.colour x.0.r.number copied_log
+      (λ same. ne (sym origin_is ∙ (same ∙ copier_is)))
+      (λ k t at. subst (λ (r : ℕ). Brings r c.0.colour t.entry.event t.nodes) c.1.region (c.1.stands.brings k t at)) in
+      let begins = subst (λ (l : List Head). IsPrefix l
+      (chain x.0.r.number (dated x.0.r.number (entries_in theirs)) x.0.r.number)) heads
+      (copied origin copier colour x.0 y.0 x.1 y.1 ne lt).begins in
+      subst (λ (l : List Told). IsPrefix (chain copier (dated copier (log.histories copier colour)) origin)
+      (chain origin (dated origin (entries_in l)) origin)) (sym (told_is origin x.0 x.1 colour lt))
+      (subst (λ (l : List Told). IsPrefix (chain copier (dated copier (entries_in l)) origin)
+      (chain origin (dated origin (entries_in theirs)) origin)) (sym (told_is copier y.0 y.1 colour lt))
+      (subst (λ (k : ℕ). IsPrefix (chain copier (dated copier (entries_in copied_log)) k)
+      (chain k (dated k (entries_in theirs)) k)) origin_is
+      (subst (λ (k : ℕ). IsPrefix (chain k (dated k (entries_in copied_log)) x.0.r.number)
+      (chain x.0.r.number (dated x.0.r.number (entries_in theirs)) x.0.r.number)) copier_is begins)))
 
   gives_true : (colour region : ℕ) → GivesAreHeld (λ (r : ℕ). log.histories r colour) region
   gives_true colour region place e copier from at is =
       let t = unmapped (λ (u : Told). u.entry) (told_of region colour) place e at in
       let f = found region colour place t.0 t.1 in
-      let c = give_of rs regions colours clients ends nodes are few sizes holds pulls own end_of is_end has_end
+      let c = give_of rs regions colours clients ends nodes are few sizes holds pulls own end_of is_end copied has_end
       region f.0 f.1 colour f.2 place t.0 copier from f.3 (ap (λ (x : Entry). x.event) t.2 ∙ is) in
       let le = c.6 from (ap (λ (x : Entry). x.event) t.2 ∙ (is ∙ ap (λ (r : ℕ). events.Give r from) (sym c.4))) in (
         entries_seen c.1 colour,
@@ -300,6 +301,7 @@ module _ (rs : List Region) (regions colours : ℕ) (clients : List (List Hold))
             (subst (λ (r : ℕ). from ≤ length (chain r (dated r (entries_seen c.1 colour)) f.0.r.number)) c.4 le),
       )
 
-  pub copies : (colour : ℕ) → AreTrueCopies regions (λ (region : ℕ). dated region (log.histories region colour))
-  copies colour = copies_are_true regions (λ (region : ℕ). log.histories region colour)
-      (λ region lt. lawful region colour) (λ region lt. carries_true colour region) (λ region lt. gives_true colour region)
+  pub copies : (colour : ℕ) → colour < colours
+      → AreTrueCopies regions (λ (region : ℕ). dated region (log.histories region colour))
+  copies colour lt = copies_are_true regions (λ (region : ℕ). log.histories region colour)
+      (λ region low. lawful region colour) (copy_begins colour lt) (λ region low. gives_true colour region)

@@ -34,7 +34,7 @@ use Rattle.log_client.specs.Ending.{AreRegions, AreHoldsIn, PullsTruly, HasOwnNo
 use Rattle.log_client.specs.Closing.{EndsColumn, EndsRegion, EntersBy}
 use Rattle.log_client.proofs.Lists.{mapped, unmapped}
 use Rattle.log_client.proofs.End.ByClient.{rows_by_client}
-use Rattle.log_client.proofs.End.Ends.{Ended, IsEnd, brings, column, entered_listed, rows_at, row_node_listed}
+use Rattle.log_client.proofs.End.Ends.{Ended, IsEnd, AreCopied, brings, column, entered_listed, rows_at, row_node_listed}
 use Rattle.log_client.proofs.End.EndsLog.{found, log, told_is, told_of}
 
 clients_of : (bs : List BegunRow)
@@ -84,10 +84,11 @@ module _ (rs : List Region) (regions colours : ℕ) (clients : List (List Hold))
     (own : (u : ℕ) (hs : List Hold) → slice_get clients u ≡ Some hs → HasOwnNodes u hs (nodes u))
     (end_of : ℕ → Option Ended)
     (is_end : (n : ℕ) (x : Ended) → end_of n ≡ Some x → IsEnd rs clients ends n x)
+    (copied : AreCopied colours end_of)
     (has_end : (n : ℕ) → n < regions → (x : Ended) × (end_of n ≡ Some x))
     (none_beyond : (n : ℕ) → regions ≤ n → end_of n ≡ None) where
   abbrev the_log : Log
-  the_log = log rs regions colours clients ends nodes are few sizes holds pulls own end_of is_end has_end none_beyond
+  the_log = log rs regions colours clients ends nodes are few sizes holds pulls own end_of is_end copied has_end none_beyond
 
   -- the colours of a begun row are the region's
   row_within : (n : ℕ) (x : Ended) → end_of n ≡ Some x → (i : ℕ) (b : BegunRow) → slice_get x.closed.begun i ≡ Some b
@@ -120,14 +121,14 @@ module _ (rs : List Region) (regions colours : ℕ) (clients : List (List Hold))
     lawful_rows = subst (AreLawfulRows n colours (the_log.histories n)) (sym rows_are)
         (rows_beside n colours (λ (c : ℕ). entries_in (x.closed.logs c)) (the_log.histories n) x.closed.begun lawful
         (λ c lt. ap entries_in (sym (told_is rs regions colours clients ends nodes are few sizes holds pulls own end_of is_end
-        has_end none_beyond n x e c lt)))
+        copied has_end none_beyond n x e c lt)))
         (λ i b at c of. row_within n x e i b at c of));
     in_order = subst (λ (l : List BegunRow). map (λ (b : BegunRow). b.row) l ≡ all_begun (map (λ (h : Hold). h.seat) x.ks))
         (sym rows_are) x.closed.in_order;
     by_client = subst (λ (l : List BegunRow). IsNonDecreasing (map (λ (b : BegunRow). b.row.client) l)) (sym rows_are)
         begun_by_client;
     of_clients = λ i b at. begun_of_clients i b (ap (λ (l : List BegunRow). slice_get l i) (sym rows_are) ∙ at);
-    listed = λ i b at. row_node_listed rs regions colours clients ends nodes are few sizes holds pulls own end_of is_end has_end
+    listed = λ i b at. row_node_listed rs regions colours clients ends nodes are few sizes holds pulls own end_of is_end copied has_end
         n x e i b (ap (λ (l : List BegunRow). slice_get l i) (sym rows_are) ∙ at);
   } where
     mine : (x.r.number ≡ n) × (x.r.regions ≡ regions)
@@ -178,7 +179,7 @@ module _ (rs : List Region) (regions colours : ℕ) (clients : List (List Hold))
           of_regions = c.regions ∙ mine.1;
           journal = c.stands.same
               ∙ ap entries_in (sym (told_is rs regions colours clients ends nodes are few sizes holds pulls own end_of is_end
-              has_end none_beyond n x e colour (omega (arith, lt, many, size))));
+              copied has_end none_beyond n x e colour (omega (arith, lt, many, size))));
         }
 
   -- each id that enters is that of a listed node
@@ -186,9 +187,9 @@ module _ (rs : List Region) (regions colours : ℕ) (clients : List (List Hold))
       → enters id e.event ≡ true → (y : Node) × (y.id ≡ id) × IsListed nodes y × EntersBy colour y e.event
   enters_listed region colour n e id at it =
       let t = unmapped (λ (u : Told). u.entry)
-      (told_of rs regions colours clients ends nodes are few sizes holds pulls own end_of is_end has_end none_beyond region colour)
+      (told_of rs regions colours clients ends nodes are few sizes holds pulls own end_of is_end copied has_end none_beyond region colour)
       n e at in
-      let f = found rs regions colours clients ends nodes are few sizes holds pulls own end_of is_end has_end none_beyond
+      let f = found rs regions colours clients ends nodes are few sizes holds pulls own end_of is_end copied has_end none_beyond
       region colour n t.0 t.1 in
       subst (λ (x : Entry). (y : Node) × (y.id ≡ id) × IsListed nodes y × EntersBy colour y x.event) t.2
       (of_told f.0 f.1 f.2 t.0 f.3 (ap (λ (x : Entry). enters id x.event) t.2 ∙ it)) where
@@ -196,23 +197,23 @@ module _ (rs : List Region) (regions colours : ℕ) (clients : List (List Hold))
             → slice_get (x.closed.logs colour) n ≡ Some t → enters id t.entry.event ≡ true
             → (y : Node) × (y.id ≡ id) × IsListed nodes y × EntersBy colour y t.entry.event
         of_told x e lt t at it = by_event t.entry.event refl
-            (brings rs regions colours clients ends nodes are few sizes holds pulls own end_of is_end has_end
+            (brings rs regions colours clients ends nodes are few sizes holds pulls own end_of is_end copied has_end
             region x e colour lt n t at) it where
               col : ColumnState
               col =
-                  let c = column rs regions colours clients ends nodes are few sizes holds pulls own end_of is_end has_end
+                  let c = column rs regions colours clients ends nodes are few sizes holds pulls own end_of is_end copied has_end
                   region x e colour lt in
                   c.0
 
               its_colour : col.colour ≡ colour
               its_colour =
-                  let c = column rs regions colours clients ends nodes are few sizes holds pulls own end_of is_end has_end
+                  let c = column rs regions colours clients ends nodes are few sizes holds pulls own end_of is_end copied has_end
                   region x e colour lt in
                   c.1.colour_is
 
               entered : (y : Node) → t.nodes ≡ y ∷ [] → y.id ≡ id → IsListed nodes y
               entered y is same =
-                  entered_listed rs regions colours clients ends nodes are few sizes holds pulls own end_of is_end has_end
+                  entered_listed rs regions colours clients ends nodes are few sizes holds pulls own end_of is_end copied has_end
                   region x e colour lt id y
                   (record { place = n; told = t; there = at; brought = is; entered = it; of_id = same })
 

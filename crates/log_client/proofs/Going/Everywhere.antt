@@ -11,6 +11,7 @@ use Rattle.chain_store.specs.declared.told.Tag.{Tag}
 use Rattle.chain_store.specs.declared.told.Told.{Told}
 use Rattle.chain_store.specs.declared.hold.Hold.{Hold}
 use Rattle.chain_store.specs.declared.region.Region.{Region}
+use Rattle.chain_store.specs.Regions.{rings_at}
 use Rattle.chain_store.specs.Holds.{seen_in, made_in, entries_seen}
 use Rattle.chain_store.specs.Going.{GoesOn}
 use Rattle.client_law.specs.Knowing.{SeesOn}
@@ -81,6 +82,7 @@ module _ (s : Store) (c d : Client) (is : IsClient s c) (number : d.number ≡ c
     regions = length s.regions;
     size = r.board.size;
     board = r.board.table.shared.table_id;
+    rings = rings_at r 0;
   }
 
   a_region : (r : Region) × (slice_get s.regions c.region ≡ Some r)

@@ -20,6 +20,7 @@ use Rattle.chain_store.specs.declared.told.Told.{Told}
 use Rattle.chain_store.specs.declared.hold.Hold.{Hold}
 use Rattle.chain_store.specs.declared.region.Region.{Region}
 use Rattle.chain_store.specs.Histories.{maker}
+use Rattle.chain_store.specs.Regions.{rings_at}
 use Rattle.chain_store.specs.Holds.{SameBut, SeesMoreIn, seen_in, made_in, turned_in, entries_seen}
 use Rattle.chain_store.specs.Going.{GoesOn}
 use Rattle.append_core.specs.Standing.{IsSingleOf}
@@ -108,6 +109,7 @@ module _ (s : Store) (c d : Client) (r : Region) (g h : Hold) (is : IsClient s c
     regions = length s.regions;
     size = r.board.size;
     board = r.board.table.shared.table_id;
+    rings = rings_at r 0;
   }
 
   pub track_stays : (k : ℕ) (track : Track) → IsTrack c.region k (seen_in g k) track

@@ -1,9 +1,8 @@
--- What a client carried and asked for stays true.
+-- What a client asked for stays true.
 use Rattle.std.proofs.Common.{◌≡◌, ℕ, List, length, Some, slice_get, ap, sym, subst, ◌∙◌, inl, inr, ◌⊎◌, arith}
 use Rattle.std.proofs.lemmas.List.Elements.{All-contains}
 use Rattle.std.proofs.lemmas.Option.{slice_get_within}
 use mathlib.Core.List.{IsPrefix}
-use Rattle.log_node.specs.declared.node.Head.{Head}
 use Rattle.col_core.specs.declared.Event as event_types
 use Rattle.col_core.specs.declared.Event.TheVariants as events
 use Rattle.col_core.proofs.CallerLemmas.{contains_in, slice_in}
@@ -13,8 +12,8 @@ use Rattle.chain_store.specs.declared.region.Region.{Region}
 use Rattle.chain_store.specs.Regions.{tag_at}
 use Rattle.chain_store.specs.Holds.{made_in, seen_in}
 use Rattle.chain_store.specs.Going.{GoesOn}
-use Rattle.region_pull.specs.Origins.{IsOfOrigin, IsHeldFor}
-use Rattle.region_pull.proofs.CallerLemmas.{origin_stays, held_stays}
+use Rattle.region_pull.specs.Origins.{IsHeldFor}
+use Rattle.region_pull.proofs.CallerLemmas.{held_stays}
 use Rattle.log_client.specs.Ending.{IsNoMove, AreHoldsIn, ArePair, PullsTruly}
 use Rattle.log_client.proofs.Lists.{got, got_split}
 
@@ -25,20 +24,12 @@ WasMade k colour t = (m : ℕ) × (slice_get (made_in k colour) m ≡ Some t)
 module _ (rs : List Region) (gs hs : List Hold) (holds : AreHoldsIn rs hs) (many : length hs ≡ length gs)
     (more : (n : ℕ) (g h : Hold) → slice_get gs n ≡ Some g → slice_get hs n ≡ Some h
     → (c : ℕ) → IsPrefix (seen_in g c) (seen_in h c)) where
-  -- where each entry that was made on top is of its origin, or asks for what is held, or does neither
+  -- where each entry that was made on top asks for what is held, or for nothing
   pub truly_on : ((from to : Region) (g h k : Hold) (colour : ℕ) (p : ArePair rs hs from to g h)
-      → slice_get gs p.m ≡ Some k → (n : ℕ) (t : Told) → slice_get (made_in h colour) n ≡ Some t
-      → WasMade k colour t ⊎ IsOfOrigin (tag_at from colour) (seen_in g colour) t)
-      → ((from to : Region) (g h k : Hold) (colour : ℕ) (p : ArePair rs hs from to g h)
       → slice_get gs p.n ≡ Some k → (n : ℕ) (t : Told) → slice_get (made_in g colour) n ≡ Some t
       → WasMade k colour t ⊎ IsHeldFor (tag_at to colour) (seen_in h colour) from.number t)
       → PullsTruly rs gs → PullsTruly rs hs
-  truly_on carried gave before = record {
-    carries = λ from to g h colour p lt.
-        let old = olds from to g h p in
-        origin_stays from colour old.0 g old.1 h (holds.1 p.n from g p.from_there p.from_hold) lt
-        (more p.n old.0 g old.2 p.from_hold colour) (λ n t at. carried from to g h old.1 colour p old.3 n t at)
-        (before.carries from to old.0 old.1 colour (pair from to g h p old.0 old.1 old.2 old.3) lt);
+  truly_on gave before = record {
     gives = λ from to g h colour p lt.
         let old = olds from to g h p in
         held_stays from to colour old.0 g old.1 h (holds.1 p.m to h p.to_there p.to_hold) lt
@@ -66,11 +57,7 @@ module _ (rs : List Region) (gs hs : List Hold) (holds : AreHoldsIn rs hs) (many
       to_hold = at_b;
     }
 
--- an event that moves nothing carries and gives nothing
-no_carry : (ev : event_types.Event) (region start : ℕ) (heads : List Head) → IsNoMove ev
-    → ev ≡ events.Carry region start heads → ⊥
-no_carry ev region start heads none is = subst IsNoMove is none
-
+-- an event that moves nothing gives nothing
 no_give : (ev : event_types.Event) (region from : ℕ) → IsNoMove ev → ev ≡ events.Give region from → ⊥
 no_give ev region from none is = subst IsNoMove is none
 
@@ -91,11 +78,6 @@ pub pulls_truly_stays : (rs : List Region) (gs hs : List Hold) → AreHoldsIn rs
     → PullsTruly rs gs → PullsTruly rs hs
 pulls_truly_stays rs gs hs holds many goes =
     truly_on rs gs hs holds many (λ n g h a b. (goes n g h a b).more)
-    (λ from to g h k colour p at n t made.
-    elim (made_split (λ c e. IsNoMove e) k h colour n t (goes p.m k h at p.to_hold) made) [
-      | inl old ↦ inl old
-      | inr new ↦ inr (λ start heads is. absurd (no_carry t.entry.event from.number start heads new is))
-    ])
     (λ from to g h k colour p at n t made.
     elim (made_split (λ c e. IsNoMove e) k g colour n t (goes p.n k g at p.from_hold) made) [
       | inl old ↦ inl old

@@ -4,7 +4,7 @@ use Rattle.std.specs.Prelude.{slice_get, slice_set}
 use Rattle.std.specs.List.{All}
 use mathlib.Core.List.{IsPrefix}
 use Rattle.std.proofs.lemmas.Bool.{cases_eq}
-use Rattle.std.proofs.lemmas.List.{length-map, map-append}
+use Rattle.std.proofs.lemmas.List.{length-map}
 use Rattle.std.proofs.lemmas.List.Elements.{All-nil, All-cons}
 use Rattle.std.proofs.lemmas.Option.{same_Some, slice_get_within}
 use Rattle.log_node.specs.declared.ids.Id.{Id}
@@ -27,18 +27,18 @@ use Rattle.chain_store.specs.declared.hold.Hold.{Hold}
 use Rattle.chain_store.specs.declared.region.Region.{Region}
 use Rattle.chain_store.specs.Going.{GoesOnIn}
 use Rattle.chain_store.specs.Histories.{entries_in, maker}
-use Rattle.chain_store.specs.Regions.{tag_at}
+use Rattle.chain_store.specs.Regions.{rings_at, tag_at}
 use Rattle.chain_store.specs.Holds.{IsHold, SameBut, SeesMoreIn, seen_in, made_in, turned_in, entries_seen}
 use Rattle.append_core.specs.Standing.{IsSingleOf}
 use Rattle.region_pull.specs.declared.pulled.Pulled.{Pulled}
-use Rattle.region_pull.specs.Origins.{OfOrigin, AsksForHeld}
-use Rattle.region_pull.specs.Pulls.{GiveOfPull, AsksByGives, PullsByHolds, GivesAlone}
+use Rattle.region_pull.specs.Origins.{AsksForHeld}
+use Rattle.region_pull.specs.Pulls.{GiveOfPull, PullsByHolds, GivesAlone}
 use Rattle.lawful_run.specs.Callers.{Caller}
 use Rattle.lawful_run.specs.Lawful.{IsHelp}
 use Rattle.lawful_run.proofs.CallerLemmas.{prefix_length}
 use Rattle.lawful_run.specs.Moves.{GivesHeld, GivesTooLow, OnlyGives, kept_after_pull, kept_after_giving}
 use Rattle.client_law.specs.Knowing.{Rest, log_seen, SeesOn}
-use Rattle.client_law.specs.Making.{own_steps, MakesOnly, RiseFrom}
+use Rattle.client_law.specs.Making.{own_steps, MakesOnly}
 use Rattle.client_law.specs.Kept.{IsKeptBy}
 use Rattle.client_law.proofs.CallerLemmas.{kept_after_gives, kept_after_pulling, pulls_stand}
 use Rattle.log_client.specs.declared.store.Store.{Store}
@@ -54,7 +54,7 @@ use Rattle.log_client.proofs.Known.Steps.{none_made}
 use Rattle.log_client.proofs.Known.Truly.{WasMade}
 use Rattle.log_client.proofs.Pull.TrulyPulled.{truly_pulled}
 use Rattle.log_client.proofs.Append.Alone.{seen_long}
-use Rattle.log_client.proofs.Pull.Pulling.{place_of, places_of_gives, held_there, too_low_there, rise_there, given_steps, pulls_there, makes_pull}
+use Rattle.log_client.proofs.Pull.Pulling.{place_of, held_there, rise_there, given_steps, pulls_there, makes_pull}
 use Rattle.log_client.proofs.Known.OwnNodes.{Brings, own_nodes_on}
 use Rattle.log_client.proofs.Going.AtHome.{set_there, set_elsewhere, set_long, gone_same, gone_looked, are_regions}
 use Rattle.log_client.proofs.Going.Staying.{track_longer, rows_longer, all_closed_longer}
@@ -74,29 +74,11 @@ made_same : (g h : Hold) (k c : ℕ) → SameBut k g h → c ≢ k → made_in h
 made_same g h k c but ne =
     ap (λ (n : ℕ). made_by maker n (turned_in h c)) but.number ∙ ap (made_by maker g.passes.number) (but.others c ne)
 
--- the last of some gives, and those before it
-split_last : (gives : List GiveOfPull) → (gives ≡ []) ⊎ ((low : List GiveOfPull) × (last : GiveOfPull) × (gives ≡ low ++ last ∷ []))
-split_last [] = inl refl
-split_last (x ∷ xs) = elim (split_last xs) [
-  | inl none ↦ inr ([], x, ap (λ l. x ∷ l) none)
-  | inr some ↦ inr (x ∷ some.0, some.1, ap (λ l. x ∷ l) some.2)
-]
-
 each_gave : (P : ℕ → Type 0) (gives : List GiveOfPull) → ((i : ℕ) (x : GiveOfPull) → slice_get gives i ≡ Some x → P x.place)
     → All P (map place_of gives)
 each_gave P [] each = All-nil P
 each_gave P (x ∷ gives) each =
     All-cons P x.place (map place_of gives) (each 0 x refl) (each_gave P gives (λ i y at. each (suc i) y at))
-
-got_front : (xs : List GiveOfPull) (y : GiveOfPull) (i : ℕ) (x : GiveOfPull) → slice_get xs i ≡ Some x
-    → (slice_get (xs ++ y ∷ []) i ≡ Some x) × (i < length xs)
-got_front [] y i x e = absurd (let f : ⊥ = cc (e) in f)
-got_front (z ∷ zs) y zero x e = (e, omega arith)
-got_front (z ∷ zs) y (suc i) x e = let r = got_front zs y i x e in let lt = r.1 in (r.0, omega (arith, lt))
-
-got_behind_all : (xs : List GiveOfPull) (y : GiveOfPull) → slice_get (xs ++ y ∷ []) (length xs) ≡ Some y
-got_behind_all [] y = refl
-got_behind_all (z ∷ zs) y = got_behind_all zs y
 
 -- what a pull leaves of what is kept
 module _ (kept : Kept) (own region k place : ℕ) where
@@ -125,7 +107,6 @@ module _ (s : Store) (c d : Client) (is : IsClient s c) (number : d.number ≡ c
     (from_there : slice_get s.regions n ≡ Some from) (to_there : slice_get s.regions c.region ≡ Some to)
     (ch : ChangesTwo n c.region (holds_of c) (holds_of d) g g' h h')
     (a : GoesOnIn from k g g') (b : GoesOnIn to k h h') (lt : k < s.size.colours)
-    (origin : OfOrigin from k g h → OfOrigin from k g' h')
     (held : AsksForHeld from to k g h → AsksForHeld from to k g' h')
     (g_made : (i : ℕ) (t : Told) → slice_get (made_in g' k) i ≡ Some t
     → WasMade g k t ⊎ ((asked : ℕ) × (t.entry.event ≡ events.Give to.number asked)))
@@ -216,6 +197,7 @@ module _ (s : Store) (c d : Client) (is : IsClient s c) (number : d.number ≡ c
     regions = length s.regions;
     size = to.board.size;
     board = to.board.table.shared.table_id;
+    rings = rings_at to 0;
   }
 
   pull_home : IsHome d h'
@@ -329,7 +311,7 @@ module _ (s : Store) (c d : Client) (is : IsClient s c) (number : d.number ≡ c
         (λ i y at. let x = was i y at in (x.0, x.1, brings i x.0 y x.1 at))));
     pulls = truly_pulled s.regions (length s.regions) (holds_of c) (holds_of d) (are_regions s) pull_holds many n m from to
         g g' h h' k ch.apart from_there to_there ch.first g_new ch.second h_new others a.others b.others a.more b.more g_made
-        h_made is.pulls (in_colours n from from_there) (in_colours m to to_there) origin held;
+        h_made is.pulls (in_colours m to to_there) held;
     helps = idle_client s c d is number region each_idle;
   }
 
@@ -415,8 +397,8 @@ module _ (s : Store) (c d : Client) (is : IsClient s c) (number : d.number ≡ c
         let makes = makes_pull (holds_of c) (holds_of d) who n k from to g g' h h' ch.first g_new
         (h_was objects) (h_is objects) (g_client objects) (h_client objects) (from_is objects) (to_is objects)
         (regions_are objects) (far objects) no_rest p pulls (seen_same objects) in
-        let place = pulls.last.place in
-        let low = places_of_gives pulls.too_low in (
+        let place = pulls.gave.place in
+        let low : List ℕ = [] in (
           kept_after_pull kept d.region n k place p.carry low,
           record {
             by = kept_after_pulling (seen_of c) (seen_of d) no_rest who kept n k p.nodes place p.carry low (on objects) makes
@@ -446,98 +428,65 @@ module _ (s : Store) (c d : Client) (is : IsClient s c) (number : d.number ≡ c
         (subst (λ z. made_by maker z (seen_in h' k) ≡ made_by maker z (seen_in h k)) (h_client []) sees.none)
         ∙ ap (own_steps d.number) (sym (seen_there (holds_of c) m h ch.second k)))
 
-    -- these are too low, and then at most one more
-    module _ (low gives : List GiveOfPull) (all : alone.0 ≡ low ++ gives) (few : length gives ≤ 1)
-        (again : (i : ℕ) (x : GiveOfPull) → slice_get low i ≡ Some x
-        → (slice_get (low ++ gives) i ≡ Some x) × (i + 1 < length (low ++ gives)))
-        (once : (i : ℕ) (x : GiveOfPull) → slice_get gives i ≡ Some x
-        → (j : ℕ) × (slice_get (low ++ gives) j ≡ Some x)) where
-      gave_explained : IsExplained s c d (GaveAlone n k)
-      gave_explained objects kept finished keeps =
-          let who = caller objects in
-          let asks = subst (λ z. AsksByGives (tag_at from k) (tag_at to k) g.passes.number (seen_in g k) (seen_in g' k) (seen_in h k)
-          (seen_in h' k) z) all alone.1 in
-          let whole = seen_in h' k in
-          let self : IsPrefix whole whole = ([], append-nil whole) in
-          let seen = kept.seen d.region k in
-          let looked = length (seen_of d d.region k) in
-          let since = (kept_by objects kept keeps).seen_within d.region k in
-          let long = seen_long (holds_of d) d.region h' (h_is objects) k in
-          let grown = prefix_length (seen_of c d.region k) (seen_of d d.region k) ((on objects).more d.region k) in
-          let rest_of = λ (rest : Rest). each_gave (GivesTooLow (log_seen (seen_of d) rest) who n k seen looked) low
-          (λ i x at. too_low_there (holds_of c) (holds_of d) who n k from to g g' h h' ch.first g_new (h_was objects)
-          (h_is objects) (g_client objects) (h_client objects) (from_is objects) (to_is objects) (regions_are objects)
-          (far objects) rest (low ++ gives) whole self asks seen looked since (omega (arith, long)) i x (again i x at).0
-          (again i x at).1) in
-          let last_of = λ (rest : Rest). each_gave (GivesHeld (log_seen (seen_of d) rest) who n k seen looked) gives
-          (λ i x at. held_there (holds_of c) (holds_of d) who n k from to g g' h h' ch.first g_new (h_was objects)
-          (h_is objects) (g_client objects) (h_client objects) (from_is objects) (to_is objects) (regions_are objects)
-          (far objects) rest (low ++ gives) whole self asks seen looked since (omega (arith, long)) (once i x at).0 x
-          (once i x at).1) in
-          let split = map-append place_of low gives in
-          let rise = subst (RiseFrom (length (seen_of c n k))) split
-          (rise_there (holds_of c) (holds_of d) who n k from to g g' h h' ch.first g_new (h_was objects)
-          (h_is objects) (g_client objects) (h_client objects) (from_is objects) (to_is objects) (regions_are objects)
-          (far objects) no_rest (low ++ gives) whole self asks) in
-          let steps = given_steps (holds_of c) (holds_of d) who n k from to g g' h h' ch.first g_new (h_was objects)
-          (h_is objects) (g_client objects) (h_client objects) (from_is objects) (to_is objects) (regions_are objects)
-          (far objects) no_rest (low ++ gives) whole self asks in
-          let long = length-map (low ++ gives) place_of in
-          let joined = ap length split in
-          let only : MakesOnly d.number n k (length (map place_of low ++ map place_of gives)) (seen_of c) (seen_of d) = record {
-            here = omega (arith, steps, long, joined);
-            others = λ r i ne. elsewhere objects r i ne;
-          } in
-          let few_places : length (map place_of gives) ≤ 1 = (let z = length-map gives place_of in omega (arith, z, few)) in
-          let only_gives : (rest : Rest)
-          → OnlyGives (log_seen (seen_of d) rest) who kept n k looked (map place_of low) (map place_of gives) =
-          λ rest. record {
-            another = far objects;
-            unseen = omega (arith, since, grown);
-            there = omega arith;
-            made_again = rest_of rest;
-            once = few_places;
-            given = last_of rest;
-          } in (
-            kept_after_giving kept d.region n k looked (map place_of low) (map place_of gives),
-            record {
-              by = kept_after_gives (seen_of c) (seen_of d) no_rest who kept n k looked (map place_of low)
-                  (map place_of gives) (on objects) only (kept_by objects kept keeps) rise (only_gives no_rest);
-              floor = keeps.floor ∙ sym floor;
-              ids = keeps.ids ∙ sym count;
-              rows = keeps.rows ∙ ap length (sym rows);
-              starts = λ i. keeps.starts i ∙ ap (λ l. counts_in (slice_get l i)) (sym tracks);
-            },
-            λ rest fits. (looked, map place_of low, map place_of gives, only_gives rest, refl),
-          ) where
-            elsewhere : (objects : List Object) (r i : ℕ) → (r ≢ n) ⊎ (i ≢ k)
-                → own_steps d.number (seen_of d r i) ≡ own_steps d.number (seen_of c r i)
-            elsewhere objects r i (inr ne) = ap (own_steps d.number) (seen_same objects r i (inl ne))
-            elsewhere objects r i (inl ne) = elim (cases_eq r m) [
-              | inl same ↦ elim (cases_eq i k) [
-                | inl here ↦
-                    subst (λ z. own_steps d.number (seen_of d z i) ≡ own_steps d.number (seen_of c z i)) (sym same)
-                    (subst (λ z. own_steps d.number (seen_of d m z) ≡ own_steps d.number (seen_of c m z)) (sym here)
-                    none_at_home)
-                | inr other ↦ ap (own_steps d.number) (seen_same objects r i (inl other))
-              ]
-              | inr ne2 ↦ ap (own_steps d.number) (seen_same objects r i (inr (ne, λ e. ne2 (e ∙ region))))
-            ]
-
     pub gives_explained : IsExplained s c d (GaveAlone n k)
-    gives_explained = elim (split_last alone.0) [
-      | inl none ↦
-          gave_explained [] [] none (omega arith) (λ i x e. absurd (let f : ⊥ = cc (e) in f))
-          (λ i x e. absurd (let f : ⊥ = cc (e) in f))
-      | inr some ↦
-          gave_explained some.0 (some.1 ∷ []) some.2 (omega arith)
-          (λ i x e.
-          let r = got_front some.0 some.1 i x e in
-          let lt = r.1 in
-          let long = length-append some.0 (some.1 ∷ []) in
-          (r.0, omega (arith, lt, long)))
-          (λ i x e. (length some.0, got_behind_all some.0 some.1 ∙ only_one some.1 i x e))
-    ] where
-      only_one : (y : GiveOfPull) (i : ℕ) (x : GiveOfPull) → slice_get (y ∷ []) i ≡ Some x → Some y ≡ Some x
-      only_one y zero x e = e
-      only_one y (suc i) x e = absurd (let f : ⊥ = cc (e) in f)
+    gives_explained objects kept finished keeps =
+        let who = caller objects in
+        let gives = alone.0 in
+        let whole = seen_in h' k in
+        let self : IsPrefix whole whole = ([], append-nil whole) in
+        let seen = kept.seen d.region k in
+        let looked = length (seen_of d d.region k) in
+        let since = (kept_by objects kept keeps).seen_within d.region k in
+        let long = seen_long (holds_of d) d.region h' (h_is objects) k in
+        let grown = prefix_length (seen_of c d.region k) (seen_of d d.region k) ((on objects).more d.region k) in
+        let all_of = λ (rest : Rest). each_gave (GivesHeld (log_seen (seen_of d) rest) who n k seen looked) gives
+        (λ i x at. held_there (holds_of c) (holds_of d) who n k from to g g' h h' ch.first g_new (h_was objects)
+        (h_is objects) (g_client objects) (h_client objects) (from_is objects) (to_is objects) (regions_are objects)
+        (far objects) rest gives whole self alone.2 seen looked since (omega (arith, long)) i x at) in
+        let rise = rise_there (holds_of c) (holds_of d) who n k from to g g' h h' ch.first g_new (h_was objects)
+        (h_is objects) (g_client objects) (h_client objects) (from_is objects) (to_is objects) (regions_are objects)
+        (far objects) no_rest gives whole self alone.2 in
+        let steps = given_steps (holds_of c) (holds_of d) who n k from to g g' h h' ch.first g_new (h_was objects)
+        (h_is objects) (g_client objects) (h_client objects) (from_is objects) (to_is objects) (regions_are objects)
+        (far objects) no_rest gives whole self alone.2 in
+        let places = length-map gives place_of in
+        let only : MakesOnly d.number n k (length (map place_of gives)) (seen_of c) (seen_of d) = record {
+          here = omega (arith, steps, places);
+          others = λ r i ne. elsewhere objects r i ne;
+        } in
+        let few = alone.1 in
+        let few_places : length (map place_of gives) ≤ 1 = omega (arith, places, few) in
+        let low : List ℕ = [] in
+        let only_gives : (rest : Rest) → OnlyGives (log_seen (seen_of d) rest) who kept n k looked low (map place_of gives) =
+        λ rest. record {
+          another = far objects;
+          unseen = omega (arith, since, grown);
+          there = omega arith;
+          made_again = All-nil (GivesTooLow (log_seen (seen_of d) rest) who n k seen looked);
+          once = few_places;
+          given = all_of rest;
+        } in (
+          kept_after_giving kept d.region n k looked low (map place_of gives),
+          record {
+            by = kept_after_gives (seen_of c) (seen_of d) no_rest who kept n k looked low
+                (map place_of gives) (on objects) only (kept_by objects kept keeps) rise (only_gives no_rest);
+            floor = keeps.floor ∙ sym floor;
+            ids = keeps.ids ∙ sym count;
+            rows = keeps.rows ∙ ap length (sym rows);
+            starts = λ i. keeps.starts i ∙ ap (λ l. counts_in (slice_get l i)) (sym tracks);
+          },
+          λ rest fits. (looked, low, map place_of gives, only_gives rest, refl),
+        ) where
+          elsewhere : (objects : List Object) (r i : ℕ) → (r ≢ n) ⊎ (i ≢ k)
+              → own_steps d.number (seen_of d r i) ≡ own_steps d.number (seen_of c r i)
+          elsewhere objects r i (inr ne) = ap (own_steps d.number) (seen_same objects r i (inl ne))
+          elsewhere objects r i (inl ne) = elim (cases_eq r m) [
+            | inl same ↦ elim (cases_eq i k) [
+              | inl here ↦
+                  subst (λ z. own_steps d.number (seen_of d z i) ≡ own_steps d.number (seen_of c z i)) (sym same)
+                  (subst (λ z. own_steps d.number (seen_of d m z) ≡ own_steps d.number (seen_of c m z)) (sym here)
+                  none_at_home)
+              | inr other ↦ ap (own_steps d.number) (seen_same objects r i (inl other))
+            ]
+            | inr ne2 ↦ ap (own_steps d.number) (seen_same objects r i (inr (ne, λ e. ne2 (e ∙ region))))
+          ]

@@ -2,16 +2,14 @@
 use Rattle.std.proofs.Common.{◌≡◌, ◌≢◌, ℕ, suc, ◌+◌, ◌<◌, ◌≤◌, min, List, [], ◌∷◌, ◌++◌, length, map, take, Some, true, slice_get, refl, ap, sym, subst, ◌∙◌, inl, inr, ◌⊎◌, arith, length-append, take_all}
 use Rattle.std.specs.List.{All}
 use mathlib.Core.List.{IsPrefix}
-use Rattle.std.proofs.lemmas.List.{length-map, map-append, take-map}
+use Rattle.std.proofs.lemmas.List.{length-map, take-map}
 use Rattle.std.proofs.lemmas.List.Elements.{All-nil, All-cons}
-use Rattle.log_node.specs.declared.ids.Counts.{Counts}
 use Rattle.log_node.specs.declared.node.At.{At}
 use Rattle.log_node.specs.Seen.{PlacedNode}
-use Rattle.log_node.specs.Vectors.{at as number_at}
 use Rattle.col_core.specs.declared.Event.TheVariants as events
 use Rattle.col_core.specs.declared.Entry.{Entry}
 use Rattle.col_core.specs.History.{line}
-use Rattle.col_core.specs.Cuts.{base, chain}
+use Rattle.col_core.specs.Cuts.{chain}
 use Rattle.col_core.specs.Computed.{dated}
 use Rattle.col_core.specs.Log.{is_own}
 use Rattle.col_core.specs.Keeping.{seen_after}
@@ -19,32 +17,27 @@ use Rattle.chain_store.specs.declared.told.Told.{Told}
 use Rattle.chain_store.specs.declared.hold.Hold.{Hold}
 use Rattle.chain_store.specs.declared.region.Region.{Region}
 use Rattle.chain_store.specs.Histories.{entries_in, maker}
-use Rattle.chain_store.specs.Moves.{base_in, held_in}
+use Rattle.chain_store.specs.Moves.{held_in}
 use Rattle.chain_store.specs.Regions.{tag_at}
 use Rattle.chain_store.specs.Holds.{entries_seen, seen_in}
 use Rattle.region_pull.specs.declared.pulled.Pulled.{Pulled}
-use Rattle.region_pull.specs.Pulls.{GiveOfPull, AsksByGives, before_gave, told_gave, CarriesLine}
+use Rattle.region_pull.specs.Pulls.{GiveOfPull, AsksByGives, before_gave, told_gave, CarriesOn}
 use Rattle.region_pull.specs.Pulls.{PullsByHolds as HoldPulls}
 use Rattle.region_pull.proofs.CallerLemmas.{carries_more, looks_carries}
 use Rattle.lawful_run.specs.Callers.{Caller}
 use Rattle.lawful_run.specs.Reads.{events_until}
 use Rattle.lawful_run.specs.Moves.{GivesFrom, AsksFor, GivesHeld, GivesTooLow}
-use Rattle.lawful_run.proofs.CallerLemmas.{get-append, get_within, prefix_length, prefix_take}
+use Rattle.lawful_run.proofs.CallerLemmas.{prefix_length, prefix_take}
 use Rattle.client_law.specs.Knowing.{Rest, log_seen}
 use Rattle.client_law.specs.Making.{own_steps, RiseFrom}
 use Rattle.client_law.specs.Moves.{CarriesThere, PullsThere, MakesPull, carry_count}
 use Rattle.log_client.specs.Fits.{seen_by}
-use Rattle.log_client.proofs.Lists.{got_last}
 use Rattle.log_client.proofs.Known.Seeing.{seen_there}
 use Rattle.log_client.proofs.Known.Steps.{all_made, none_made, made_last, stands_last, unseen_last, long_last}
 use Rattle.log_client.proofs.Append.Alone.{seen_at, seen_long}
 
 abbrev pub place_of : GiveOfPull → ℕ
 place_of x = x.place
-
--- the places of gives
-abbrev pub places_of_gives : List GiveOfPull → List ℕ
-places_of_gives gives = map place_of gives
 
 -- the places of gives rise
 places_rise : (from : ℕ) (gives : List GiveOfPull)
@@ -58,13 +51,6 @@ places_rise from (x ∷ gives) low rising = (
       (λ i y at. let lt = rising 0 (suc i) x y (omega arith) refl at in omega (arith, lt))
       (λ i j y z lt a b. rising (suc i) (suc j) y z (omega (arith, lt)) a b),
 )
-
--- what holds of each item holds of all
-each_place : (P : ℕ → Type 0) (gives : List GiveOfPull) → ((i : ℕ) (x : GiveOfPull) → slice_get gives i ≡ Some x → P x.place)
-    → All P (map place_of gives)
-each_place P [] each = All-nil P
-each_place P (x ∷ gives) each =
-    All-cons P x.place (map place_of gives) (each 0 x refl) (each_place P gives (λ i y at. each (suc i) y at))
 
 all_gives : (P : Told → Type 0) (n region : ℕ) (gives : List GiveOfPull) → ((x : GiveOfPull) → P (told_gave n region x))
     → All P (map (told_gave n region) gives)
@@ -96,13 +82,6 @@ module _ (gs hs : List Hold) (caller : Caller) (region colour : ℕ) (from to : 
     before_there : (x : GiveOfPull) → entries_in (before_gave (seen_in g' colour) x) ≡ take x.place (seen_by hs region colour)
     before_there x = sym (take-map (λ (t : Told). t.entry) x.place (seen_in g' colour))
         ∙ ap (take x.place) (sym (seen_there hs region g' g_new colour))
-
-    base_there : (x : GiveOfPull) → base_in (tag_at from colour) (before_gave (seen_in g' colour) x)
-        ≡ base region caller.regions (dated region (take x.place (seen_by hs region colour)))
-    base_there x =
-        ap (λ (n : ℕ). base n from.regions (dated n (entries_in (before_gave (seen_in g' colour) x)))) from_is
-        ∙ (ap (λ (n : ℕ). base region n (dated region (entries_in (before_gave (seen_in g' colour) x)))) regions_are
-        ∙ ap (λ (l : List Entry). base region caller.regions (dated region l)) (before_there x))
 
     -- what the own column had at a look
     looked_there : (n : ℕ) → n ≤ length looked → held_in (tag_at to colour) (take n looked) from.number
@@ -139,18 +118,6 @@ module _ (gs hs : List Hold) (caller : Caller) (region colour : ℕ) (from to : 
     held_there seen until since before i x at =
         (x.from, gives_at i x at, asks_there seen until since before i x at)
 
-    pub too_low_there : (seen until : ℕ) → seen ≤ length (seen_by gs caller.own colour) → length looked ≤ until
-        → (i : ℕ) (x : GiveOfPull) → slice_get gives i ≡ Some x → i + 1 < length gives
-        → GivesTooLow (log_seen (seen_by hs) rest) caller region colour seen until x.place
-    too_low_there seen until since before i x at lt = (
-      x.from,
-      gives_at i x at,
-      asks_there seen until since before i x at,
-      subst (λ (n : ℕ). x.from < number_at (base region caller.regions (dated region (take x.place (seen_by hs region colour)))) n)
-          from_is
-          (subst (λ (c : Counts). x.from < number_at c from.number) (base_there x) (asks.again i x at lt)),
-    )
-
     pub rise_there : RiseFrom (length (seen_by gs region colour)) (map place_of gives)
     rise_there =
         let long = seen_long gs region g g_old colour in
@@ -185,35 +152,35 @@ module _ (gs hs : List Hold) (caller : Caller) (region colour : ℕ) (from to : 
 
   -- what it had seen before a carry, or a look that found none
   looked_until : (looked : List Told) (carry : At) (nodes : ℕ)
-      → CarriesLine (tag_at from colour) (seen_in g' colour) (tag_at to colour) h.passes.number looked
+      → CarriesOn from.number (tag_at to colour) h.passes.number looked
       (seen_in h' colour) carry nodes
       → length looked ≤ events_until carry
   looked_until looked carry nodes (inl (looks, none)) =
       let le = prefix_length looked (seen_in h' colour) looks.0.more in
       let is = ap events_until looks.1 in
       omega (arith, le, is)
-  looked_until looked carry nodes (inr (told, items, m, is, many, some, of)) =
+  looked_until looked carry nodes (inr (told, items, m, is, many, some)) =
       let le = prefix_length looked m.before m.more in
       let at = ap events_until m.place in
       omega (arith, le, at)
 
   -- after the carry, or the look that found none, no more was seen
   seen_whole : (carry : At) (nodes : ℕ)
-      → CarriesLine (tag_at from colour) (seen_in g' colour) (tag_at to colour) h.passes.number (seen_in h colour)
+      → CarriesOn from.number (tag_at to colour) h.passes.number (seen_in h colour)
       (seen_in h' colour) carry nodes
       → take (seen_after carry) (seen_by hs caller.own colour) ≡ seen_by hs caller.own colour
   seen_whole carry nodes (inl (looks, none)) =
       let long = seen_long hs caller.own h' h_new colour in
       let is = ap seen_after looks.1 in
       take_all (seen_after carry) (seen_by hs caller.own colour) (omega (arith, long, is))
-  seen_whole carry nodes (inr (told, items, m, is, many, some, of)) =
+  seen_whole carry nodes (inr (told, items, m, is, many, some)) =
       let long = seen_long hs caller.own h' h_new colour in
       let at = ap seen_after m.place in
       let last = long_last h.passes.number told (seen_in h colour) (seen_in h' colour) carry m (ap maker is) in
       take_all (seen_after carry) (seen_by hs caller.own colour) (omega (arith, long, at, last))
 
   carries_there : (carry : At) (nodes : ℕ)
-      → CarriesLine (tag_at from colour) (seen_in g' colour) (tag_at to colour) h.passes.number (seen_in h colour)
+      → CarriesOn from.number (tag_at to colour) h.passes.number (seen_in h colour)
       (seen_in h' colour) carry nodes
       → CarriesThere (seen_by gs) (seen_by hs) caller region colour nodes carry
   carries_there carry nodes (inl (looks, none)) =
@@ -224,7 +191,7 @@ module _ (gs hs : List Hold) (caller : Caller) (region colour : ℕ) (from to : 
       let sum = length-append (seen_in h colour) more.0 in
       subst (CarriesThere (seen_by gs) (seen_by hs) caller region colour nodes) (sym looks.1)
       (omega (arith, old, parts, sum), omega (arith, new), none)
-  carries_there carry nodes (inr (told, items, m, is, many, some, of)) =
+  carries_there carry nodes (inr (told, items, m, is, many, some)) =
       let old = seen_long gs caller.own h h_old colour in
       let unseen = unseen_last h.passes.number told (seen_in h colour) (seen_in h' colour) carry m (ap maker is) in
       let there = stands_last h.passes.number told (seen_in h colour) (seen_in h' colour) carry m (ap maker is) in
@@ -243,7 +210,7 @@ module _ (gs hs : List Hold) (caller : Caller) (region colour : ℕ) (from to : 
       )
 
   carried_steps : (carry : At) (nodes : ℕ)
-      → CarriesLine (tag_at from colour) (seen_in g' colour) (tag_at to colour) h.passes.number (seen_in h colour)
+      → CarriesOn from.number (tag_at to colour) h.passes.number (seen_in h colour)
       (seen_in h' colour) carry nodes
       → length (own_steps h.passes.number (entries_seen h' colour))
       ≡ length (own_steps h.passes.number (entries_seen h colour)) + carry_count carry
@@ -251,7 +218,7 @@ module _ (gs hs : List Hold) (caller : Caller) (region colour : ℕ) (from to : 
       let same = ap length (none_made h.passes.number (seen_in h colour) (seen_in h' colour) looks.0.none) in
       let is = ap carry_count looks.1 in
       omega (arith, same, is)
-  carried_steps carry nodes (inr (told, items, m, is, many, some, of)) =
+  carried_steps carry nodes (inr (told, items, m, is, many, some)) =
       let counted = all_made h.passes.number (seen_in h colour) (seen_in h' colour) (told ∷ [])
       (made_last h.passes.number told (seen_in h colour) (seen_in h' colour) carry m (ap maker is))
       (All-cons (λ (t : Told). is_own h.passes.number t.entry.event ≡ true) told []
@@ -262,71 +229,52 @@ module _ (gs hs : List Hold) (caller : Caller) (region colour : ℕ) (from to : 
 
   module _ (p : Pulled) (pulls : HoldPulls from to colour g g' h h' p) where
     -- the carry, from what was seen before the pull
-    carried_since : CarriesLine (tag_at from colour) (seen_in g' colour) (tag_at to colour) h.passes.number
+    carried_since : CarriesOn from.number (tag_at to colour) h.passes.number
         (seen_in h colour) (seen_in h' colour) p.carry p.nodes
-    carried_since = looks_carries (tag_at from colour) (seen_in g' colour) (tag_at to colour) h.passes.number
+    carried_since = looks_carries from.number (tag_at to colour) h.passes.number
         (seen_in h colour) pulls.looked (seen_in h' colour) p.carry p.nodes pulls.looks pulls.carries
 
     looked_more : IsPrefix pulls.looked (seen_in h' colour)
-    looked_more = carries_more (tag_at from colour) (seen_in g' colour) (tag_at to colour) h.passes.number
+    looked_more = carries_more from.number (tag_at to colour) h.passes.number
         pulls.looked (seen_in h' colour) p.carry p.nodes pulls.carries
 
-    pub pulls_there : PullsThere (seen_by gs) (seen_by hs) rest caller region colour p.nodes pulls.last.place p.carry
-        (places_of_gives pulls.too_low)
+    pub pulls_there : PullsThere (seen_by gs) (seen_by hs) rest caller region colour p.nodes pulls.gave.place p.carry []
     pulls_there =
-        let all = pulls.too_low ++ pulls.last ∷ [] in
-        let last_at = got_last pulls.too_low pulls.last in
+        let one = pulls.gave ∷ [] in
         let seen = length (seen_by gs caller.own colour) in
         let until = events_until p.carry in
         let before = looked_until pulls.looked p.carry p.nodes pulls.carries in
         record {
           another = apart;
-          rising = subst (RiseFrom (length (seen_by gs region colour)))
-              (map-append place_of pulls.too_low (pulls.last ∷ [])) (rise_there all pulls.looked looked_more pulls.asks);
-          made_again = each_place (GivesTooLow (log_seen (seen_by hs) rest) caller region colour seen until) pulls.too_low
-              (λ i x at. too_low_there all pulls.looked looked_more pulls.asks seen until (omega arith) before i x
-              (in_front i x at) (before_last i x at));
-          from = pulls.last.from;
-          gives = gives_at all pulls.looked looked_more pulls.asks (length pulls.too_low) pulls.last last_at;
-          asks = asks_there all pulls.looked looked_more pulls.asks seen until (omega arith) before
-              (length pulls.too_low) pulls.last last_at;
+          rising = rise_there one pulls.looked looked_more pulls.asks;
+          made_again = All-nil (GivesTooLow (log_seen (seen_by hs) rest) caller region colour seen until);
+          from = pulls.gave.from;
+          gives = gives_at one pulls.looked looked_more pulls.asks 0 pulls.gave refl;
+          asks = asks_there one pulls.looked looked_more pulls.asks seen until (omega arith) before 0 pulls.gave refl;
           carries = carries_there p.carry p.nodes carried_since;
           holds = held_at_end;
         } where
-          in_front : (i : ℕ) (x : GiveOfPull) → slice_get pulls.too_low i ≡ Some x
-              → slice_get (pulls.too_low ++ pulls.last ∷ []) i ≡ Some x
-          in_front i x at = get-append pulls.too_low (pulls.last ∷ []) i x at
-
-          before_last : (i : ℕ) (x : GiveOfPull) → slice_get pulls.too_low i ≡ Some x
-              → i + 1 < length (pulls.too_low ++ pulls.last ∷ [])
-          before_last i x at =
-              let lt = get_within pulls.too_low i x at in
-              let sum = length-append pulls.too_low (pulls.last ∷ []) in
-              omega (arith, lt, sum)
-
-          line_before : length (line (entries_in (before_gave (seen_in g' colour) pulls.last)))
-              ≡ length (line (take pulls.last.place (seen_by hs region colour)))
+          line_before : length (line (entries_in (before_gave (seen_in g' colour) pulls.gave)))
+              ≡ length (line (take pulls.gave.place (seen_by hs region colour)))
           line_before = ap (λ (l : List Entry). length (line l))
-              (before_there (pulls.too_low ++ pulls.last ∷ []) pulls.looked looked_more pulls.asks pulls.last)
+              (before_there (pulls.gave ∷ []) pulls.looked looked_more pulls.asks pulls.gave)
 
-          held_at_end : length (line (take pulls.last.place (seen_by hs region colour)))
+          held_at_end : length (line (take pulls.gave.place (seen_by hs region colour)))
               ≤ length (chain caller.own (dated caller.own (take (seen_after p.carry) (seen_by hs caller.own colour))) region)
           held_at_end =
-              subst (λ (l : List Entry). length (line (take pulls.last.place (seen_by hs region colour)))
+              subst (λ (l : List Entry). length (line (take pulls.gave.place (seen_by hs region colour)))
               ≤ length (chain caller.own (dated caller.own l) region)) (sym (seen_whole p.carry p.nodes carried_since))
               (subst (λ (n : ℕ). n ≤ length (chain caller.own (dated caller.own (seen_by hs caller.own colour)) region))
               line_before
-              (subst (λ (n : ℕ). length (line (entries_in (before_gave (seen_in g' colour) pulls.last))) ≤ n)
+              (subst (λ (n : ℕ). length (line (entries_in (before_gave (seen_in g' colour) pulls.gave))) ≤ n)
               (chain_there h' hs h_new) pulls.holds))
 
     -- its steps are the gives and the carry, where all else was only seen
     pub makes_pull : ((r c : ℕ) → (c ≢ colour) ⊎ ((r ≢ region) × (r ≢ caller.own))
         → seen_by hs r c ≡ seen_by gs r c)
-        → MakesPull caller region colour (length (places_of_gives pulls.too_low) + 1) (carry_count p.carry) (seen_by gs) (seen_by hs)
+        → MakesPull caller region colour 1 (carry_count p.carry) (seen_by gs) (seen_by hs)
     makes_pull others =
-        let given = given_steps (pulls.too_low ++ pulls.last ∷ []) pulls.looked looked_more pulls.asks in
-        let sum = length-append pulls.too_low (pulls.last ∷ []) in
-        let low = length-map pulls.too_low place_of in
+        let given = given_steps (pulls.gave ∷ []) pulls.looked looked_more pulls.asks in
         let carried = carried_steps p.carry p.nodes carried_since in
         let new = ap (λ (l : List Entry). length (own_steps caller.client l)) (seen_there hs caller.own h' h_new colour)
         ∙ subst (λ (n : ℕ). length (own_steps caller.client (entries_seen h' colour))
@@ -335,7 +283,7 @@ module _ (gs hs : List Hold) (caller : Caller) (region colour : ℕ) (from to : 
         ∙ subst (λ (n : ℕ). length (own_steps caller.client (entries_seen h colour))
         ≡ length (own_steps n (entries_seen h colour))) (sym h_is) refl in
         record {
-          given = omega (arith, given, sum, low);
+          given = given;
           carried = omega (arith, carried, new, old);
           others = λ r c ne. ap (own_steps caller.client) (others r c ne);
         }

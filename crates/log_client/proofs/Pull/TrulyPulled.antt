@@ -1,4 +1,4 @@
--- What a client carried and asked for stays true of a pull, which makes carries and gives.
+-- What a client asked for stays true of a pull, which makes carries and gives.
 use Rattle.std.proofs.Common.{◌≡◌, ◌≢◌, ℕ, zero, suc, ◌<◌, List, [], ◌∷◌, length, map, Some, slice_get, ap, sym, subst, ◌∙◌, inl, inr, ◌⊎◌, append-nil}
 use Rattle.std.proofs.lemmas.Bool.{cases_eq}
 use mathlib.Core.List.{IsPrefix}
@@ -13,8 +13,8 @@ use Rattle.chain_store.specs.declared.region.Region.{Region}
 use Rattle.chain_store.specs.Histories.{maker}
 use Rattle.chain_store.specs.Regions.{tag_at}
 use Rattle.chain_store.specs.Holds.{SameBut, SeesMoreIn, made_in, seen_in, turned_in}
-use Rattle.region_pull.specs.Origins.{IsOfOrigin, IsHeldFor, OfOrigin, AsksForHeld}
-use Rattle.region_pull.specs.Pulls.{GiveOfPull, AsksByGives, CarriesLine, told_gave}
+use Rattle.region_pull.specs.Origins.{IsHeldFor, AsksForHeld}
+use Rattle.region_pull.specs.Pulls.{GiveOfPull, AsksByGives, CarriesOn, told_gave}
 use Rattle.log_client.specs.Ending.{AreRegions, AreHoldsIn, ArePair, PullsTruly}
 use Rattle.log_client.proofs.Lists.{got_split, same_items, unmapped}
 use Rattle.log_client.proofs.Known.Steps.{made_last}
@@ -48,21 +48,21 @@ gave_made t u g g' colour to_old to_new gives but asks n told at =
           inr (x.0.from, ap (λ (d : Told). d.entry.event) (sym x.2))
 
 -- what a hold made of late by a carry
-pub carried_made : (t u : Tag) (h h' : Hold) (colour nodes : ℕ) (log : List Told) (at : At) → SameBut colour h h'
-    → CarriesLine t log u h.passes.number (seen_in h colour) (seen_in h' colour) at nodes
+pub carried_made : (region : ℕ) (u : Tag) (h h' : Hold) (colour nodes : ℕ) (at : At) → SameBut colour h h'
+    → CarriesOn region u h.passes.number (seen_in h colour) (seen_in h' colour) at nodes
     → (n : ℕ) (told : Told) → slice_get (made_in h' colour) n ≡ Some told
     → WasMade h colour told
-    ⊎ ((start : ℕ) × (heads : List Head) × (told.entry.event ≡ events.Carry t.region start heads))
-carried_made t u h h' colour nodes log at but (inl (looks, none)) n told there =
+    ⊎ ((start : ℕ) × (heads : List Head) × (told.entry.event ≡ events.Carry region start heads))
+carried_made region u h h' colour nodes at but (inl (looks, none)) n told there =
     inl (n, ap (λ (l : List Told). slice_get l n) (sym (made_now h h' colour but ∙ looks.0.none)) ∙ there)
-carried_made t u h h' colour nodes log at but (inr (made, items, m, is, many, some, of)) n told there =
+carried_made region u h h' colour nodes at but (inr (made, items, m, is, many, some)) n told there =
     by_place (got_split (made_in h colour) (made ∷ []) n told
     (ap (λ (l : List Told). slice_get l n)
     (sym (made_now h h' colour but
     ∙ made_last h.passes.number made (seen_in h colour) (seen_in h' colour) at m (ap maker is))) ∙ there)) where
       by_place : (slice_get (made_in h colour) n ≡ Some told) ⊎ ((k : ℕ) × (slice_get (made ∷ []) k ≡ Some told))
           → WasMade h colour told
-          ⊎ ((start : ℕ) × (heads : List Head) × (told.entry.event ≡ events.Carry t.region start heads))
+          ⊎ ((start : ℕ) × (heads : List Head) × (told.entry.event ≡ events.Carry region start heads))
       by_place (inl old) = inl (n, old)
       by_place (inr (zero, e)) = let same : made ≡ told = cc in inr (_, _, ap (λ (d : Told). d.entry.event) (sym same ∙ is))
       by_place (inr (suc k, e)) = absurd (let f : ⊥ = cc in f)
@@ -86,8 +86,7 @@ module _ (rs : List Region) (regions : ℕ) (gs hs : List Hold) (are : AreRegion
     (h_made : (i : ℕ) (t : Told) → slice_get (made_in h' colour) i ≡ Some t
     → WasMade h colour t ⊎ ((start : ℕ) × (heads : List Head) × (t.entry.event ≡ events.Carry from.number start heads)))
     (before : PullsTruly rs gs)
-    (in_from : colour < from.board.size.colours) (in_to : colour < to.board.size.colours)
-    (origin : OfOrigin from colour g h → OfOrigin from colour g' h')
+    (in_to : colour < to.board.size.colours)
     (held : AsksForHeld from to colour g h → AsksForHeld from to colour g' h') where
   pair : ArePair rs gs from to g h
   pair = record {
@@ -204,14 +203,6 @@ module _ (rs : List Region) (regions : ℕ) (gs hs : List Hold) (are : AreRegion
     y_is : h' ≡ y
     y_is = same_items hs m h' y h_new (ap (slice_get hs) (sym at_m) ∙ p.to_hold)
 
-    carried_there : slice_get (made_in y c) i ≡ Some d → IsOfOrigin (tag_at f c) (seen_in x c) d
-    carried_there at =
-        let of = origin (before.carries from to g h colour pair in_from) i d
-        (ap (λ (z : Hold). slice_get (made_in z colour) i) y_is ∙ (ap (λ (k : ℕ). slice_get (made_in y k) i) (sym same) ∙ at)) in
-        subst (λ (r : Region). IsOfOrigin (tag_at r c) (seen_in x c) d) f_is
-        (subst (λ (z : Hold). IsOfOrigin (tag_at from c) (seen_in z c) d) x_is
-        (subst (λ (k : ℕ). IsOfOrigin (tag_at from k) (seen_in g' k) d) (sym same) of))
-
     asked_there : slice_get (made_in x c) i ≡ Some d → IsHeldFor (tag_at t c) (seen_in y c) f.number d
     asked_there at =
         let of = held (before.gives from to g h colour pair in_to) i d
@@ -222,27 +213,6 @@ module _ (rs : List Region) (regions : ℕ) (gs hs : List Hold) (are : AreRegion
         (subst (λ (k : ℕ). IsHeldFor (tag_at to k) (seen_in h' k) from.number d) (sym same) of)))
 
   -- of others there is nothing to say
-  carries_on : (f t : Region) (x y k : Hold) (c : ℕ) (p : ArePair rs hs f t x y) → slice_get gs p.m ≡ Some k
-      → (i : ℕ) (d : Told) → slice_get (made_in y c) i ≡ Some d
-      → WasMade k c d ⊎ IsOfOrigin (tag_at f c) (seen_in x c) d
-  carries_on f t x y k c p old i d at = by_made (made_of p.m k y old p.to_hold c i d at) where
-    by_place : (p.n ≡ n) ⊎ (p.n ≢ n) → p.m ≡ m → c ≡ colour → (start : ℕ) (heads : List Head)
-        → d.entry.event ≡ events.Carry from.number start heads → IsOfOrigin (tag_at f c) (seen_in x c) d
-    by_place (inl here) at_m same start heads is = carried_there f t x y c p here at_m same i d at
-    by_place (inr ne) at_m same start heads is =
-        λ other brought e. absurd (ne (sym (number_of p.n f p.from_there)
-        ∙ (same_origin f.number from.number other start brought heads (sym e ∙ is) ∙ number_of n from from_there))) where
-          same_origin : (a b k l : ℕ) (u v : List Head) → events.Carry a k u ≡ events.Carry b l v → a ≡ b
-          same_origin a b k l u v e = cc
-
-    by_made : WasMade k c d ⊎ IsNew p.m c d → WasMade k c d ⊎ IsOfOrigin (tag_at f c) (seen_in x c) d
-    by_made (inl was) = inl was
-    by_made (inr (inl gave)) = inr (λ start heads e. absurd (apart_kinds to.number f.number gave.2 start heads (sym gave.3 ∙ e)))
-      where
-        apart_kinds : (a b k l : ℕ) (u : List Head) → events.Give a k ≡ events.Carry b l u → ⊥
-        apart_kinds a b k l u e = cc
-    by_made (inr (inr carry)) = inr (by_place (cases_eq p.n n) carry.0 carry.1 carry.2 carry.3 carry.4)
-
   gives_on : (f t : Region) (x y k : Hold) (c : ℕ) (p : ArePair rs hs f t x y) → slice_get gs p.n ≡ Some k
       → (i : ℕ) (d : Told) → slice_get (made_in x c) i ≡ Some d
       → WasMade k c d ⊎ IsHeldFor (tag_at t c) (seen_in y c) f.number d
@@ -265,4 +235,4 @@ module _ (rs : List Region) (regions : ℕ) (gs hs : List Hold) (are : AreRegion
           apart_kinds a b k l u e = cc
 
   pub truly_pulled : PullsTruly rs hs
-  truly_pulled = truly_on rs gs hs holds many more carries_on gives_on before
+  truly_pulled = truly_on rs gs hs holds many more gives_on before

@@ -54,7 +54,7 @@ fn log_answer<R: Wait, G: Gate>(
         What::Sync { colour } => sync(rt, alloc, store, client, colour),
         What::Scan { colours } => scan(rt, alloc, store, client, colours),
         What::Pull { region, colour } => (
-            pull(rt, alloc, store, client, region, colour),
+            pull(rt, store, client, region, colour),
             ListOf::new(alloc),
         ),
         What::Trim { colour } => (trim(rt, store, client, colour), ListOf::new(alloc)),

@@ -80,6 +80,7 @@ fn region_reports<R: Threads + Sync>(
         let ClosedRegion {
             columns: own,
             rows: begun,
+            ends: _,
         } = end;
         push_rows(nodes, region, begun, &mut rows)?;
         columns.append(&mut own.into_vec())?;

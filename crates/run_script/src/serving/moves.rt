@@ -8,24 +8,16 @@ use playback::Snapshot;
 use region_pull::PullFault;
 use report_text::Answer;
 use script_text::What;
-use std::alloc::Global;
 use std::sync::Wait;
 
 /// Brings what is new of another region's line of the colour into the column of the client's region.
-pub fn pull<R: Wait>(
-    rt: &R,
-    alloc: Global,
-    store: &Store,
-    client: &mut Client,
-    region: u8,
-    colour: u8,
-) -> Answer
+pub fn pull<R: Wait>(rt: &R, store: &Store, client: &mut Client, region: u8, colour: u8) -> Answer
     requires client { IsClient store.now client.old }
     requires region { region < length store.now.regions }
     requires colour { colour < store.now.size.colours }
     ensures { ServesLog store.now client.old client.new (What.Pull region colour) result [] }
 {
-    match client.pull(rt, alloc, store, region, colour) {
+    match client.pull(rt, store, region, colour) {
         Ok(pulled) => Answer::Pulled {
             nodes: pulled.nodes,
             give: pulled.give,

@@ -7,7 +7,7 @@ ghost use Rattle.chain_store.specs.Regions.{IsColumnAt};
 ghost use Rattle.chain_store.specs.Holds.{IsHold};
 ghost use Rattle.tests_log.specs.Clients.{IsClient, IsFirst};
 
-use crate::tests::made::alone;
+use crate::tests::made::{alone, first_ends};
 use chain_store::{Hold, Region, Seated};
 use log_node::{Counts, ListOf, Shape};
 use std::alloc::{AllocError, Global};
@@ -74,7 +74,8 @@ fn opened(alloc: Global) -> Result<(Region, Hold, Hold, Hold), AllocError>
     ensures holds { IfOk result (λ r. IsClient r.0 0 0 r.1 × IsHold r.0 r.2 × IsHold r.0 r.3) }
 {
     let shape = shape(alloc)?;
-    let (region, holds) = Region::open(alloc, 0, &shape)?;
+    let ends = first_ends(alloc, &shape)?;
+    let (region, holds) = Region::open(alloc, 0, &shape, ends)?;
     let mut holds = holds.into_vec();
     match (holds.pop(), holds.pop(), holds.pop()) {
         (Some(three), Some(two), Some(one)) => Ok((region, one, two, three)),

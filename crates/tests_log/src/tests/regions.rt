@@ -1,17 +1,17 @@
 // A region at the end of the stamps, a client that is told of another's append, and appends that may only stand next.
-ghost use Rattle.std.specs.Prelude.{◌≡◌, ◌≢◌, ◌<◌, ◌≤◌, ◌^◌, ◌+◌, ℕ, true, None, length, IfOk, OnOk};
+ghost use Rattle.std.specs.Prelude.{◌≡◌, ◌≢◌, ◌<◌, ◌≤◌, ◌^◌, ◌+◌, ℕ, true, None, IfOk, OnOk};
 ghost use mathlib.Core.List.{IsPrefix};
 ghost use Rattle.log_node.specs.Sets.{has};
 ghost use Rattle.chain_store.specs.Histories.{FitsColumn};
 ghost use Rattle.chain_store.specs.Holds.{IsHold, KnowsAppend, seen_in, made_in};
 ghost use Rattle.tests_log.specs.Clients.{IsSmall, IsClient};
 
-use crate::tests::made::{alone, pair};
+use crate::tests::made::{alone, first_ends, open_small, pair, small};
 use append_core::{MultiFault, Point, Stood, multi, only, single};
 use chain_store::{ClosedRegion, Hold, Proposed, Region};
 use column::{ColumnFault, OnlyFault};
 use fuzzy_io::OpenGate;
-use log_node::{At, Begun, ColourMark, ListOf, MAX_STAMP, Mark, Node, Outcome, Row, Shape, Why};
+use log_node::{At, Begun, ColourMark, ListOf, MAX_STAMP, Mark, Node, Outcome, Row, Why};
 use std::alloc::{AllocError, Global};
 use std::sync::{Arc, Wait};
 use std::test::Fail;
@@ -21,36 +21,16 @@ const ROW: Row = Row {
     number: 0,
 };
 
-// Two regions of two colours, and two clients, each with one row.
-fn shape(alloc: Global) -> Result<Shape, AllocError>
-    ensures { IfOk result (λ s. (s.regions ≡ 2) × (s.colours ≡ 2) × (length s.homes ≡ 2) × (s.rows ≡ 1)) }
-{
-    let mut homes = ListOf::new(alloc);
-    homes.push(0)?;
-    homes.push(0)?;
-    Ok(Shape {
-        regions: 2,
-        colours: 2,
-        homes,
-        rows: 1,
-    })
-}
-
-// A region of that shape, and the holds of its two clients.
-fn opened(alloc: Global, number: u8) -> Result<(Region, Hold, Hold), AllocError>
-    requires { number < 2 }
-    ensures region { IfOk result (λ r. IsSmall number r.0) }
+// The first of two small regions, and the holds of its two clients.
+fn opened(alloc: Global) -> Result<(Region, Hold, Hold), AllocError>
+    ensures region { IfOk result (λ r. IsSmall 0 r.0) }
     ensures one { IfOk result (λ r. IsClient r.0 0 0 r.1) }
     ensures used { IfOk result (λ r. r.1.seat.used ≡ 0) }
     ensures two { IfOk result (λ r. IsClient r.0 1 0 r.2) }
 {
-    let shape = shape(alloc)?;
-    let (region, holds) = Region::open(alloc, number, &shape)?;
-    let mut holds = holds.into_vec();
-    match (holds.pop(), holds.pop()) {
-        (Some(two), Some(one)) => Ok((region, one, two)),
-        _ => unreachable!(),
-    }
+    let shape = small(alloc)?;
+    let ends = first_ends(alloc, &shape)?;
+    open_small(alloc, 0, &shape, ends)
 }
 
 // The first client begins its row.
@@ -144,7 +124,7 @@ fn heard<R: Wait>(
 
 #[test]
 fn a_client_that_hears_of_a_row_appends_it(rt: HostRuntime) -> Result<(), Fail> {
-    let (region, mut one, mut two) = opened(rt.alloc(), 0)?;
+    let (region, mut one, mut two) = opened(rt.alloc())?;
     let (proposed, outcome) = heard(&rt, rt.alloc(), &region, &mut one, &mut two)?;
     assert_eq!(rt; proposed, [(At::Event(0), Mark::Number(1)); 2]);
     assert_eq!(rt; outcome, Outcome::Final(1));
@@ -231,7 +211,7 @@ fn is_gone(closed: &ClosedRegion) -> bool {
 
 #[test]
 fn no_stamp_is_left_in_the_first_colour(rt: HostRuntime) -> Result<(), Fail> {
-    let (region, mut hold, other) = opened(rt.alloc(), 0)?;
+    let (region, mut hold, other) = opened(rt.alloc())?;
     assert!(rt; ended(&rt, rt.alloc(), &region, &mut hold)?);
     let closed = closed(&rt, rt.alloc(), region, hold, other)?;
     assert!(rt; is_gone(&closed));
@@ -281,7 +261,7 @@ fn beside_the_end<R: Wait>(
 
 #[test]
 fn no_stamp_is_left_in_one_colour_alone(rt: HostRuntime) -> Result<(), Fail> {
-    let (region, mut hold, _other) = opened(rt.alloc(), 0)?;
+    let (region, mut hold, _other) = opened(rt.alloc())?;
     assert!(rt; beside_the_end(&rt, rt.alloc(), &region, &mut hold)?);
     Ok(())
 }
@@ -339,7 +319,7 @@ fn moved(length: u64, waiting: u64, events: u64) -> Result<(u64, Option<Point>),
 
 #[test]
 fn what_may_only_stand_next_is_told_what_came(rt: HostRuntime) -> Result<(), Fail> {
-    let (region, mut hold, _other) = opened(rt.alloc(), 0)?;
+    let (region, mut hold, _other) = opened(rt.alloc())?;
     let told = stand_next(&rt, rt.alloc(), &region, &mut hold)?;
     let point = Point {
         colour: 0,

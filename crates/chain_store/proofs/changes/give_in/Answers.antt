@@ -61,8 +61,7 @@ returns-in-Ok-clause-ok g c =
     let e = told_event c.args.by (Give c.args.region (min c.args.from (length (line x.column.journal)))) in
     let m = made_at cell c.args.by p q r c.end.result t.turn.0 t.more x y e stands refl c.end.ensures.look
     c.end.ensures.event c.in-Ok.ensures.ok in
-    gives_at (tag_in cell) x c.args.by c.args.region c.args.from p q r c.end.result c.in-Ok.given stands is
-    c.in-Ok.ensures.given m.0 m.1
+    gives_at x c.args.by c.args.region c.args.from c.in-Ok.lined p q r c.end.result stands c.in-Ok.ensures.lined m.0 m.1
 
 pub end-requires-in-Err-clause-value : goal.end-requires-in-Err-clause-value
 end-requires-in-Err-clause-value g c =

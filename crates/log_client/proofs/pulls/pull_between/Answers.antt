@@ -68,7 +68,7 @@ returns-then-far-own-clause-ok g c =
     (changes_two c.args.from.now.number c.args.to.now.number i j xs hs
     (get_or low i c.index-low-far.result) x.0 c.pull.new.from_hold (get_or high 0 c.index-high-0.result) y.0 c.pull.new.to_hold
     c.number-far.ensures c.number-own.ensures c.requires.apart x.1 gx y.1 hy left)
-    e.from_hold e.to_hold e.origin e.held c.pull.result e.ok
+    e.from_hold e.to_hold e.held c.pull.result e.ok
 
 pub returns-else-far-own-clause-ok : goal.returns-else-far-own-clause-ok
 returns-else-far-own-clause-ok g c =
@@ -103,7 +103,7 @@ returns-else-far-own-clause-ok g c =
     (changes_two c.args.from.now.number c.args.to.now.number i j xs hs
     (get_or high 0 c.index-high-0-else-far-own.result) x.0 g' (get_or low j c.index-low-own.result) y.0 h'
     c.number-far.ensures c.number-own.ensures c.requires.apart x.1 gx y.1 hy left)
-    e.from_hold e.to_hold e.origin e.held c.pull-else-far-own.result e.ok
+    e.from_hold e.to_hold e.held c.pull-else-far-own.result e.ok
 
 pub returns-then-far-own-clause-err : goal.returns-then-far-own-clause-err
 returns-then-far-own-clause-err g c =
@@ -133,7 +133,7 @@ returns-then-far-own-clause-err g c =
     (changes_two c.args.from.now.number c.args.to.now.number i j xs hs
     (get_or low i c.index-low-far.result) x.0 c.pull.new.from_hold (get_or high 0 c.index-high-0.result) y.0 c.pull.new.to_hold
     c.number-far.ensures c.number-own.ensures c.requires.apart x.1 gx y.1 hy left)
-    e.from_hold e.to_hold e.origin e.held c.pull.result e.same_region e.err
+    e.from_hold e.to_hold e.held c.pull.result e.same_region e.err
 
 pub returns-else-far-own-clause-err : goal.returns-else-far-own-clause-err
 returns-else-far-own-clause-err g c =
@@ -168,4 +168,4 @@ returns-else-far-own-clause-err g c =
     (changes_two c.args.from.now.number c.args.to.now.number i j xs hs
     (get_or high 0 c.index-high-0-else-far-own.result) x.0 g' (get_or low j c.index-low-own.result) y.0 h'
     c.number-far.ensures c.number-own.ensures c.requires.apart x.1 gx y.1 hy left)
-    e.from_hold e.to_hold e.origin e.held c.pull-else-far-own.result e.same_region e.err
+    e.from_hold e.to_hold e.held c.pull-else-far-own.result e.same_region e.err

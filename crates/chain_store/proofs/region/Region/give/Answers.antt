@@ -1,10 +1,9 @@
-use Rattle.std.proofs.Common.{◌≢◌, ◌<◌, List, sym, subst}
+use Rattle.std.proofs.Common.{◌≢◌, ◌<◌, ℕ, List, sym, subst}
 use Rattle.log_node.specs.declared.node.At.{At}
-use Rattle.column.specs.declared.given.Given.{Given}
 use Rattle.turn_cell.specs.Cells.{seen}
 use Rattle.chain_store.specs.declared.told.Tag.{Tag}
 use Rattle.chain_store.specs.declared.told.Told.{Told}
-use Rattle.chain_store.specs.Passes.{SeesMore, tag_in}
+use Rattle.chain_store.specs.Passes.{SeesMore}
 use Rattle.chain_store.specs.Moves.{GivesAt}
 use Rattle.chain_store.proofs.Holding.{holder}
 use Rattle.chain_store.proofs.Passing.{ok_as}
@@ -45,11 +44,11 @@ returns-clause-hold g c =
     c.give_in-given.ensures.pass c.behind.ensures (or_looked c.args.hold.now.passes.number (seen
     c.index_mut-pass.result.now) (seen
     c.give_in-given.new.pass)
-    (λ (x : At × Given). GivesAt (tag_in c.column.result.now) c.args.hold.now.passes.number c.args.region c.args.from
+    (λ (x : At × ℕ). GivesAt c.args.hold.now.passes.number c.args.region c.args.from
     (seen c.index_mut-pass.result.now) (seen c.give_in-given.new.pass) x.0 x.1)
-    c.give_in-given.result (λ (x : At × Given). gave c.args.hold.now.passes.number (seen c.index_mut-pass.result.now)
+    c.give_in-given.result (λ (x : At × ℕ). gave c.args.hold.now.passes.number (seen c.index_mut-pass.result.now)
     (seen
-    c.give_in-given.new.pass) (tag_in c.column.result.now) c.args.region c.args.from x.0 x.1)
+    c.give_in-given.new.pass) c.args.region c.args.from x.0 x.1)
     c.give_in-given.ensures.ok c.give_in-given.ensures.err)
 
 pub returns-clause-others : goal.returns-clause-others
@@ -59,8 +58,8 @@ returns-clause-others g c =
 pub returns-clause-ok : goal.returns-clause-ok
 returns-clause-ok g c =
     ok_as c.give_in-given.result _ _
-    (λ (x : At × Given) y. of_turned (turn g c) c.behind.new.desks
-    (λ (t : Tag) (old new : List Told). GivesAt t c.args.hold.now.passes.number c.args.region c.args.from old new x.0
+    (λ (x : At × ℕ) y. of_turned (turn g c) c.behind.new.desks
+    (λ (t : Tag) (old new : List Told). GivesAt c.args.hold.now.passes.number c.args.region c.args.from old new x.0
     x.1)
     y) c.give_in-given.ensures.ok
 

@@ -1,9 +1,21 @@
-use Rattle.std.proofs.Common.{List, refl, subst}
+use Rattle.std.proofs.Common.{List, refl, subst, sym}
 use Rattle.chain_store.specs.declared.hold.Hold.{Hold}
 use Rattle.chain_store.specs.Passes.{ColumnCell}
 use Rattle.chain_store.specs.Holds.{HasPasses}
+use Rattle.chain_store.specs.Telling.{AreTold}
 use Rattle.chain_store.proofs.Notes.{hold_stays, made_heard}
 use Rattle.chain_store.proofs.region.Region.hear.Goals as goal
+
+pub meet_all-requires-clause-passes : goal.meet_all-requires-clause-passes
+meet_all-requires-clause-passes c =
+    let p = c.args.hold.now.passes in
+    subst (λ (cells : List ColumnCell). HasPasses cells p.number p.items.items) (sym c.deref.ensures.value)
+    c.requires.hold.passes
+
+pub meet_all-requires-clause-told : goal.meet_all-requires-clause-told
+meet_all-requires-clause-told c =
+    subst (λ (cells : List ColumnCell). AreTold cells c.args.note.passes.items) (sym c.deref.ensures.value)
+    c.requires.note.passes
 
 pub returns-clause-hold : goal.returns-clause-hold
 returns-clause-hold c =

@@ -7,6 +7,7 @@ use Rattle.col_core.specs.History.{has_entered}
 use Rattle.col_core.proofs.CallerLemmas.{same_id-true, same_id-refl}
 use Rattle.std.proofs.lemmas.List.{length-set}
 use Rattle.column.specs.Columns.{ColumnState, HasEnterCause, with_room, after_propose, stamp_for}
+use Rattle.ring_ends.specs.Rings.{IsForRegions}
 use Rattle.chain_store.specs.Entered.{AreBelow}
 use Rattle.chain_store.specs.Columns.{told_propose, Enters}
 use Rattle.log_node.specs.Marks.{IsStamp}
@@ -42,6 +43,7 @@ invariant_of-self c =
           let few = subst (λ (y : Node). y.id.client < MAX_CLIENTS) (sym c.deref.ensures) c.requires.maker.1 in omega (arith, long, few))
           (c.is_new.ensures c.if-not-is_new.false) (λ other is. same_id-true other x.id is)
           (ap (λ (y : Node). y.id.client) (sym c.deref.ensures)) (ap (λ (y : Node). y.id.count) (sym c.deref-2.ensures));
+      others = subst (λ (q : ColumnState). IsForRegions q.regions s.rings) (sym same) s.others;
     }
 
 pub invariant_of-self-in-Err-propose : goal.invariant_of-self-in-Err-propose
@@ -50,6 +52,8 @@ invariant_of-self-in-Err-propose c = record {
   all = c.args.self.now.all;
   above = subst (λ (s : ColumnState). AreBelow s.journal c.args.self.now.entered) (sym c.in-Err.ensures.err)
       c.args.self.now.above;
+  others = subst (λ (s : ColumnState). IsForRegions s.regions c.args.self.now.rings) (sym c.in-Err.ensures.err)
+      c.args.self.now.others;
 }
 
 pub returns-in-Ok-propose-clause-stamp : goal.returns-in-Ok-propose-clause-stamp

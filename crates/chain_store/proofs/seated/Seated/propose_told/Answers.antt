@@ -99,7 +99,7 @@ returns-clause-ended c = λ log st end.
     let g = Grows-trans u0 u1 u3 l.seat.0.grows e.seat.grows in
     let sized : v3.size ≡ k = e.later.0.grows.size ∙ c.propose-step.ensures.seat.grows.size ∙ l.later.grows.size ∙ q.0.1 in
     let fenced = same_marks s2.seat s3.seat e.later.1 e.later.0.colour b.row ∙ c.propose-step.ensures.mark ∙ end in
-    let z = st.1.ended b.row (subst (λ (n : Size). IsRow n b.row) (sym sized) h.row) fenced in
+    let z = st.1.0.ended b.row (subst (λ (n : Size). IsRow n b.row) (sym sized) h.row) fenced in
     let same = e.agree.node b.row x z.node
     (begun_learnt u0 u1 b.row l.seat.0.grows.size (Learns-from u0 u1 l.seat.0.grows) x h.knows)
     (subst (λ (v : View). KnowsBegun v b.row z.node) e.later.1 z.knows) in (
@@ -127,12 +127,12 @@ returns-clause-entered c = λ log st n is.
     let g = Grows-trans u0 u1 u3 l.seat.0.grows e.seat.grows in
     let sized : v3.size ≡ k = e.later.0.grows.size ∙ c.propose-step.ensures.seat.grows.size ∙ l.later.grows.size ∙ q.0.1 in
     let marked = same_marks s2.seat s3.seat e.later.1 e.later.0.colour b.row ∙ c.propose-step.ensures.mark ∙ is in
-    let stamps = st.1.numbered b.row (subst (λ (z : Size). IsRow z b.row) (sym sized) h.row)
+    let stamps = st.1.0.numbered b.row (subst (λ (z : Size). IsRow z b.row) (sym sized) h.row)
     ∙ ap (λ (m : Mark). numbers m) marked in
     let p = proposer b.row log n stamps in
     let t = p.1 in
     let w = proposal_of v3 s3.column.region s3.column.colour b.row t.entry.by n t.entry.event t.entry.stamp t.nodes p.3
-    p.4 (st.0.brings p.0 t p.2) (st.1.backs p.0 t p.2) in
+    p.4 (st.0.brings p.0 t p.2) (st.1.0.backs p.0 t p.2) in
     let same : x ≡ w.0 = e.agree.node b.row x w.0
     (begun_learnt u0 u1 b.row l.seat.0.grows.size (Learns-from u0 u1 l.seat.0.grows) x h.knows)
     (subst (λ (v : View). KnowsBegun v b.row w.0) e.later.1 w.1) in

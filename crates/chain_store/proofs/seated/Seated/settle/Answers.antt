@@ -13,9 +13,12 @@ use Rattle.col_core.specs.History.{entries}
 use Rattle.column.specs.Columns.{ColumnState, after_settle}
 use Rattle.stamp_board.specs.Seats.{column_seen}
 use Rattle.col_core.specs.Ids.{IsFinal, HasCome}
-use Rattle.chain_store.specs.Columns.{IsOfHistory, told_settle}
+use Rattle.ring_ends.specs.Rings.{IsForRegions, names_of}
+use Rattle.chain_store.specs.Columns.{told_settle}
 use Rattle.chain_store.specs.Tags.{tag}
 use Rattle.chain_store.proofs.Backing.{backed_more}
+use Rattle.chain_store.proofs.Moving.{StandsIn}
+use Rattle.chain_store.proofs.RingsGrow.{fit_entered}
 use Rattle.chain_store.proofs.Proposals.{stays_later, same_tag}
 use Rattle.chain_store.proofs.Settlings.{may_settle_begun, settle_backed, settles_open, settles_none, settles_keep, settles_below, settled_newest, settled_gains, settled_last, none_found, outcome_small}
 use Rattle.chain_store.proofs.seated.Seated.settle.Goals as goal
@@ -45,7 +48,7 @@ returns-clause-tag c =
     let new = c.settle-at.new.self in
     let t = c.look.new.seat in
     let k = settles_keep s.column new c.args.by c.begun.inside.id c.args.outcome _ c.settle-at.ensures.column in
-    (λ i. tag (k.0 i) (k.1 i) (k.2 i) (column_seen t).size t.inner.table_id)
+    (λ i. tag (k.0 i) (k.1 i) (k.2 i) (column_seen t).size t.inner.table_id (names_of s.rings))
     ∙ same_tag s.column.region s.column.colour s.column.regions s.seat t c.look.ensures.seat
 
 pub invariant_of-self : goal.invariant_of-self
@@ -57,6 +60,7 @@ invariant_of-self c =
       same = c.look.ensures.seat.colour ∙ s.same ∙ sym k.1;
       all = s.all;
       above = settles_below s.column new c.args.by c.begun.inside.id c.args.outcome _ c.settle-at.ensures.column s.entered s.above;
+      others = subst (λ (n : ℕ). IsForRegions n s.rings) (sym k.2) s.others;
     }
 
 pub returns-clause-event : goal.returns-clause-event
@@ -68,6 +72,7 @@ returns-clause-event c = λ shown.
     let l = c.look.ensures in
     let t = c.look.new.seat in
     let new = c.settle-at.new.self in
+    let keep = settles_keep s.column new c.args.by c.begun.inside.id o _ c.settle-at.ensures.column in
     let is = settles_open o q.outcome.0 (has_open b.id (entries s.column.journal)) shown new
     (after_settle s.column c.args.by b.id o) s.column
     (became s.column new c.args.by c.begun.inside.id b.id o (ap (λ (a : BegunAppend). a.id) c.begun.view_is)
@@ -81,9 +86,13 @@ returns-clause-event c = λ shown.
           let st = stays_later s t log l.seat l.none h in (
             settled_gains s.column new c.args.by b.id o is (column_seen t).size.clients log
                 (subst (λ (k : Size). c.args.by < k.clients) (sym (l.seat.grows.size ∙ q.board.1)) q.maker) st.0,
-            backed_more t log (told_settle c.args.by b.id o) (λ row. refl)
-                (outcome_small b.id o (entries s.column.journal) shown may)
-                (settle_backed s t c.args.board.now.size b o [] q.board.1 l.seat q.begun q.outcome.1) st.1,
+            (
+              backed_more t log (told_settle c.args.by b.id o) (λ row. refl)
+                  (outcome_small b.id o (entries s.column.journal) shown may)
+                  (settle_backed s t c.args.board.now.size b o [] q.board.1 l.seat q.begun q.outcome.1) st.1.0,
+              fit_entered s.column new (column_seen t).size t.inner.table_id s.rings log (told_settle c.args.by b.id o) keep.0
+                  keep.1 keep.2 (λ region. refl) st.1.1,
+            ),
           ),
     )
 
@@ -100,7 +109,7 @@ returns-clause-look c = λ off log h.
     (became s.column new c.args.by c.begun.inside.id b.id o (ap (λ (a : BegunAppend). a.id) c.begun.view_is)
     c.settle-at.ensures.column) in
     let st = stays_later s t log l.seat l.none h in
-    (subst (λ (d : ColumnState). IsOfHistory d (column_seen t).size.clients log) (sym is) st.0, st.1)
+    subst (λ (d : ColumnState). StandsIn d t s.rings log) (sym is) st
 
 pub returns-clause-closed : goal.returns-clause-closed
 returns-clause-closed c =

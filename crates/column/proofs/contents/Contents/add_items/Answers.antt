@@ -47,7 +47,7 @@ entry_is : (c : goal.After-push_reserved)
       by = c.args.by;
       event = events.Carry c.args.region c.of_region-start.result c.in_ok-heads.heads;
       stamp = 0;
-    }) (carry_entry (old_of c) c.args.by c.args.region c.args.items.items)
+    }) (carry_entry (old_of c) c.args.by c.args.region c.args.items.now.items)
 entry_is c =
     ap (λ (n : ℕ). let e : Entry = record {
       by = c.args.by;
@@ -62,7 +62,7 @@ entry_is c =
 
 state : (c : goal.After-push_reserved)
     → with_parts (old_of c) c.push_reserved.new.self.items c.append.new.self
-    ≡ with_carried (old_of c) c.args.by c.args.region c.args.items.items
+    ≡ with_carried (old_of c) c.args.by c.args.region c.args.items.now.items
 state c =
     ap (λ (l : List Entry). with_parts (old_of c) l c.append.new.self)
     (c.push_reserved.ensures.items
@@ -73,11 +73,11 @@ state c =
     } ∷ []) c.in_ok-reserve.ensures.items
     ∙ ap (λ (e : Entry). (old_of c).journal ++ e ∷ []) (entry_is c)))
     ∙ ap (λ (cs : List (List PlacedNode)). with_parts (old_of c)
-    ((old_of c).journal ++ carry_entry (old_of c) c.args.by c.args.region c.args.items.items ∷ []) cs)
+    ((old_of c).journal ++ carry_entry (old_of c) c.args.by c.args.region c.args.items.now.items ∷ []) cs)
     c.in_ok-append.ensures.ok
 
-some : (c : goal.After-push_reserved) → 0 < length c.args.items.items
-some c = let a = c.requires.items in let b = c.args.items.ok.0 in omega (arith, a, b)
+some : (c : goal.After-push_reserved) → 0 < length c.args.items.now.items
+some c = let a = c.requires.items in let b = c.args.items.now.ok.0 in omega (arith, a, b)
 
 pub invariant_of-self-2 : goal.invariant_of-self-2
 invariant_of-self-2 c =
@@ -87,10 +87,10 @@ invariant_of-self-2 c =
     (subst (λ (q : ColumnState). IsKept q
     (vector (λ here. if here == c.args.region then c.in-Some.end else at i.carried here)) i.notes i.base
     i.opens i.spare (vec_capacity c.push_reserved.new.self)) (sym (state c))
-    (carried_kept (old_of c) c.args.by c.args.region c.self.invariant.column_is (other c) (in_range c) c.args.items.items (some c)
+    (carried_kept (old_of c) c.args.by c.args.region c.self.invariant.column_is (other c) (in_range c) c.args.items.now.items (some c)
     i.carried i.notes i.base c.in-Some.end c.self.invariant.numbers_are
     (let a = c.of_region-start.ensures in let b = c.in-Some.ensures in let d = c.len.ensures in
-    let e = c.args.items.ok.0 in omega (arith, a, b, d, e))
+    let e = c.args.items.now.ok.0 in omega (arith, a, b, d, e))
     i.opens i.spare _ (vec_capacity c.push_reserved.new.self) c.self.invariant.room_is
     (omega (
       arith,
@@ -106,4 +106,4 @@ returns-clause-cut c =
     (with_parts (old_of c) c.push_reserved.new.self.items c.append.new.self)) c.self.view_is
     (subst (λ (q : ColumnState). IsStillReached (old_of c) q) (sym (state c))
     (carried_reached (old_of c) c.args.by c.args.region c.self.invariant.column_is (other c) (in_range c)
-    c.args.items.items (some c)))
+    c.args.items.now.items (some c)))

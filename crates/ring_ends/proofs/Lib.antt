@@ -1,0 +1,6 @@
+pub mod CallerLemmas
+mod Givens
+mod Lists
+mod Making
+mod Joining
+mod Dealing

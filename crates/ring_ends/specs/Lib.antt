@@ -1,0 +1,5 @@
+pub mod Places
+pub mod Givens
+pub mod Rings
+pub mod NewRings
+pub mod Making
