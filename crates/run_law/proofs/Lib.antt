@@ -12,6 +12,7 @@ mod LeftLemmas
 mod ListedLaws
 mod ListedLemmas
 mod Lists
+mod LookupLemmas
 mod Members
 mod Once
 mod OrderLemmas
@@ -22,6 +23,7 @@ mod ProposalLemmas
 mod RepliesLemmas
 mod RisingLemmas
 mod RowLemmas
+mod RowMade
 mod RowOrder
 mod Shards
 mod SubjectLemmas
