@@ -1,9 +1,9 @@
 -- What a walk looks up: own steps that no reply prints, places between two bounds, rows by their ids.
 use Rattle.std.proofs.Common.{◌≡◌, ◌⊎◌, ℕ, zero, suc, ◌+◌, ◌-◌, ◌<◌, ◌≤◌, Bool, true, false, ◌&&◌, ◌==◌, cond, List, [], ◌∷◌, length, map, take, drop, Option, Some, None, inl, inr, refl, ap, sym, subst, ◌∙◌, arith, get_or}
-use Rattle.std.specs.Prelude.{not, slice_get}
+use Rattle.std.specs.Prelude.{is_some, max, nat_le, nat_lt, not, slice_get}
 use Rattle.std.specs.List.{filter, find}
 use Rattle.std.specs.List.Sorted.{IsNonDecreasing}
-use Rattle.std.proofs.lemmas.Bool.{cases_Bool, and_from, and_left, and_right, eq-eqb}
+use Rattle.std.proofs.lemmas.Bool.{cases_Bool, and_from, and_left, and_right, eq-eqb, le-leb, lt-leb, ltb-false, ltb-true, true≢false}
 use Rattle.log_node.specs.declared.ids.Id.{Id}
 use Rattle.log_node.specs.declared.node.Node.{Node}
 use Rattle.log_node.specs.Order.{same_id}
@@ -12,18 +12,22 @@ use Rattle.log_node.proofs.CallerLemmas.{same_id-is}
 use Rattle.col_core.specs.declared.Event.{Event}
 use Rattle.col_core.specs.declared.Event.TheVariants.{Single, Propose, Settle, Raise, Give, Carry, Trim}
 use Rattle.col_core.specs.declared.Entry.{Entry}
-use Rattle.col_core.specs.Log.{is_own, places_from}
+use Rattle.col_core.specs.Keeping.{Kept, seen_past}
+use Rattle.col_core.specs.Log.{is_own, places_from, places_of}
 use Rattle.col_core.specs.Rows.{BegunRow}
 use Rattle.col_core.proofs.CallerLemmas.{if_false, if_true}
+use Rattle.report_text.specs.declared.report.PointPiece.{PointPiece}
 use Rattle.report_text.specs.declared.report.RowReport.{RowReport}
-use Rattle.run_rules.specs.Told.{last_of}
-use Rattle.run_rules.specs.Telling.{is_among, is_in, is_step_at, is_step_of, no_nodes, row_of}
+use Rattle.lawful_run.specs.Callers.{Caller}
+use Rattle.run_rules.specs.Told.{last_of, stamp_told}
+use Rattle.run_rules.specs.Telling.{is_among, is_in, is_step_at, is_step_of, journal_among, made_between, no_nodes, row_of, step_places}
 use Rattle.run_law.specs.PlaceTables.{final_of, is_own_step, numbers_where, row_with, same_row}
 use Rattle.column_track.specs.Tracks.{Tracked}
-use Rattle.run_rules.specs.Telling.{step_places}
-use Rattle.run_law.specs.Walking.{MayWalk, Walked, places_printed, steps_walked}
+use Rattle.run_law.specs.Behind.{IsCaller}
+use Rattle.run_law.specs.Walking.{MayWalk, Walked, journal_walked, log_walked, places_printed, steps_walked}
+use Rattle.run_law.proofs.FirstLemmas.{few_colours}
 use Rattle.run_law.proofs.PrintLemmas.{flip}
-use Rattle.run_law.proofs.SubjectLemmas.{column_none}
+use Rattle.run_law.proofs.SubjectLemmas.{column_none, few_regions}
 
 -- OWN STEPS
 
@@ -99,6 +103,19 @@ module _ (id : Id) where
           (from ∷ places_from (from + 1) id.client es) (places_from (from + 1) id.client es)
           (and_left (e.by == id.client) (is_own id.client e.event) f)))
 
+-- those that are left of what is looked up
+pub steps_told : (walked : Walked) (client region colour number : ℕ) (printed : ℕ → Bool) (items places : List ℕ)
+    → ((place : ℕ) → printed place ≡ is_among place (places_printed walked client region colour))
+    → items ≡ numbers_where (is_own_step (record { client = client; count = number })) 0 (journal_walked walked region colour)
+    → places ≡ filter (λ p. not (printed p)) items → places ≡ steps_walked walked client region colour number
+steps_told walked client region colour number printed items places same are left_are =
+    let journal = journal_walked walked region colour in
+    left_are
+    ∙ (ap (filter (λ p. not (printed p))) are
+    ∙ steps_left (record { client = client; count = number }) journal printed
+    (λ place. is_among place (places_printed walked client region colour)) same 0 journal
+    (λ k. ap (slice_get journal) (let n : 0 + k ≡ k = omega arith in n)))
+
 -- there are none of a colour that the log does not have
 pub no_steps : (walked : Walked) (tracks : List Tracked) (may : MayWalk walked.script walked.report tracks) (client region colour number : ℕ)
     → walked.script.shape.colours ≤ colour → steps_walked walked client region colour number ≡ []
@@ -159,6 +176,43 @@ module _ (test : ℕ → Bool) where
       (λ k d ge lt. back (suc k) d (omega (arith, ge)) (omega (arith, lt))) (omega (arith, le))
       ∙ sym (if_false (test x) (x ∷ filter test xs) (filter test xs) (low zero x (omega arith)))
 
+-- the places from one number on and below another stand between where the ones and the others begin
+pub between_is : (xs : List ℕ) (from to start end most : ℕ) → most ≡ max start end → start ≤ length xs → end ≤ length xs
+    → ((k d : ℕ) → k < start → nat_lt (get_or xs k d) from ≡ true)
+    → ((k d : ℕ) → start ≤ k → k < length xs → nat_lt (get_or xs k d) from ≡ false)
+    → ((k d : ℕ) → k < end → nat_lt (get_or xs k d) to ≡ true)
+    → ((k d : ℕ) → end ≤ k → k < length xs → nat_lt (get_or xs k d) to ≡ false)
+    → take (most - start) (drop start xs) ≡ filter (λ p. nat_le from p && nat_lt p to) xs
+between_is xs from to start end most is low high under over before behind =
+    stretch_is (λ p. nat_le from p && nat_lt p to) xs start (most - start)
+    (λ k d lt.
+      let small = ltb-true (get_or xs k d) from (under k d lt) in
+      and_left (nat_le from (get_or xs k d)) (nat_lt (get_or xs k d) to) (lt-leb from (get_or xs k d) small))
+    (λ k d ge lt.
+      let great = ltb-false (get_or xs k d) from (over k d ge (omega (arith, is, low, high, ge, lt))) in
+      and_from (nat_le from (get_or xs k d)) (nat_lt (get_or xs k d) to) (le-leb from (get_or xs k d) great)
+      (before k d (omega (arith, is, ge, lt))))
+    (λ k d ge lt.
+      and_right (nat_le from (get_or xs k d)) (nat_lt (get_or xs k d) to) (behind k d (omega (arith, is, ge)) lt))
+    (omega (arith, is, low, high))
+
+-- a column that no log can have has no journal
+pub no_column : (walked : Walked) (tracks : List Tracked) (may : MayWalk walked.script walked.report tracks) (region colour : ℕ)
+    → (4 ≤ region) ⊎ (64 ≤ colour) → journal_walked walked region colour ≡ []
+no_column walked tracks may region colour beyond =
+    column_none walked.script walked.report tracks may region colour (outside beyond) where
+  outside : (4 ≤ region) ⊎ (64 ≤ colour) → (walked.script.shape.regions ≤ region) ⊎ (walked.script.shape.colours ≤ colour)
+  outside (inl ge) = let few = few_regions walked.script may.fitting in inl (omega (arith, ge, few))
+  outside (inr ge) = let few = few_colours walked.script may.fitting in inr (omega (arith, ge, few))
+
+-- nor is anything made in it
+pub none_between : (walked : Walked) (tracks : List Tracked) (may : MayWalk walked.script walked.report tracks) (caller : Caller)
+    (kept : Kept) (region colour place : ℕ) → (4 ≤ region) ⊎ (64 ≤ colour)
+    → [] ≡ made_between (log_walked walked) caller kept region colour place
+none_between walked tracks may caller kept region colour place beyond =
+    sym (ap (λ (h : List Entry). filter (λ p. nat_le (seen_past 0 (kept.made region colour)) p && nat_lt p place) (places_of caller.client h))
+    (no_column walked tracks may region colour beyond))
+
 -- ROWS
 
 -- the final number of a region's row with an id is that of the log's row
@@ -184,3 +238,20 @@ row_final histories own id (r ∷ rs) =
       ≡ final_number (last_of (find test (map (row_of histories no_nodes) (cond a (r ∷ filter (is_in own) rs) (filter (is_in own) rs)))))
   by false = rest
   by true = step (same_id id r.id)
+
+-- the stamp of an append on a row
+pub stamp_row : (walked : Walked) (client own ids number : ℕ) (caller : Caller) (kept : Kept) (row : Option ℕ) (points : List PointPiece)
+    → IsCaller walked client own caller → ids ≡ kept.ids → is_some row ≡ true
+    → number ≡ final_of (row_with own (record { client = client; count = ids }) walked.report.rows)
+    → number ≡ stamp_told (log_walked walked) caller kept row points
+stamp_row walked client own ids number caller kept None points is same there found = absurd (true≢false (sym there))
+stamp_row walked client own ids number caller kept (Some n) points is same there found =
+    let made_by = ap (λ (c : Caller). c.client) is.caller_is in
+    let id_is : record { client = client; count = ids } ≡ record { client = caller.client; count = kept.ids } =
+    ap (λ (m : ℕ). let i : Id = record { client = m; count = ids } in i) (sym made_by)
+    ∙ ap (λ (m : ℕ). let i : Id = record { client = caller.client; count = m } in i) same in
+    found
+    ∙ (row_final (journal_among walked.report.columns) own (record { client = client; count = ids }) walked.report.rows
+    ∙ (ap (λ (i : Id). final_number (last_of (find (λ (r : BegunRow). same_id i r.node.id) ((log_walked walked).rows own)))) id_is
+    ∙ ap (λ (o : ℕ). final_number (last_of (find (λ (r : BegunRow).
+    same_id (record { client = caller.client; count = kept.ids }) r.node.id) ((log_walked walked).rows o)))) is.own_is))

@@ -5,7 +5,7 @@ ghost use Rattle.lawful_run.specs.Callers.{Caller, caller_of, commands_of};
 ghost use Rattle.lawful_run.specs.Reads.{greatest_played};
 ghost use Rattle.run_rules.specs.Told.{stamp_of};
 ghost use Rattle.run_rules.specs.Telling.{replies_to};
-ghost use Rattle.run_law.specs.PlaceTables.{final_of, row_with};
+ghost use Rattle.run_law.specs.PlaceTables.{final_of, is_own_step, numbers_where, row_with};
 ghost use Rattle.run_law.specs.Subjects.{AtColumn, last_between};
 ghost use Rattle.run_law.specs.Walking.{IsStepOf, MayWalk, journal_walked, log_walked, steps_walked};
 ghost use Rattle.col_core.specs.Log.{places_of};
@@ -214,6 +214,16 @@ impl<'r> Subject<'r> {
         }
     }
 
+    // The places of the own steps of an id.
+    fn own_steps(&self, region: u8, colour: u8, id: Id) -> &[u64]
+        ensures { result.now ≡ numbers_where (is_own_step id) 0 (journal_walked self.now region colour) }
+    {
+        match self.column(region, colour) {
+            Some(at) => self.places[at].steps.steps(id),
+            None => &[],
+        }
+    }
+
     /// The places of a client's own steps of its id with this number, but for those that replies print.
     pub fn steps(
         &self,
@@ -226,16 +236,14 @@ impl<'r> Subject<'r> {
         requires { client < length self.now.report.clients }
         ensures { IfOk result (λ places. places ≡ steps_walked self.now client region colour number) }
     {
+        let id = Id {
+            client,
+            count: number,
+        };
         let mut places = ListOf::new(alloc);
-        if let Some(at) = self.column(region, colour) {
-            let id = Id {
-                client,
-                count: number,
-            };
-            for place in self.places[at].steps.steps(id) {
-                if !self.printed.has(client, region, colour, *place) {
-                    places.push(*place)?;
-                }
+        for place in self.own_steps(region, colour, id) {
+            if !self.printed.has(client, region, colour, *place) {
+                places.push(*place)?;
             }
         }
         Ok(places)
