@@ -13,6 +13,7 @@ mod LeftLemmas
 mod ListedLaws
 mod ListedLemmas
 mod Lists
+mod LookupLemmas
 mod Members
 mod NextNodes
 mod NodeRows
@@ -25,6 +26,7 @@ mod ProposalLemmas
 mod RepliesLemmas
 mod RisingLemmas
 mod RowLemmas
+mod RowMade
 mod RowOrder
 mod RowPlaceLemmas
 mod Shards
@@ -33,3 +35,4 @@ mod TableLemmas
 mod ThirdLemmas
 mod ToldLemmas
 mod UsedIds
+mod WalkLemmas

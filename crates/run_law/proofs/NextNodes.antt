@@ -64,30 +64,6 @@ use Rattle.run_law.specs.Fifth.{ProposesNode, ProposesSo}
 use Rattle.run_law.specs.Proposals.{proposal, proposes}
 use Rattle.run_law.proofs.ProposalLemmas.{entered_alone, entered_so, not_entered, proposes_is}
 
--- WHAT A SCRIPT HAS
-
-module _ (regions colours : ℕ) (few : colours ≤ MAX_COLOURS) where
-  below_low : (of : List ℕ) → All (λ c. c < colours) of → AreLow of
-  below_low of below = All-weaker (λ c. c < colours) (λ c. c < MAX_COLOURS) (λ c lt. omega (arith, lt, few)) of below
-
-  one_low : (colour : ℕ) → colour < colours → AreLow (colour ∷ [])
-  one_low colour lt = All-cons (λ c. c < MAX_COLOURS) colour [] (omega (arith, lt, few)) (All-nil (λ c. c < MAX_COLOURS))
-
-  kind_low : (kind : Kind) → IsKindWithin regions colours kind → AreLow (object_colours (Some kind))
-  kind_low (kinds.Map home of) k = below_low of k.1.below
-  kind_low (kinds.Tx home of) k = below_low of k.1.below
-  kind_low (kinds.Causal colour) k = one_low colour k
-  kind_low (kinds.Queue home colour) k = one_low colour k.1
-  kind_low (kinds.Tree home of) k = below_low of k.1.below
-  kind_low (kinds.Parts home of) k = below_low of k.1.below
-
-pub low_objects : (script : Script) → IsFitting script → (objects : List Object) → objects ≡ script.objects → HaveLowColours objects
-low_objects script fits objects same =
-    subst HaveLowColours (sym same)
-    (All-weaker (λ (o : Object). IsKindWithin script.shape.regions script.shape.colours o.kind)
-    (λ (o : Object). AreLow (object_colours (Some o.kind)))
-    (λ o k. kind_low script.shape.regions script.shape.colours (few_colours script fits) o.kind k) script.objects fits.objects)
-
 -- EVENTS
 
 -- an event that proposes no node tells anything

@@ -14,10 +14,12 @@ use Rattle.col_core.specs.declared.Event.{Event}
 use Rattle.col_core.specs.declared.Event.TheVariants.{Single, Propose, Settle, Raise, Give, Carry, Trim}
 use Rattle.col_core.specs.declared.Entry.{Entry}
 use Rattle.col_core.specs.Log.{is_own, places_from, places_of}
+use Rattle.script_text.specs.declared.script.Command.{Command}
 use Rattle.run_rules.specs.Telling.{is_step_of}
 use Rattle.run_law.specs.declared.step_table.StepTable.{StepTable}
-use Rattle.run_law.specs.PlaceTables.{AreOfMakers, AreSteps, is_own_step, listed_or, numbers_where, own_id, places_at, step_made, steps_in}
-use Rattle.run_law.proofs.TableLemmas.{equal_is_same, found}
+use Rattle.run_law.specs.PlaceTables.{AreOfClients, AreSteps, is_asked_by, is_own_step, listed_or, numbers_where, own_id, places_at, step_made, steps_in}
+use Rattle.run_law.proofs.PrintLemmas.{flip}
+use Rattle.run_law.proofs.TableLemmas.{equal_is_same}
 
 -- ONE ITEM MORE
 
@@ -253,3 +255,19 @@ one_step old taken new id place was here out step other = turn (cases_Bool (same
       ∙ (ap (λ (b : Bool). listed (cond b None (lookup (λ k. is_eq (cmp-value.it other k)) old))) miss
       ∙ (before
       ∙ sym (ap (λ (b : Bool). cond b (listed_or (find (λ e. same_id e.0 other) old) ++ place ∷ []) (listed_or (find (λ e. same_id e.0 other) old))) f))))))
+
+-- COMMANDS
+
+pub commands_more : (clients : ℕ) (commands : List Command) (at : ℕ) (c : Command) → at < length commands → c ≡ get_or commands at c
+    → (old new : List (List ℕ)) → length new ≡ length old
+    → ((other : ℕ) → other < length old
+    → places_at new other ≡ cond (other == c.client) (places_at old other ++ at ∷ []) (places_at old other))
+    → AreOfClients clients (take at commands) old → AreOfClients clients (take (at + 1) commands) new
+commands_more clients commands at c lt is old new same added so = record {
+  many = same ∙ so.many;
+  each = λ client low.
+      added client (subst (λ (n : ℕ). client < n) (sym so.many) low)
+      ∙ (take_here (places_at old client) (client == c.client) (is_asked_by client c) at (flip client c.client)
+      ∙ (ap (λ (l : List ℕ). l ++ cond (is_asked_by client c) (at ∷ []) []) (so.each client low)
+      ∙ sym (where_next (is_asked_by client) commands at c lt is)));
+}

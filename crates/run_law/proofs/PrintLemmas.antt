@@ -7,7 +7,8 @@ use Rattle.std.proofs.lemmas.Bool.{cases_Bool, cases_lt, true≢false, eq-eqb, e
 use Rattle.std.proofs.lemmas.Bool.Decides.{nat_tests}
 use Rattle.std.proofs.lemmas.List.{drop_all, drop_more}
 use Rattle.std.proofs.lemmas.List.Folds.{list_any-append}
-use Rattle.log_node.proofs.CallerLemmas.{same_some}
+use Rattle.std.proofs.lemmas.Option.{get_or_from_slice_get, slice_get_within}
+use Rattle.log_node.proofs.CallerLemmas.{get_within, same_some}
 use Rattle.script_text.specs.declared.commands.What.{What}
 use Rattle.script_text.specs.declared.script.Command.{Command}
 use Rattle.script_text.specs.declared.script.Script.{Script}
@@ -22,6 +23,7 @@ use Rattle.run_law.specs.contracts.printed.PrintOrd.TheImpl.{cmp-value}
 use Rattle.run_law.specs.declared.printed.Print.{Print}
 use Rattle.run_law.specs.declared.printed.Printed.{Printed}
 use Rattle.run_law.specs.PlaceTables.{is_asked_by, is_printed, numbers_where, same_print}
+use Rattle.run_law.specs.Subjects.{ArePrints}
 use Rattle.run_law.proofs.TableLemmas.{both_same, same_number}
 
 -- ONE MORE
@@ -32,7 +34,7 @@ print_same a b =
     both_same (nat_cmp a.client b.client) (ordering_then (nat_cmp a.region b.region) (ordering_then (nat_cmp a.colour b.colour) (nat_cmp a.place b.place)))
     ∙ rw (both_same (nat_cmp a.region b.region) (ordering_then (nat_cmp a.colour b.colour) (nat_cmp a.place b.place)), both_same (nat_cmp a.colour b.colour) (nat_cmp a.place b.place), same_number a.client b.client, same_number a.region b.region, same_number a.colour b.colour, same_number a.place b.place) refl
 
-flip : (a b : ℕ) → (a == b) ≡ (b == a)
+pub flip : (a b : ℕ) → (a == b) ≡ (b == a)
 flip a b = by (cases_Bool (a == b)) (cases_Bool (b == a)) where
   by : ((a == b) ≡ true) ⊎ ((a == b) ≡ false) → ((b == a) ≡ true) ⊎ ((b == a) ≡ false) → (a == b) ≡ (b == a)
   by (inl t) (inl u) = t ∙ sym u
@@ -146,3 +148,97 @@ module _ {A : Type 0} (test : A → Bool) where
     by true zero more at = (zero, (let e = sym (same_some at) in omega (arith, e)), refl)
     by true (suc i) more at = on i (more i at)
     by false i more at = on i (more i at)
+
+-- THE REPLIES OF A CLIENT
+
+pub all_left : (own : ℕ) (commands : List Command) (replies : List ReplyLine) (at : ℕ) (c : Command) (r : ReplyLine)
+    → at < length commands → at < length replies → c ≡ get_or commands at c → r ≡ get_or replies at r → (region colour : ℕ)
+    → printed_all own (drop at commands) (drop at replies) region colour
+    ≡ printed own r.answer c.what region colour ++ printed_all own (drop (at + 1) commands) (drop (at + 1) replies) region colour
+all_left own commands replies at c r lt low is_c is_r region colour =
+    ap (λ (l : List Command). printed_all own l (drop at replies) region colour)
+    (drop_more commands at c lt ∙ ap (λ (x : Command). x ∷ drop (at + 1) commands) (sym is_c))
+    ∙ ap (λ (l : List ReplyLine). printed_all own (c ∷ drop (at + 1) commands) l region colour)
+    (drop_more replies at r low ∙ ap (λ (x : ReplyLine). x ∷ drop (at + 1) replies) (sym is_r))
+
+pub all_done : (own : ℕ) (commands : List Command) (replies : List ReplyLine) (at : ℕ)
+    → (length commands ≤ at) ⊎ (length replies ≤ at) → (region colour : ℕ)
+    → printed_all own (drop at commands) (drop at replies) region colour ≡ []
+all_done own commands replies at (inl ge) region colour =
+    ap (λ (l : List Command). printed_all own l (drop at replies) region colour) (drop_all at commands ge)
+all_done own commands replies at (inr ge) region colour =
+    ap (λ (l : List ReplyLine). printed_all own (drop at commands) l region colour) (drop_all at replies ge)
+    ∙ by (drop at commands) where
+      by : (cs : List Command) → printed_all own cs [] region colour ≡ []
+      by [] = refl
+      by (c ∷ cs) = refl
+
+-- THE CLIENTS OF A REPORT
+
+-- what replies to the first so many clients print
+pub PrintsTo : Script → Report → ℕ → Printed → Type 0
+PrintsTo script report at table = (n r c p : ℕ) → is_printed table n r c p ≡ (nat_lt n at && is_among p (places_shown script report n r c))
+
+pub one_client : (script : Script) (report : Report) (at : ℕ) (shown : ClientReport) (old new : Printed)
+    → slice_get report.clients at ≡ Some shown
+    → ((n r c p : ℕ) → is_printed new n r c p
+    ≡ ((at == n) && is_among p (printed_all (caller_of script at).own (commands_of script at) shown.replies r c) || is_printed old n r c p))
+    → PrintsTo script report at old → PrintsTo script report (at + 1) new
+unfolding PrintsTo
+one_client script report at shown old new there added so n r c p =
+    added n r c p
+    ∙ (ap (λ (b : Bool). (at == n) && is_among p (printed_all (caller_of script at).own (commands_of script at) shown.replies r c) || b) (so n r c p)
+    ∙ by (cases_Bool (at == n)) (cases_lt n at)) where
+  here : at ≡ n → printed_all (caller_of script at).own (commands_of script at) shown.replies r c ≡ places_shown script report n r c
+  here e =
+      ap (λ (l : List ReplyLine). printed_all (caller_of script at).own (commands_of script at) l r c) (sym (ap replies_in there))
+      ∙ ap (λ (k : ℕ). places_shown script report k r c) e
+
+  either : (x : Bool) → (x || (false && x)) ≡ x
+  either true = refl
+  either false = refl
+
+  by : ((at == n) ≡ true) ⊎ ((at == n) ≡ false) → (n < at) ⊎ (at ≤ n)
+      → ((at == n) && is_among p (printed_all (caller_of script at).own (commands_of script at) shown.replies r c)
+      || (nat_lt n at && is_among p (places_shown script report n r c)))
+      ≡ (nat_lt n (at + 1) && is_among p (places_shown script report n r c))
+  by (inl t) less =
+      let e : at ≡ n = eqb-true at n t in
+      rw (t, ap (λ (l : List ℕ). is_among p l) (here e), le-ltb n at (omega (arith, e)), lt-ltb n (at + 1) (omega (arith, e)))
+      (either (is_among p (places_shown script report n r c)))
+  by (inr f) (inl less) = rw (f, lt-ltb n at less, lt-ltb n (at + 1) (omega (arith, less))) refl
+  by (inr f) (inr ge) =
+      rw (f, le-ltb n at ge, le-ltb n (at + 1) (beyond (cases_lt n (at + 1)))) refl where
+    beyond : (n < at + 1) ⊎ (at + 1 ≤ n) → at + 1 ≤ n
+    beyond (inr more) = more
+    beyond (inl less) =
+        absurd (true≢false (sym (eq-eqb at n (let e : at ≡ n = omega (arith, less, ge) in e)) ∙ f))
+
+pub prints_none : (script : Script) (report : Report) (table : Printed) → ((n r c p : ℕ) → is_printed table n r c p ≡ false)
+    → PrintsTo script report zero table
+unfolding PrintsTo
+prints_none script report table none n r c p =
+    none n r c p ∙ sym (ap (λ (b : Bool). b && is_among p (places_shown script report n r c)) (le-ltb n zero (omega arith)))
+
+pub prints_all : (script : Script) (report : Report) (at : ℕ) (table : Printed) → length script.shape.homes ≤ at
+    → PrintsTo script report at table → ArePrints script report table
+unfolding PrintsTo
+prints_all script report at table ge so n lt r c p =
+    so n r c p
+    ∙ ap (λ (b : Bool). b && is_among p (places_shown script report n r c)) (lt-ltb n at (omega (arith, ge, lt)))
+
+-- a client's command by its number
+pub command_of : (commands : List Command) (client : ℕ) (numbers : List ℕ) → numbers ≡ numbers_where (is_asked_by client) 0 commands
+    → (at : ℕ) → at < length numbers → (d : ℕ)
+    → (c : Command) × (slice_get commands (slice_index_or numbers at d) ≡ Some c)
+    × (slice_get (filter (is_asked_by client) commands) at ≡ Some c)
+command_of commands client numbers are at lt d =
+    let n = get_within numbers at lt in
+    let item = where_item (is_asked_by client) 0 commands at n.0 (ap (λ (l : List ℕ). slice_get l at) (sym are) ∙ n.1) in
+    let many = where_length (is_asked_by client) 0 commands in
+    let same = ap length are in
+    let c = get_within (filter (is_asked_by client) commands) at (omega (arith, many, same, lt)) in
+    let e = item.1 in
+    let m : slice_index_or numbers at d ≡ item.0 =
+    get_or_from_slice_get numbers at n.0 d n.1 ∙ (let f : n.0 ≡ item.0 = omega (arith, e) in f) in
+    (c.0, ap (slice_get commands) m ∙ (item.2 ∙ c.1), c.1)

@@ -2,11 +2,15 @@
 ghost use Rattle.std.specs.Prelude.{◌≡◌, ◌<◌, ◌&&◌, ℕ, IfOk, List, OnOk, length, nat_le, nat_lt};
 ghost use Rattle.std.specs.List.{filter};
 ghost use Rattle.std.specs.List.Sorted.{IsNonDecreasing};
+ghost use Rattle.std.specs.Option.{option_copied};
 ghost use Rattle.col_core.specs.Keeping.{Kept};
 ghost use Rattle.report_text.specs.declared.report.Answer.TheVariants as answers;
 ghost use Rattle.report_text.specs.declared.report.ReplyLine.{ReplyLine};
 ghost use Rattle.lawful_run.specs.Callers.{Caller, caller_of};
+ghost use Rattle.lawful_run.specs.Deeds.{found_by};
 ghost use Rattle.lawful_run.specs.Reads.{kept_after_piece};
+ghost use Rattle.script_text.specs.Commands.{use_of};
+ghost use Rattle.run_law.specs.Asking.{AreFoundOf};
 ghost use Rattle.run_rules.specs.Told.{Step as StepTold, Untold, is_several, kept_after_append, kept_after_read, kept_after_row, kept_pulled, kept_told, stamp_told};
 ghost use Rattle.run_rules.specs.Telling.{low_told, made_between, replies_to};
 ghost use Rattle.run_law.specs.Behind.{Answers, HasSteps, IsCaller, IsUntold};
@@ -20,6 +24,7 @@ ghost use Rattle.run_law.specs.Walking.{CountsBehind, HasFew, IsSeen, IsStepOf, 
 use crate::asked::colours_asked;
 use crate::going_on::events_until;
 use crate::keeping::Keeping;
+use crate::replies::keys_at;
 use crate::subject::Subject;
 use log_node::{At, Id, ListOf, MAX_COLOURS, MAX_REGIONS};
 use report_text::{Answer, KeyAnswer, PointPiece, RaisePiece, SyncPiece};
@@ -50,6 +55,7 @@ impl Keeping {
         ensures { (replies : List ReplyLine) (kept : Kept) → IsCounted replies kept self.now → result.now
             ≡ made_between (log_walked subject.now) (caller_of subject.now.script client) kept region colour place }
     {
+        subject.agrees();
         if region >= MAX_REGIONS || colour >= MAX_COLOURS {
             return &[];
         }
@@ -71,10 +77,7 @@ impl Keeping {
             Use::OfObject {
                 object,
                 read: ReadUse::UsesUp,
-            } => match &subject.replies(client).get(self.read(object)?)?.answer {
-                Answer::GotKeys { keys, .. } => Some(keys),
-                _ => None,
-            },
+            } => keys_at(subject.replies(client), self.read(object)),
             _ => None,
         }
     }
@@ -91,6 +94,7 @@ impl Keeping {
         ensures { (kept : Kept) → IsCounted (replies_to subject.now.report client) kept self.now → IfOk result (λ b. b
             ≡ is_several (caller_of subject.now.script client) kept what.now) }
     {
+        subject.agrees();
         let objects = subject.script().objects.as_slice();
         let found = self.found_of(subject, client, what);
         let asked = colours_asked(alloc, objects, what, found)?;
@@ -149,6 +153,7 @@ impl Keeping {
             → IsCaller subject.now client own caller → HasSteps subject.now client caller kept untold
             → IsCounted replies kept self.old → OnOk result (IsCounted replies (kept_after_row untold caller kept) self.new) }
     {
+        subject.agrees();
         let number = self.ids();
         self.use_id();
         self.use_row();

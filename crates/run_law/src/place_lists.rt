@@ -1,8 +1,9 @@
 // Lists of places, by number.
 ghost use Rattle.std.specs.Prelude.{◌≡◌, ◌==◌, ◌<◌, ◌++◌, ◌∷◌, ℕ, [], IfOk, OnOk, length, if◌then◌else◌};
-ghost use Rattle.run_law.specs.PlaceTables.{places_at};
+ghost use Rattle.run_law.specs.PlaceTables.{AreOfClients, places_at};
 
 use log_node::ListOf;
+use script_text::Command;
 use std::alloc::{AllocError, Global};
 use std::marker::Model;
 
@@ -55,4 +56,19 @@ impl PlaceLists {
         }
         Ok(())
     }
+}
+
+/// The places of commands, by client.
+pub(crate) fn commands_by_client(
+    alloc: Global,
+    clients: usize,
+    commands: &[Command],
+) -> Result<PlaceLists, AllocError>
+    ensures { IfOk result (AreOfClients clients commands.now) }
+{
+    let mut lists = PlaceLists::new(alloc, clients)?;
+    for at in 0..commands.len() {
+        lists.add(commands[at].client, at as u64)?;
+    }
+    Ok(lists)
 }

@@ -32,6 +32,14 @@ pub(crate) struct Printed {
     prints: BTreeSet<Print>,
 }
 
+// How many clients a report has.
+fn client_count(report: &Report) -> u8
+    requires { length report.now.clients ≤ MAX_CLIENTS }
+    ensures { result ≡ length report.now.clients }
+{
+    report.clients.len() as u8
+}
+
 impl Printed {
     /// None yet.
     pub(crate) fn new(alloc: Global) -> Printed
@@ -276,8 +284,9 @@ impl Printed {
         let commands = script.commands.as_slice();
         let both = numbers.len().min(replies.len());
         for at in 0..both {
-            let what = &commands[numbers[at] as usize].what;
-            self.add_answer(client, own, what, &replies[at].answer)?;
+            let command = &commands[numbers[at] as usize];
+            let reply = &replies[at];
+            self.add_answer(client, own, &command.what, &reply.answer)?;
         }
         Ok(())
     }
@@ -295,10 +304,10 @@ impl Printed {
         ensures { IfOk result (ArePrints script.now report.now) }
     {
         let mut printed = Printed::new(alloc);
-        let shown = report.clients.as_slice();
-        for at in 0..shown.len() {
-            let client = at as u8;
-            let replies = shown[at].replies.as_slice();
+        let clients = report.clients.as_slice();
+        for client in 0..client_count(report) {
+            let shown = &clients[client as usize];
+            let replies = shown.replies.as_slice();
             printed.add_client(script, commands.places(client), client, replies)?;
         }
         Ok(printed)

@@ -1,19 +1,20 @@
 // What a walk over a report's commands looks up.
-ghost use Rattle.std.specs.Prelude.{◌≡◌, ◌<◌, ◌≤◌, ◌^◌, IfOk, Some, length, slice_get};
+ghost use Rattle.std.specs.Prelude.{◌≡◌, ◌<◌, ◌≤◌, ◌^◌, IfOk, List, Some, length, slice_get};
 ghost use Rattle.col_core.specs.Keeping.{Kept};
 ghost use Rattle.lawful_run.specs.Callers.{Caller, caller_of, commands_of};
 ghost use Rattle.lawful_run.specs.Reads.{greatest_played};
 ghost use Rattle.run_rules.specs.Told.{stamp_of};
 ghost use Rattle.run_rules.specs.Telling.{replies_to};
-ghost use Rattle.run_law.specs.PlaceTables.{final_of, row_with};
+ghost use Rattle.run_law.specs.PlaceTables.{final_of, is_own_step, numbers_where, row_with};
 ghost use Rattle.run_law.specs.Subjects.{AtColumn, last_between};
 ghost use Rattle.run_law.specs.Walking.{IsStepOf, MayWalk, journal_walked, log_walked, steps_walked};
 ghost use Rattle.col_core.specs.Log.{places_of};
+ghost use Rattle.column_track.specs.Tracks.{Tracked};
 
 use crate::column_places::{ColumnPlaces, places_of_columns};
 use crate::copies::column_place;
 use crate::finals::Finals;
-use crate::place_lists::PlaceLists;
+use crate::place_lists::{PlaceLists, commands_by_client};
 use crate::printed::Printed;
 use col_core::Entry;
 use column_track::Track;
@@ -56,6 +57,32 @@ fn last_stamp(line: &[Key], from: u64, to: u64) -> u64
 }
 
 impl<'r> Subject<'r> {
+    /// What is looked up of a report that keeps the first three rules, by the tracks of its columns.
+    pub fn of(
+        alloc: Global,
+        script: &'r Script,
+        report: &'r Report,
+        tracks: &'r [Track],
+    ) -> Result<Subject<'r>, AllocError>
+        requires { MayWalk script.now report.now tracks.now }
+        ensures { IfOk result (λ s. s ≡ record { script = script.now; report = report.now }) }
+    {
+        let clients = script.shape.homes.len();
+        let commands = commands_by_client(alloc, clients, script.commands.as_slice())?;
+        let places = places_of_columns(alloc, clients, report.columns.as_slice())?;
+        let printed = Printed::of_report(alloc, script, &commands, report)?;
+        let finals = Finals::of_rows(alloc, report.rows.as_slice())?;
+        Ok(Subject {
+            script,
+            report,
+            tracks,
+            commands,
+            places,
+            printed,
+            finals,
+        })
+    }
+
     /// The script.
     pub fn script(&self) -> &'r Script
         ensures { result.now ≡ self.now.script }
@@ -76,6 +103,14 @@ impl<'r> Subject<'r> {
     {
         let _may = &self.finals;
         self.tracks
+    }
+
+    /// Says that the report keeps the first three rules, and how many clients it has.
+    pub fn agrees(&self)
+        ensures may { (tracks : List Tracked) × MayWalk self.now.script self.now.report tracks }
+        ensures clients { length self.now.report.clients ≡ length self.now.script.shape.homes }
+    {
+        let _may = &self.finals;
     }
 
     /// How many clients there are.
@@ -179,6 +214,16 @@ impl<'r> Subject<'r> {
         }
     }
 
+    // The places of the own steps of an id.
+    fn own_steps(&self, region: u8, colour: u8, id: Id) -> &[u64]
+        ensures { result.now ≡ numbers_where (is_own_step id) 0 (journal_walked self.now region colour) }
+    {
+        match self.column(region, colour) {
+            Some(at) => self.places[at].steps.steps(id),
+            None => &[],
+        }
+    }
+
     /// The places of a client's own steps of its id with this number, but for those that replies print.
     pub fn steps(
         &self,
@@ -191,16 +236,14 @@ impl<'r> Subject<'r> {
         requires { client < length self.now.report.clients }
         ensures { IfOk result (λ places. places ≡ steps_walked self.now client region colour number) }
     {
+        let id = Id {
+            client,
+            count: number,
+        };
         let mut places = ListOf::new(alloc);
-        if let Some(at) = self.column(region, colour) {
-            let id = Id {
-                client,
-                count: number,
-            };
-            for place in self.places[at].steps.steps(id) {
-                if !self.printed.has(client, region, colour, *place) {
-                    places.push(*place)?;
-                }
+        for place in self.own_steps(region, colour, id) {
+            if !self.printed.has(client, region, colour, *place) {
+                places.push(*place)?;
             }
         }
         Ok(places)

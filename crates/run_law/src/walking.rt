@@ -6,6 +6,7 @@ ghost use Rattle.run_law.specs.Walking.{DecidesEachStep, GoesOn, HasFew, IsSeen,
 
 use crate::keeping::Keeping;
 use crate::subject::Subject;
+use run_rules::nodes_change_no_step;
 use std::alloc::{AllocError, Global};
 
 /// What a pass asks of each step of each client.
@@ -39,6 +40,7 @@ pub fn walk<C: Check>(
     requires { client < length subject.now.report.clients }
     ensures { IfOk result (WalksTo subject.now client (C.Asks check.now subject.now (caller_of subject.now.script client))) }
 {
+    subject.agrees();
     let mut keeping = Keeping::new(alloc)?;
     for place in 0..subject.count(client) {
         keeping.begin(&subject.command(client, place).what);
@@ -57,6 +59,7 @@ pub fn each_step<C: Check>(
 ) -> Result<bool, AllocError>
     ensures { IfOk result (DecidesEachStep subject.now (C.Asks check.now subject.now)) }
 {
+    nodes_change_no_step();
     for client in 0..subject.clients() {
         if walk(alloc, subject, client, check)?.is_none() {
             return Ok(false);

@@ -1,13 +1,14 @@
 use Rattle.lawful_run.specs.Callers.{caller_of}
-use Rattle.run_law.proofs.NextNodes.{low_objects}
+use Rattle.run_law.proofs.FirstLemmas.{low_objects}
 use Rattle.run_law.proofs.keeping.Keeping.asked.Goals as goal
-use Rattle.std.proofs.Common.{◌∙◌, ap, sym}
+use Rattle.run_law.specs.Asking.{HaveLowColours}
+use Rattle.std.proofs.Common.{◌∙◌, ap, subst, sym}
 use Rattle.script_text.specs.declared.script.Script.{Script}
 
 pub colours_asked-requires : goal.colours_asked-requires
 colours_asked-requires c =
-    low_objects c.args.subject.now.script c.tracks-may.ensures.fitting c.as_slice-objects.result.now
-    (c.as_slice-objects.ensures ∙ ap (λ (s : Script). s.objects) c.script.ensures)
+    subst HaveLowColours (sym (c.as_slice-objects.ensures ∙ ap (λ (s : Script). s.objects) c.script.ensures))
+    (low_objects c.args.subject.now.script c.tracks-may.ensures.fitting)
 
 pub returns : goal.returns
 returns c = λ kept is.
