@@ -1,58 +1,35 @@
 -- What a walk finds of a client's next node.
-use Rattle.std.proofs.Common.{◌≡◌, ◌⊎◌, ◌∙◌, refl, ap, sym, subst, Bool, true, false, ℕ, zero, suc, ◌+◌, ◌<◌, ◌≤◌, List, [], ◌∷◌, ◌++◌, length, map, take, get_or, Option, Some, None, inl, inr, arith, append-nil}
-use Rattle.std.specs.Prelude.{slice_get, Result, Ok, Err, IfOk}
-use Rattle.std.specs.List.{All}
-use Rattle.std.proofs.lemmas.Bool.{cases_Bool, true≢false}
+use Rattle.std.proofs.Common.{◌≡◌, ◌⊎◌, ◌∙◌, refl, ap, sym, subst, Bool, true, false, ℕ, ◌+◌, ◌<◌, List, [], ◌∷◌, ◌++◌, length, map, take, get_or, Option, Some, None, inl, inr, arith, append-nil}
+use Rattle.std.specs.Prelude.{◌==◌, if◌then◌else◌, slice_get}
+use Rattle.std.specs.List.{All, filter}
+use Rattle.std.proofs.lemmas.Bool.{cases_Bool, eq-eqb, eqb-true, true≢false}
 use Rattle.std.proofs.lemmas.Option.{get_or_from_slice_get}
 use Rattle.log_node.specs.declared.ids.Id.{Id}
 use Rattle.log_node.specs.declared.ids.Counts.{Counts}
-use Rattle.log_node.specs.declared.limits.TheConstants.{MAX_COLOURS}
-use Rattle.std.proofs.lemmas.List.{length-map, take_all, take_more}
-use Rattle.std.proofs.lemmas.List.Elements.{All-cons, All-nil, All-weaker}
-use Rattle.std.proofs.lemmas.Option.{slice_get_within}
-use Rattle.std.specs.List.{filter}
-use Rattle.std.specs.Prelude.{◌==◌, if◌then◌else◌}
-use Rattle.std.proofs.lemmas.Bool.{cases_lt, eq-eqb, eqb-true}
-use mathlib.Core.Path.{fun_ext}
-use Rattle.log_node.proofs.CallerLemmas.{get_within, ok_then, same_some}
+use Rattle.std.proofs.lemmas.List.{take_more}
 use Rattle.col_core.proofs.CallerLemmas.{by_test, if_true, if_false}
 use Rattle.col_core.specs.Log.{Log}
-use Rattle.col_core.specs.Keeping.{Kept, nothing_kept}
+use Rattle.col_core.specs.Keeping.{Kept}
 use Rattle.script_text.specs.declared.commands.What.{What}
-use Rattle.script_text.specs.declared.script.Kind.{Kind}
-use Rattle.script_text.specs.declared.script.Kind.TheVariants as kinds
-use Rattle.script_text.specs.declared.script.Object.{Object}
 use Rattle.script_text.specs.declared.script.Script.{Script}
-use Rattle.script_text.specs.Fitting.{IsFitting, IsKindWithin}
-use Rattle.report_text.specs.declared.report.Answer.{Answer}
-use Rattle.report_text.specs.declared.report.Answer.TheVariants as answers
-use Rattle.report_text.specs.declared.report.ClientReport.{ClientReport}
 use Rattle.report_text.specs.declared.report.PointPiece.{PointPiece}
-use Rattle.report_text.specs.declared.report.Report.{Report}
 use Rattle.report_text.specs.declared.report.RowReport.{RowReport}
-use Rattle.lawful_run.specs.Asks.{object_colours}
 use Rattle.lawful_run.specs.Callers.{Caller, caller_of}
 use Rattle.lawful_run.specs.Columns.{IsClientIn}
-use Rattle.run_rules.specs.Rules.{Rule1}
-use Rattle.run_rules.specs.Told.{Step, kept_at, kept_past}
-use Rattle.run_rules.specs.Telling.{account_of, is_in, log_of, no_nodes, replies_to}
-use Rattle.run_law.specs.Asking.{AreLow, HaveLowColours}
-use Rattle.std.specs.Prelude.{◌↔◌}
+use Rattle.run_rules.specs.Telling.{is_in, replies_to}
 use Rattle.log_node.specs.declared.ids.Row.{Row}
 use Rattle.log_node.specs.declared.marks.ColourMark.{ColourMark}
 use Rattle.run_rules.specs.Rules.{EntersAsNode}
 use Rattle.run_rules.specs.Told.{colours_asked}
 use Rattle.run_rules.specs.Telling.{marked_colours}
 use Rattle.run_law.specs.RowPlaces.{place_in, row_at}
-use Rattle.run_law.specs.Fifth.{AreRowIds, AreRowsOf, EntersBeside, EntersItsNodes, EntersNode, EntersUndecided, Finding, HasItsRows, HasNextRow, IsNextRow, IsOfStep, IsPlain, MarksNext, next_id, OfNode, OfPlain, finding_at, row_ids}
+use Rattle.run_law.specs.Fifth.{AreRowIds, AreRowsOf, EntersBeside, Finding, HasNextRow, IsNextRow, MarksNext, next_id, row_ids}
 use Rattle.run_law.specs.Keepings.{Counted, IsCounted}
-use Rattle.run_law.specs.PlaceTables.{places_at, row_with}
-use Rattle.run_law.specs.RowPlaces.{AreRowPlaces}
+use Rattle.run_law.specs.PlaceTables.{places_at}
 use Rattle.run_law.specs.RowsBeside.{is_by, rows_by}
 use Rattle.run_law.specs.Third.{rows_in}
-use Rattle.run_law.specs.Walking.{CountsBehind, GoesOn, Walked, log_walked}
+use Rattle.run_law.specs.Walking.{Walked, log_walked}
 use Rattle.run_law.specs.declared.row_places.RowPlaces.{RowPlaces}
-use Rattle.run_law.proofs.ThirdLemmas.{few_colours}
 use Rattle.col_core.specs.declared.Event.{Event}
 use Rattle.col_core.specs.declared.Event.TheVariants.{Single, Propose, Settle, Raise, Give, Carry, Trim}
 use Rattle.col_core.specs.declared.Entry.{Entry}
@@ -114,14 +91,6 @@ proposes_told own regions history lawful id place e (d, at, t) floor wants b tol
 pub proposes_none : (history : List Entry) (id : Id) → EntersAt history id None → (floor : ℕ) (wants : Counts)
     → ProposesNode id floor wants (proposal id history)
 proposes_none history id fresh floor wants = subst (ProposesNode id floor wants) (sym (not_entered history id fresh)) tt
-
--- STEPS
-
--- what is asked of a step whose answer is none to a decide
-pub plain_same : (P : Kept → Option ℕ → List PointPiece → Type 0) (log : Log) (caller : Caller) (kept : Kept) (what : What)
-    (answer : Answer) → IsPlain answer → OfPlain P caller kept what answer ≡ OfNode P log caller kept what answer
-plain_same P log caller kept what (answers.Decided commits stamp sync read_stamp raises syncs ended) plain = absurd plain
-plain_same P log caller kept what _ plain = refl
 
 -- ROWS OF CLIENTS
 
@@ -213,55 +182,6 @@ module _ (script : Script) (rows : List RowReport) (i : ℕ) (r : RowReport) (lt
       ))))
       ∙ sym (next_ids n is)))
 
--- ALL CLIENTS
-
-module _ (script : Script) (report : Report) (table : RowPlaces) (are : AreRowPlaces report.rows table) where
-  abbrev walked : Walked
-  walked = record { script = script; report = report }
-
-  -- what is looked at of a client
-  pub record IsDone (n : ℕ) : Type 0 where
-    pub steps : All (EntersNode (finding_at table walked) walked (caller_of script n)) ((account_of script report no_nodes).steps n)
-    pub rows : HasItsRows ((account_of script report no_nodes).last n).ids ((account_of script report no_nodes).last n).rows
-        (row_ids script n report.rows)
-
-  same_finding : finding_at table walked ≡ (λ region id. row_with region id report.rows)
-  same_finding = fun_ext (λ region. fun_ext (λ id. are region id))
-
-  client_at : (n : ℕ) → n < length report.clients → (c : ClientReport) × (slice_get report.clients n ≡ Some c)
-  client_at n lt = get_within report.clients n lt
-
-  pub done_of : EntersItsNodes script report → (n : ℕ) → n < length report.clients → IsDone n
-  done_of is n lt =
-      let c = client_at n lt in record {
-        steps = subst (λ (f : Finding). All (EntersNode f walked (caller_of script n)) ((account_of script report no_nodes).steps n))
-            (sym same_finding) (is.steps n c.0 c.1);
-        rows = is.rows n c.0 c.1;
-      }
-
-  pub all_done : ((n : ℕ) → n < length report.clients → IsDone n) → EntersItsNodes script report
-  all_done done = record {
-    steps = λ n c at. subst
-        (λ (f : Finding). All (EntersNode f walked (caller_of script n)) ((account_of script report no_nodes).steps n))
-        same_finding (done n (slice_get_within report.clients n c at)).steps;
-    rows = λ n c at. (done n (slice_get_within report.clients n c at)).rows;
-  }
-
-  pub done_more : (n : ℕ) → ((k : ℕ) → k < n → IsDone k) → IsDone n → (k : ℕ) → k < n + 1 → IsDone k
-  done_more n so here k lt = by (cases_lt k n) where
-    by : (k < n) ⊎ (n ≤ k) → IsDone k
-    by (inl less) = so k less
-    by (inr ge) = subst IsDone (let e : n ≡ k = omega (arith, lt, ge) in e) here
-
--- the rows that a client has are those of what it keeps in the end
-pub rows_counted : (script : Script) (report : Report) (n : ℕ) (kept : Kept) (counted : Counted) (ids : List ℕ)
-    → IsCounted (replies_to report n) kept counted → ids ≡ row_ids script n report.rows → (b : Bool)
-    → Tells b (HasItsRows counted.ids counted.rows ids) → Tells b (HasItsRows kept.ids kept.rows (row_ids script n report.rows))
-rows_counted script report n kept counted ids is same b told =
-    subst (λ (l : List ℕ). Tells b (HasItsRows kept.ids kept.rows l)) same
-    (subst (λ (k : ℕ). Tells b (HasItsRows kept.ids k ids)) is.rows
-    (subst (λ (k : ℕ). Tells b (HasItsRows k counted.rows ids)) is.ids told))
-
 -- THE NEXT ROW
 
 pub next_row_told : (colours : ℕ) (log : Log) (caller : Caller) (kept : Kept) (asked : List ℕ) (r : RowReport)
@@ -315,29 +235,3 @@ pub beside_told : (find : Finding) (colours : ℕ) (log : Log) (caller : Caller)
     → Tells b (EntersBeside find colours log caller what kept row points)
 beside_told find colours log caller what kept row points enters true next = record { enters = enters; beside = next }
 beside_told find colours log caller what kept row points enters false fails = λ is. fails is.beside
-
--- GOING ON
-
-module _ (find : Finding) (walked : Walked) (client : ℕ) (what : What) (answer : Answer) (step : Step)
-    (of : IsOfStep step what answer) where
-  abbrev who : Caller
-  who = caller_of walked.script client
-
-  abbrev Asked : What → Kept → Option ℕ → List PointPiece → Type 0
-  Asked w = EntersBeside find walked.script.shape.colours (log_walked walked) who w
-
-  asks_same : IsPlain answer → EntersUndecided find walked client (kept_at step) what answer ≡ EntersNode find walked who step
-  asks_same plain =
-      ap (λ (w : What). OfPlain (Asked w) who (kept_at step) w answer) (sym of.0)
-      ∙ (ap (OfPlain (Asked step.command.what) who (kept_at step) step.command.what) (sym of.1)
-      ∙ plain_same (Asked step.command.what) (log_walked walked) who (kept_at step) step.command.what step.reply.answer
-      (subst IsPlain (sym of.1) plain))
-
-  pub plain_told : IsPlain answer → (b : Bool) → Tells b (EntersUndecided find walked client (kept_at step) what answer)
-      → Tells b (EntersNode find walked who step)
-  plain_told plain b told = subst (Tells b) (asks_same plain) told
-
--- what is told of one of two that say the same is told of the other
-pub told_both : {P Q : Type 0} → P ↔ Q → (b : Bool) → Tells b P → Tells b Q
-told_both same true p = same.0 p
-told_both same false f = λ q. f (same.1 q)

@@ -115,25 +115,10 @@ EntersNode find walked caller step =
     OfNode (EntersBeside find walked.script.shape.colours (log_walked walked) caller step.command.what) (log_walked walked) caller
     (kept_at step) step.command.what step.reply.answer
 
--- the same, where the answer is none to a decide
-abbrev pub EntersUndecided : Finding → Walked → ℕ → Kept → What → Answer → Type 0
-EntersUndecided find walked client kept what answer =
-    OfPlain (EntersBeside find walked.script.shape.colours (log_walked walked) (caller_of walked.script client) what)
-    (caller_of walked.script client) kept what answer
-
 -- a decision's node, where it stands
 abbrev pub EntersAtEnd : Finding → Walked → ℕ → Kept → What → Ended → Type 0
 EntersAtEnd find walked client kept what ended =
     OfEnd (EntersBeside find walked.script.shape.colours (log_walked walked) (caller_of walked.script client) what) kept ended
-
--- the answer is none to a decide
-abbrev pub IsPlain : Answer → Type 0
-IsPlain (answers.Decided commits stamp sync read_stamp raises syncs ended) = ⊥
-IsPlain _ = Unit {0}
-
--- the step is of such a command, with this answer
-abbrev pub IsOfStep : Step → What → Answer → Type 0
-IsOfStep step what answer = (step.command.what ≡ what) × (step.reply.answer ≡ answer)
 
 -- BY TABLES
 

@@ -1,23 +1,17 @@
 // The fifth rule: the nodes of commands, their events and their rows.
-ghost use Rattle.std.specs.Prelude.{◌≡◌, ◌<◌, ◌≤◌, None, Some, IfOk, OnOk, length, slice_get};
+ghost use Rattle.std.specs.Prelude.{◌≡◌, ◌<◌, IfOk};
 ghost use Rattle.std.specs.List.{All};
-ghost use Rattle.log_node.specs.declared.ids.Id.{Id as NodeId};
-ghost use Rattle.col_core.specs.declared.Entry.{Entry as EntryMade};
 ghost use Rattle.col_core.specs.declared.Event.TheVariants as events;
 ghost use Rattle.col_core.specs.Keeping.{Kept};
-ghost use Rattle.script_text.specs.Fitting.{IsFitting};
 ghost use Rattle.lawful_run.specs.Callers.{caller_of};
 ghost use Rattle.column_track.specs.Tracks.{Tells};
-ghost use Rattle.run_rules.specs.Told.{Step as StepTold, colours_asked};
-ghost use Rattle.run_rules.specs.Telling.{IsWellFormed, account_of, marked_colours, no_nodes, replies_to};
+ghost use Rattle.run_rules.specs.Told.{colours_asked};
+ghost use Rattle.run_rules.specs.Telling.{marked_colours, replies_to};
 ghost use Rattle.run_rules.specs.Rules.{EntersAsNode};
-ghost use Rattle.run_rules.specs.Nodes.{nodes_told};
-ghost use Rattle.run_rules.specs.Keeping.{Keeps, RulesTo};
-ghost use Rattle.run_law.specs.Fifth.{AreRowIds, AreRowsOf, EntersAtEnd, EntersBeside, EntersItsNodes, EntersNode, EntersUndecided, FencesNode, FifthIsEntering, HasItsRows, HasNextRow, IsNextRow, IsOfStep, IsPlain, MarksNext, ProposesNode, ProposesSo, finding_at};
+ghost use Rattle.run_law.specs.Fifth.{AreRowIds, AreRowsOf, EntersAtEnd, EntersBeside, FencesNode, HasItsRows, IsNextRow, MarksNext, ProposesNode, ProposesSo, finding_at};
 ghost use Rattle.run_law.specs.Keepings.{IsCounted};
 ghost use Rattle.run_law.specs.Proposals.{proposal};
-ghost use Rattle.run_law.specs.RowPlaces.{place_in, row_at};
-ghost use Rattle.run_law.specs.Walking.{CountsBehind, GoesOn, HasFew, IsSeen, IsStepOf, log_walked};
+ghost use Rattle.run_law.specs.Walking.{log_walked};
 
 use crate::asked::colours_asked;
 use crate::going_on::events_until;
@@ -26,25 +20,12 @@ use crate::place_lists::PlaceLists;
 use crate::row_places::RowPlaces;
 use crate::rows::{is_at_end, is_client_in};
 use crate::subject::Subject;
-use crate::walking::{Check, walk};
 use col_core::{Entry, Event};
 use column_track::Track;
 use log_node::{ColourList, ColourMark, Counts, Id, Mark, Why};
-use report_text::{Answer, Ended, PointPiece, RowReport};
-use run_rules::{
-    computed_account_agrees, later_rules_decided, nodes_are_told, nodes_change_no_step,
-};
+use report_text::{Ended, PointPiece, RowReport};
 use script_text::{Script, What};
 use std::alloc::{AllocError, Global};
-
-/// A report that keeps the first four rules enters the nodes of its commands where the first five hold at the account with these.
-pub fn fifth_is_entering()
-    ensures { FifthIsEntering }
-{
-    nodes_are_told();
-    nodes_change_no_step();
-    computed_account_agrees();
-}
 
 // EVENTS
 
@@ -323,72 +304,6 @@ impl RowPlaces {
         self.has_next_row(alloc, subject, client, own, keeping, what)
     }
 
-    // The same for what an answer names, where it is none to a decide.
-    fn enters(
-        &self,
-        alloc: Global,
-        subject: &Subject<'_>,
-        client: u8,
-        own: u8,
-        keeping: &Keeping,
-        what: &What,
-        answer: &Answer,
-    ) -> Result<bool, AllocError>
-        requires client { client < length subject.now.report.clients }
-        requires own { own ≡ (caller_of subject.now.script client).own }
-        requires within { own < subject.now.script.shape.regions }
-        ensures { (kept : Kept) → IsCounted (replies_to subject.now.report client) kept keeping.now → IfOk result (λ b. Tells b
-            (EntersUndecided (finding_at self.now subject.now) subject.now client kept what.now answer.now)) }
-    {
-        match answer {
-            Answer::Stood { row, points, .. } => {
-                let points = points.as_slice();
-                self.enters_beside(alloc, subject, client, own, keeping, what, *row, points)
-            }
-            Answer::Ruled { row, points, .. } | Answer::Changed { row, points, .. } => {
-                let points = points.as_slice();
-                self.enters_beside(alloc, subject, client, own, keeping, what, *row, points)
-            }
-            Answer::Took { point, .. } => {
-                let points = std::slice::from_ref(point);
-                self.enters_beside(alloc, subject, client, own, keeping, what, None, points)
-            }
-            Answer::StampEnd { .. } => {
-                if !keeping.is_several(alloc, subject, client, what)? {
-                    return Ok(true);
-                }
-                self.enters_beside(alloc, subject, client, own, keeping, what, None, &[])
-            }
-            Answer::Stopped { steps } => {
-                if *steps == 0 {
-                    return Ok(true);
-                }
-                self.enters_beside(alloc, subject, client, own, keeping, what, None, &[])
-            }
-            Answer::Full { .. }
-            | Answer::Synced { .. }
-            | Answer::Scanned { .. }
-            | Answer::Pulled { .. }
-            | Answer::SameRegion
-            | Answer::Based { .. }
-            | Answer::Got { .. }
-            | Answer::GotMany { .. }
-            | Answer::GotKeys { .. }
-            | Answer::Listed { .. }
-            | Answer::Undecided { .. }
-            | Answer::Decided { .. }
-            | Answer::Moved { .. }
-            | Answer::NoTx
-            | Answer::UnreadTrimmed { .. }
-            | Answer::UnreadNoMemory { .. }
-            | Answer::Trimmed { .. }
-            | Answer::NotHome { .. }
-            | Answer::NoMemory => Ok(true),
-        }
-    }
-}
-
-impl RowPlaces {
     // The same for a decision's node, where it stands.
     fn ends(
         &self,
@@ -412,70 +327,6 @@ impl RowPlaces {
             }
             Ended::StampEnd { .. } | Ended::NoMemory => Ok(true),
         }
-    }
-
-    // Goes on behind a step whose answer is none to a decide.
-    fn goes_plain(
-        &self,
-        alloc: Global,
-        subject: &Subject<'_>,
-        client: u8,
-        place: usize,
-        keeping: &mut Keeping,
-        what: &What,
-        answer: &Answer,
-    ) -> Result<bool, AllocError>
-        requires there { IsStepOf subject.now client place }
-        requires few { HasFew keeping.old }
-        requires plain { IsPlain answer.now }
-        ensures { (step : StepTold) → IsSeen subject.now client place keeping.old step → IsOfStep step what.now answer.now
-            → IfOk result (GoesOn subject.now client step
-            (EntersNode (finding_at self.now subject.now) subject.now (caller_of subject.now.script client) step) keeping.new) }
-    {
-        let own = subject.own(client);
-        if !self.enters(alloc, subject, client, own, keeping, what, answer)? {
-            return Ok(false);
-        }
-        keeping.go_on(alloc, subject, client, place)?;
-        Ok(true)
-    }
-}
-
-impl Check for RowPlaces {
-    ghost use Rattle.run_law.specs.Fifth.{EntersNode, finding_at};
-
-    ghost Asks = { λ table walked caller step. EntersNode (finding_at table walked) walked caller step };
-
-    fn go_on(
-        &self,
-        alloc: Global,
-        subject: &Subject<'_>,
-        client: u8,
-        place: usize,
-        keeping: &mut Keeping,
-    ) -> Result<bool, AllocError> {
-        let what = &subject.command(client, place).what;
-        let answer = &subject.reply(client, place).answer;
-        let Answer::Decided {
-            sync,
-            read_stamp,
-            raises,
-            syncs,
-            ended,
-            ..
-        } = answer
-        else {
-            return self.goes_plain(alloc, subject, client, place, keeping, what, answer);
-        };
-        let own = subject.own(client);
-        keeping.play(subject, own, *sync);
-        keeping.read_at(subject, own, *read_stamp, raises.as_slice(), syncs.as_slice())?;
-        if !self.ends(alloc, subject, client, own, keeping, what, *ended)? {
-            return Ok(false);
-        }
-        keeping.ended(client, own, *ended)?;
-        keeping.end(what);
-        Ok(true)
     }
 }
 
@@ -521,38 +372,4 @@ fn has_its_rows(keeping: &Keeping, ids: &[u64]) -> bool
         return false;
     }
     are_below(ids, keeping.ids())
-}
-
-// Whether a report enters the nodes of its commands, and has rows for these alone.
-fn enters_nodes(alloc: Global, subject: &Subject<'_>) -> Result<bool, AllocError>
-    ensures { IfOk result (λ b. Tells b (EntersItsNodes subject.now.script subject.now.report)) }
-{
-    let _may = subject.tracks();
-    let rows = subject.report().rows.as_slice();
-    let places = RowPlaces::of_rows(alloc, rows)?;
-    let ids = row_ids(alloc, subject.script(), rows)?;
-    for client in 0..subject.clients() {
-        let Some(keeping) = walk(alloc, subject, client, &places)? else {
-            return Ok(false);
-        };
-        if !has_its_rows(&keeping, ids.places(client)) {
-            return Ok(false);
-        }
-    }
-    Ok(true)
-}
-
-/// Whether a report that keeps the first four rules keeps the fifth: each id is that of a command's node, with its client's floor
-/// and wants, and rows are those of commands.
-pub fn keeps_fifth(alloc: Global, subject: &Subject<'_>) -> Result<bool, AllocError>
-    requires fitting { IsFitting subject.now.script }
-    requires formed { IsWellFormed subject.now.script subject.now.report }
-    requires rules { RulesTo subject.now.script subject.now.report (account_of subject.now.script subject.now.report no_nodes) 4 }
-    ensures rules { IfOk result (λ b. Tells b (RulesTo subject.now.script subject.now.report
-        (account_of subject.now.script subject.now.report (nodes_told subject.now.script subject.now.report)) 5)) }
-    ensures keeps { IfOk result (λ b. Tells b (Keeps subject.now.script subject.now.report 5)) }
-{
-    fifth_is_entering();
-    later_rules_decided();
-    enters_nodes(alloc, subject)
 }

@@ -1,5 +1,5 @@
 use Rattle.run_law.proofs.FifthLaws.{fifth_is_entering}
-use Rattle.run_law.proofs.fifth.fifth_is_entering.Goals as goal
+use Rattle.run_law.proofs.laws.fifth_is_entering.Goals as goal
 
 pub returns : goal.returns
 returns c =
