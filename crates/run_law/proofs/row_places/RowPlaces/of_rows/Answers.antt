@@ -11,10 +11,11 @@ loop-at-preserved c =
     let at = c.loop-at.at - 1 in
     let low = c.loop-at.invariant.0 in
     let more = c.loop-at-test.true in
-    let here : at + 1 ≡ c.loop-at.at = omega (arith, more) in
-    (omega (arith, low),
-    place_more rows at c.index-rows-at.result c.loop-at.places c.put.new.self (omega (arith, low, more)) c.index-rows-at.is
-    c.in_ok-put.ensures (subst (λ (n : ℕ). AreFrom rows n c.loop-at.places) (sym here) c.loop-at.invariant.1))
+    let here : at + 1 ≡ c.loop-at.at = omega (arith, more) in (
+      omega (arith, low),
+      place_more rows at c.index-rows-at.result c.loop-at.places c.put.new.self (omega (arith, low, more)) c.index-rows-at.is
+          c.in_ok-put.ensures (subst (λ (n : ℕ). AreFrom rows n c.loop-at.places) (sym here) c.loop-at.invariant.1),
+    )
 
 pub returns : goal.returns
 returns c =
