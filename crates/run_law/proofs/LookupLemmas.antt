@@ -12,20 +12,21 @@ use Rattle.log_node.proofs.CallerLemmas.{same_id-is}
 use Rattle.col_core.specs.declared.Event.{Event}
 use Rattle.col_core.specs.declared.Event.TheVariants.{Single, Propose, Settle, Raise, Give, Carry, Trim}
 use Rattle.col_core.specs.declared.Entry.{Entry}
-use Rattle.col_core.specs.Keeping.{Kept, seen_past}
+use Rattle.col_core.specs.Keeping.{Kept, seen_past, with_floor}
 use Rattle.col_core.specs.Log.{is_own, places_from, places_of}
 use Rattle.col_core.specs.Rows.{BegunRow}
 use Rattle.col_core.proofs.CallerLemmas.{if_false, if_true}
 use Rattle.report_text.specs.declared.report.PointPiece.{PointPiece}
 use Rattle.report_text.specs.declared.report.RowReport.{RowReport}
 use Rattle.lawful_run.specs.Callers.{Caller}
-use Rattle.run_rules.specs.Told.{last_of, stamp_told}
+use Rattle.lawful_run.specs.Appends.{kept_after_points}
+use Rattle.run_rules.specs.Told.{Untold, kept_after_append, kept_after_row, last_of, stamp_told}
 use Rattle.run_rules.specs.Telling.{is_among, is_in, is_step_at, is_step_of, journal_among, made_between, no_nodes, row_of, step_places}
 use Rattle.run_law.specs.PlaceTables.{final_of, is_own_step, numbers_where, row_with, same_row}
 use Rattle.column_track.specs.Tracks.{Tracked}
 use Rattle.run_law.specs.Behind.{IsCaller}
 use Rattle.run_law.specs.Walking.{MayWalk, Walked, journal_walked, log_walked, places_printed, steps_walked}
-use Rattle.run_law.proofs.FirstLemmas.{few_colours}
+use Rattle.run_law.proofs.ThirdLemmas.{few_colours}
 use Rattle.run_law.proofs.PrintLemmas.{flip}
 use Rattle.run_law.proofs.SubjectLemmas.{column_none, few_regions}
 
@@ -255,3 +256,12 @@ stamp_row walked client own ids number caller kept (Some n) points is same there
     ∙ (ap (λ (i : Id). final_number (last_of (find (λ (r : BegunRow). same_id i r.node.id) ((log_walked walked).rows own)))) id_is
     ∙ ap (λ (o : ℕ). final_number (last_of (find (λ (r : BegunRow).
     same_id (record { client = caller.client; count = kept.ids }) r.node.id) ((log_walked walked).rows o)))) is.own_is))
+
+-- what is kept behind an append on a row
+pub row_appended : (untold : Untold) (caller : Caller) (kept : Kept) (own stamp : ℕ) (row : Option ℕ) (points : List PointPiece)
+    → own ≡ caller.own → is_some row ≡ true
+    → kept_after_row untold caller (with_floor (kept_after_points kept own points) stamp)
+    ≡ kept_after_append untold caller kept stamp row points
+row_appended untold caller kept own stamp None points is there = absurd (true≢false (sym there))
+row_appended untold caller kept own stamp (Some n) points is there =
+    ap (λ (o : ℕ). kept_after_row untold caller (with_floor (kept_after_points kept o points) stamp)) is
