@@ -5,7 +5,7 @@ use Rattle.std.specs.List.{filter, find}
 use Rattle.std.specs.List.Sorted.{IsNonDecreasing}
 use Rattle.std.proofs.lemmas.Bool.{cases_Bool, and_from, and_left, and_right, eq-eqb, le-leb, lt-leb, ltb-false, ltb-true, true≢false}
 use Rattle.log_node.specs.declared.ids.Id.{Id}
-use Rattle.log_node.specs.declared.node.Node.{Node}
+use Rattle.log_node.specs.declared.limits.TheConstants.{MAX_COLOURS, MAX_REGIONS}
 use Rattle.log_node.specs.Order.{same_id}
 use Rattle.log_node.specs.Outcomes.{final_number}
 use Rattle.log_node.proofs.CallerLemmas.{same_id-is}
@@ -25,7 +25,7 @@ use Rattle.run_law.specs.PlaceTables.{final_of, is_own_step, numbers_where, row_
 use Rattle.column_track.specs.Tracks.{Tracked}
 use Rattle.run_law.specs.Behind.{IsCaller}
 use Rattle.run_law.specs.Walking.{MayWalk, Walked, journal_walked, log_walked, places_printed, steps_walked}
-use Rattle.run_law.proofs.FirstLemmas.{few_colours}
+use Rattle.run_law.proofs.ThirdLemmas.{few_colours}
 use Rattle.run_law.proofs.PrintLemmas.{flip}
 use Rattle.run_law.proofs.SubjectLemmas.{column_none, few_regions}
 
@@ -198,16 +198,16 @@ between_is xs from to start end most is low high under over before behind =
 
 -- a column that no log can have has no journal
 pub no_column : (walked : Walked) (tracks : List Tracked) (may : MayWalk walked.script walked.report tracks) (region colour : ℕ)
-    → (4 ≤ region) ⊎ (64 ≤ colour) → journal_walked walked region colour ≡ []
+    → (MAX_REGIONS ≤ region) ⊎ (MAX_COLOURS ≤ colour) → journal_walked walked region colour ≡ []
 no_column walked tracks may region colour beyond =
     column_none walked.script walked.report tracks may region colour (outside beyond) where
-  outside : (4 ≤ region) ⊎ (64 ≤ colour) → (walked.script.shape.regions ≤ region) ⊎ (walked.script.shape.colours ≤ colour)
+  outside : (MAX_REGIONS ≤ region) ⊎ (MAX_COLOURS ≤ colour) → (walked.script.shape.regions ≤ region) ⊎ (walked.script.shape.colours ≤ colour)
   outside (inl ge) = let few = few_regions walked.script may.fitting in inl (omega (arith, ge, few))
   outside (inr ge) = let few = few_colours walked.script may.fitting in inr (omega (arith, ge, few))
 
 -- nor is anything made in it
 pub none_between : (walked : Walked) (tracks : List Tracked) (may : MayWalk walked.script walked.report tracks) (caller : Caller)
-    (kept : Kept) (region colour place : ℕ) → (4 ≤ region) ⊎ (64 ≤ colour)
+    (kept : Kept) (region colour place : ℕ) → (MAX_REGIONS ≤ region) ⊎ (MAX_COLOURS ≤ colour)
     → [] ≡ made_between (log_walked walked) caller kept region colour place
 none_between walked tracks may caller kept region colour place beyond =
     sym (ap (λ (h : List Entry). filter (λ p. nat_le (seen_past 0 (kept.made region colour)) p && nat_lt p place) (places_of caller.client h))
@@ -223,19 +223,16 @@ row_final histories own id [] = refl
 row_final histories own id (r ∷ rs) =
     ap (λ (b : Bool). final_of (cond (b && same_id id r.id) (Some r) (row_with own id rs))) (flip own r.region)
     ∙ by (r.region == own) where
-  abbrev test : BegunRow → Bool
-  test s = same_id id s.node.id
-
-  rest : final_of (row_with own id rs) ≡ final_number (last_of (find test (map (row_of histories no_nodes) (filter (is_in own) rs))))
+  rest : final_of (row_with own id rs) ≡ final_number (last_of (find (λ (s : BegunRow). same_id id s.node.id) (map (row_of histories no_nodes) (filter (is_in own) rs))))
   rest = row_final histories own id rs
 
   step : (b : Bool) → final_of (cond b (Some r) (row_with own id rs)) ≡ final_number (last_of
-      (cond b (Some (row_of histories no_nodes r)) (find test (map (row_of histories no_nodes) (filter (is_in own) rs)))))
+      (cond b (Some (row_of histories no_nodes r)) (find (λ (s : BegunRow). same_id id s.node.id) (map (row_of histories no_nodes) (filter (is_in own) rs)))))
   step true = refl
   step false = rest
 
   by : (a : Bool) → final_of (cond (a && same_id id r.id) (Some r) (row_with own id rs))
-      ≡ final_number (last_of (find test (map (row_of histories no_nodes) (cond a (r ∷ filter (is_in own) rs) (filter (is_in own) rs)))))
+      ≡ final_number (last_of (find (λ (s : BegunRow). same_id id s.node.id) (map (row_of histories no_nodes) (cond a (r ∷ filter (is_in own) rs) (filter (is_in own) rs)))))
   by false = rest
   by true = step (same_id id r.id)
 

@@ -103,29 +103,26 @@ module _ {A : Type 0} (f : ℕ → ℕ → A) (g : A → List ℕ → A) (nothin
   grown_next : (n r c : ℕ) → updated_at (grown (below places n)) own n (g (grown (below places n) own n) (places n)) r c
       ≡ grown (below places (n + 1)) r c
   grown_next n r c = by (cases_Bool (r == own)) (cases_Bool (c == n)) where
-    abbrev more : A
-    more = g (grown (below places n) own n) (places n)
-
-    more_is : more ≡ g (f own n) (places n)
+    more_is : g (grown (below places n) own n) (places n) ≡ g (f own n) (places n)
     more_is =
         ap (λ (a : A). g a (places n)) (own_at (below places n) own n (eq-eqb own own refl)
         ∙ (ap (g (f own n)) (is_not_below places n n (omega arith)) ∙ nothing (f own n)))
 
     by : ((r == own) ≡ true) ⊎ ((r == own) ≡ false) → ((c == n) ≡ true) ⊎ ((c == n) ≡ false)
-        → updated_at (grown (below places n)) own n more r c ≡ grown (below places (n + 1)) r c
+        → updated_at (grown (below places n)) own n (g (grown (below places n) own n) (places n)) r c ≡ grown (below places (n + 1)) r c
     by (inr no) d =
-        ap (λ (b : Bool). (cond {A = ℕ → A} b (updated (grown (below places n) own) n more) (grown (below places n) r)) c) no
+        ap (λ (b : Bool). (cond {A = ℕ → A} b (updated (grown (below places n) own) n (g (grown (below places n) own n) (places n))) (grown (below places n) r)) c) no
         ∙ (other_at (below places n) r c no ∙ sym (other_at (below places (n + 1)) r c no))
     by (inl t) (inl s) =
-        ap (λ (b : Bool). (cond {A = ℕ → A} b (updated (grown (below places n) own) n more) (grown (below places n) r)) c) t
-        ∙ (ap (λ (b : Bool). cond b more (grown (below places n) own c)) s
+        ap (λ (b : Bool). (cond {A = ℕ → A} b (updated (grown (below places n) own) n (g (grown (below places n) own n) (places n))) (grown (below places n) r)) c) t
+        ∙ (ap (λ (b : Bool). cond b (g (grown (below places n) own n) (places n)) (grown (below places n) own c)) s
         ∙ (more_is
         ∙ (ap (λ (k : ℕ). g (f own k) (places k)) (sym (eqb-true c n s))
         ∙ (ap (g (f own c)) (sym (is_below places (n + 1) c (let e = eqb-true c n s in omega (arith, e))))
         ∙ sym (own_at (below places (n + 1)) r c t)))))
     by (inl t) (inr no) =
-        ap (λ (b : Bool). (cond {A = ℕ → A} b (updated (grown (below places n) own) n more) (grown (below places n) r)) c) t
-        ∙ (ap (λ (b : Bool). cond b more (grown (below places n) own c)) no
+        ap (λ (b : Bool). (cond {A = ℕ → A} b (updated (grown (below places n) own) n (g (grown (below places n) own n) (places n))) (grown (below places n) r)) c) t
+        ∙ (ap (λ (b : Bool). cond b (g (grown (below places n) own n) (places n)) (grown (below places n) own c)) no
         ∙ (own_at (below places n) own c (eq-eqb own own refl)
         ∙ (ap (g (f own c)) (below_other places n c no) ∙ sym (own_at (below places (n + 1)) r c t))))
 
