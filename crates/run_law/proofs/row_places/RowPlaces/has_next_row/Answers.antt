@@ -11,5 +11,5 @@ returns c = λ kept is.
     (row_told c.args.self.now c.args.subject.now c.args.client c.args.own c.next_id.result c.place.result c.args.what.now kept
     c.args.keeping.now c.requires.own c.next_id.ensures is c.place.ensures c.in-Some.place c.in-Some.is c.in-Some-get.row.now
     (subst (λ (r : Report). slice_get r.rows c.in-Some.place ≡ Some c.in-Some-get.row.now) c.report.ensures (sym c.in-Some-get.ensures))
-    c.as_slice.result.now (c.as_slice.ensures ∙ (c.asked-2.view_is ∙ c.in_ok-asked.ensures kept is)))
+    c.as_slice.result.now (c.as_slice.ensures ∙ c.in_ok-asked.ensures kept is))
     (c.is_next_row.ensures kept is)
