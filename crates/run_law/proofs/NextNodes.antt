@@ -1,6 +1,6 @@
 -- What a walk finds of a client's next node.
 use Rattle.std.proofs.Common.{◌≡◌, ◌⊎◌, ◌∙◌, refl, ap, sym, subst, Bool, true, false, ℕ, ◌+◌, ◌<◌, List, [], ◌∷◌, ◌++◌, length, map, take, get_or, Option, Some, None, inl, inr, arith, append-nil}
-use Rattle.std.specs.Prelude.{◌==◌, if◌then◌else◌, slice_get}
+use Rattle.std.specs.Prelude.{◌==◌, if◌then◌else◌}
 use Rattle.std.specs.List.{All, filter}
 use Rattle.std.proofs.lemmas.Bool.{cases_Bool, eq-eqb, eqb-true, true≢false}
 use Rattle.std.proofs.lemmas.Option.{get_or_from_slice_get}
@@ -10,26 +10,18 @@ use Rattle.std.proofs.lemmas.List.{take_more}
 use Rattle.col_core.proofs.CallerLemmas.{by_test, if_true, if_false}
 use Rattle.col_core.specs.Log.{Log}
 use Rattle.col_core.specs.Keeping.{Kept}
-use Rattle.script_text.specs.declared.commands.What.{What}
 use Rattle.script_text.specs.declared.script.Script.{Script}
-use Rattle.report_text.specs.declared.report.PointPiece.{PointPiece}
 use Rattle.report_text.specs.declared.report.RowReport.{RowReport}
 use Rattle.lawful_run.specs.Callers.{Caller, caller_of}
 use Rattle.lawful_run.specs.Columns.{IsClientIn}
-use Rattle.run_rules.specs.Telling.{is_in, replies_to}
+use Rattle.run_rules.specs.Telling.{is_in}
 use Rattle.log_node.specs.declared.ids.Row.{Row}
 use Rattle.log_node.specs.declared.marks.ColourMark.{ColourMark}
-use Rattle.run_rules.specs.Rules.{EntersAsNode}
-use Rattle.run_rules.specs.Told.{colours_asked}
 use Rattle.run_rules.specs.Telling.{marked_colours}
-use Rattle.run_law.specs.RowPlaces.{place_in, row_at}
-use Rattle.run_law.specs.Fifth.{AreRowIds, AreRowsOf, EntersBeside, Finding, HasNextRow, IsNextRow, MarksNext, next_id, row_ids}
-use Rattle.run_law.specs.Keepings.{Counted, IsCounted}
+use Rattle.run_law.specs.Fifth.{AreRowIds, IsNextRow, MarksNext, row_ids}
 use Rattle.run_law.specs.PlaceTables.{places_at}
 use Rattle.run_law.specs.RowsBeside.{is_by, rows_by}
 use Rattle.run_law.specs.Third.{rows_in}
-use Rattle.run_law.specs.Walking.{Walked, log_walked}
-use Rattle.run_law.specs.declared.row_places.RowPlaces.{RowPlaces}
 use Rattle.col_core.specs.declared.Event.{Event}
 use Rattle.col_core.specs.declared.Event.TheVariants.{Single, Propose, Settle, Raise, Give, Carry, Trim}
 use Rattle.col_core.specs.declared.Entry.{Entry}
@@ -196,42 +188,3 @@ next_row_told colours log caller kept asked r marks of number are same true all 
 }
 next_row_told colours log caller kept asked r marks of number are same false fails = λ is.
     fails (subst (All (MarksNext colours log caller kept)) (sym same) is.marks_are)
-
-module _ (table : RowPlaces) (walked : Walked) (client own : ℕ) (id : Id) (place : Option ℕ) (what : What) (kept : Kept)
-    (counted : Counted) (own_is : own ≡ (caller_of walked.script client).own) (id_is : id ≡ record { client = client; count = counted.ids })
-    (is : IsCounted (replies_to walked.report client) kept counted) (place_is : place ≡ place_in table own id) where
-  same_place : place ≡ place_in table (caller_of walked.script client).own (next_id (caller_of walked.script client) kept)
-  same_place =
-      place_is
-      ∙ (ap (λ (r : ℕ). place_in table r id) own_is
-      ∙ (ap (place_in table (caller_of walked.script client).own) id_is
-      ∙ ap (λ (n : ℕ). place_in table (caller_of walked.script client).own (record { client = client; count = n })) is.ids))
-
-  abbrev Next : Option RowReport → Type 0
-  Next = HasNextRow walked.script.shape.colours (log_walked walked) (caller_of walked.script client) kept
-      (colours_asked (caller_of walked.script client) kept what)
-
-  pub row_none : place ≡ None → AreRowsOf table walked client kept what
-  row_none none =
-      subst (λ (o : Option ℕ). Next (row_at walked.report.rows o)) (sym none ∙ same_place) tt
-
-  pub row_past : (at : ℕ) → place ≡ Some at → slice_get walked.report.rows at ≡ None → AreRowsOf table walked client kept what
-  row_past at some none =
-      subst (λ (o : Option ℕ). Next (row_at walked.report.rows o)) (sym some ∙ same_place) (subst Next (sym none) tt)
-
-  pub row_told : (at : ℕ) → place ≡ Some at → (r : RowReport) → slice_get walked.report.rows at ≡ Some r → (asked : List ℕ)
-      → asked ≡ colours_asked (caller_of walked.script client) kept what → (b : Bool)
-      → Tells b (IsNextRow walked.script.shape.colours (log_walked walked) (caller_of walked.script client) kept asked r)
-      → Tells b (AreRowsOf table walked client kept what)
-  row_told at some r there asked are b told =
-      subst (λ (o : Option ℕ). Tells b (Next (row_at walked.report.rows o))) (sym some ∙ same_place)
-      (subst (λ (o : Option RowReport). Tells b (Next o)) (sym there)
-      (subst (λ (l : List ℕ). Tells b (IsNextRow walked.script.shape.colours (log_walked walked) (caller_of walked.script client) kept l r))
-      are told))
-
-pub beside_told : (find : Finding) (colours : ℕ) (log : Log) (caller : Caller) (what : What) (kept : Kept) (row : Option ℕ)
-    (points : List PointPiece) → EntersAsNode log caller kept row points → (b : Bool)
-    → Tells b (HasNextRow colours log caller kept (colours_asked caller kept what) (find caller.own (next_id caller kept)))
-    → Tells b (EntersBeside find colours log caller what kept row points)
-beside_told find colours log caller what kept row points enters true next = record { enters = enters; beside = next }
-beside_told find colours log caller what kept row points enters false fails = λ is. fails is.beside

@@ -32,8 +32,6 @@ use Rattle.run_rules.specs.Nodes.{nodes_told}
 use Rattle.run_rules.specs.Keeping.{RulesTo}
 use Rattle.run_law.specs.PlaceTables.{places_at, row_with}
 use Rattle.run_law.specs.Proposals.{proposal}
-use Rattle.run_law.specs.declared.row_places.RowPlaces.{RowPlaces}
-use Rattle.run_law.specs.RowPlaces.{place_in, row_at}
 use Rattle.run_law.specs.RowsBeside.{rows_by}
 use Rattle.run_law.specs.Third.{rows_in}
 use Rattle.run_law.specs.Walking.{Walked, log_walked}
@@ -115,23 +113,7 @@ EntersNode find walked caller step =
     OfNode (EntersBeside find walked.script.shape.colours (log_walked walked) caller step.command.what) (log_walked walked) caller
     (kept_at step) step.command.what step.reply.answer
 
--- a decision's node, where it stands
-abbrev pub EntersAtEnd : Finding → Walked → ℕ → Kept → What → Ended → Type 0
-EntersAtEnd find walked client kept what ended =
-    OfEnd (EntersBeside find walked.script.shape.colours (log_walked walked) (caller_of walked.script client) what) kept ended
-
--- BY TABLES
-
--- rows are found by their places
-abbrev pub finding_at : RowPlaces → Walked → Finding
-finding_at table walked region id = row_at walked.report.rows (place_in table region id)
-
--- the row of the client's next node, where one is there, is its own
-abbrev pub AreRowsOf : RowPlaces → Walked → ℕ → Kept → What → Type 0
-AreRowsOf table walked client kept what =
-    HasNextRow walked.script.shape.colours (log_walked walked) (caller_of walked.script client) kept
-    (colours_asked (caller_of walked.script client) kept what)
-    (finding_at table walked (caller_of walked.script client).own (next_id (caller_of walked.script client) kept))
+-- EVENTS
 
 -- an event that proposes a node tells this floor and these wants
 abbrev pub ProposesSo : ℕ → Counts → Event → Type 0

@@ -8,7 +8,7 @@ ghost use Rattle.column_track.specs.Tracks.{Tells};
 ghost use Rattle.run_rules.specs.Told.{colours_asked};
 ghost use Rattle.run_rules.specs.Telling.{marked_colours, replies_to};
 ghost use Rattle.run_rules.specs.Rules.{EntersAsNode};
-ghost use Rattle.run_law.specs.Fifth.{AreRowIds, AreRowsOf, EntersAtEnd, EntersBeside, FencesNode, HasItsRows, IsNextRow, MarksNext, ProposesNode, ProposesSo, finding_at};
+ghost use Rattle.run_law.specs.Fifth.{AreRowIds, FencesNode, HasItsRows, IsNextRow, MarksNext, ProposesNode, ProposesSo};
 ghost use Rattle.run_law.specs.Keepings.{IsCounted};
 ghost use Rattle.run_law.specs.Proposals.{proposal};
 ghost use Rattle.run_law.specs.Walking.{log_walked};
@@ -17,13 +17,12 @@ use crate::asked::colours_asked;
 use crate::going_on::events_until;
 use crate::keeping::Keeping;
 use crate::place_lists::PlaceLists;
-use crate::row_places::RowPlaces;
 use crate::rows::{is_at_end, is_client_in};
 use crate::subject::Subject;
 use col_core::{Entry, Event};
 use column_track::Track;
 use log_node::{ColourList, ColourMark, Counts, Id, Mark, Why};
-use report_text::{Ended, PointPiece, RowReport};
+use report_text::{PointPiece, RowReport};
 use script_text::{Script, What};
 use std::alloc::{AllocError, Global};
 
@@ -251,82 +250,6 @@ impl Keeping {
         let objects = subject.script().objects.as_slice();
         let found = self.found_of(subject, client, what);
         colours_asked(alloc, objects, what, found)
-    }
-}
-
-impl RowPlaces {
-    // Whether the row of the client's next node, where one is there, is its own.
-    fn has_next_row(
-        &self,
-        alloc: Global,
-        subject: &Subject<'_>,
-        client: u8,
-        own: u8,
-        keeping: &Keeping,
-        what: &What,
-    ) -> Result<bool, AllocError>
-        requires own { own ≡ (caller_of subject.now.script client).own }
-        requires within { own < subject.now.script.shape.regions }
-        ensures { (kept : Kept) → IsCounted (replies_to subject.now.report client) kept keeping.now → IfOk result (λ b. Tells b
-            (AreRowsOf self.now subject.now client kept what.now)) }
-    {
-        let Some(place) = self.place(own, keeping.next_id(client)) else {
-            return Ok(true);
-        };
-        let Some(row) = subject.report().rows.get(place) else {
-            return Ok(true);
-        };
-        let asked = keeping.asked(alloc, subject, client, what)?;
-        is_next_row(alloc, subject, client, own, keeping, asked.as_slice(), row)
-    }
-
-    // Whether the client's next node enters at its point, and has its own row.
-    fn enters_beside(
-        &self,
-        alloc: Global,
-        subject: &Subject<'_>,
-        client: u8,
-        own: u8,
-        keeping: &Keeping,
-        what: &What,
-        row: Option<u32>,
-        points: &[PointPiece],
-    ) -> Result<bool, AllocError>
-        requires own { own ≡ (caller_of subject.now.script client).own }
-        requires within { own < subject.now.script.shape.regions }
-        ensures { (kept : Kept) → IsCounted (replies_to subject.now.report client) kept keeping.now → IfOk result (λ b. Tells b
-            (EntersBeside (finding_at self.now subject.now) subject.now.script.shape.colours (log_walked subject.now)
-            (caller_of subject.now.script client) what.now kept row points.now)) }
-    {
-        if !enters_as_node(subject, client, own, keeping, row, points) {
-            return Ok(false);
-        }
-        self.has_next_row(alloc, subject, client, own, keeping, what)
-    }
-
-    // The same for a decision's node, where it stands.
-    fn ends(
-        &self,
-        alloc: Global,
-        subject: &Subject<'_>,
-        client: u8,
-        own: u8,
-        keeping: &Keeping,
-        what: &What,
-        ended: Ended,
-    ) -> Result<bool, AllocError>
-        requires own { own ≡ (caller_of subject.now.script client).own }
-        requires within { own < subject.now.script.shape.regions }
-        ensures { (kept : Kept) → IsCounted (replies_to subject.now.report client) kept keeping.now → IfOk result (λ b. Tells b
-            (EntersAtEnd (finding_at self.now subject.now) subject.now client kept what.now ended)) }
-    {
-        match ended {
-            Ended::Stood { point, .. } => {
-                let points = std::slice::from_ref(&point);
-                self.enters_beside(alloc, subject, client, own, keeping, what, None, points)
-            }
-            Ended::StampEnd { .. } | Ended::NoMemory => Ok(true),
-        }
     }
 }
 
