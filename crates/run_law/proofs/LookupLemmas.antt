@@ -89,13 +89,13 @@ module _ (id : Id) where
           ∙ sym (ap (filter left) (if_true ((e.by == id.client) && is_own id.client e.event)
           (from ∷ places_from (from + 1) id.client es) (places_from (from + 1) id.client es)
           (and_from (e.by == id.client) (is_own id.client e.event) t (step_own e.event u))))) where
-        both : (a b : Bool) → a ≡ b → cond a (from ∷ filter unprinted (numbers_where (is_own_step id) (from + 1) es))
-            (filter unprinted (numbers_where (is_own_step id) (from + 1) es))
-            ≡ cond b (from ∷ filter left (places_from (from + 1) id.client es)) (filter left (places_from (from + 1) id.client es))
-        both a b e_ab =
-            ap (λ (c : Bool). cond c (from ∷ filter unprinted (numbers_where (is_own_step id) (from + 1) es))
-            (filter unprinted (numbers_where (is_own_step id) (from + 1) es))) e_ab
-            ∙ ap (λ (l : List ℕ). cond b (from ∷ l) l) rest
+            both : (a b : Bool) → a ≡ b → cond a (from ∷ filter unprinted (numbers_where (is_own_step id) (from + 1) es))
+                (filter unprinted (numbers_where (is_own_step id) (from + 1) es))
+                ≡ cond b (from ∷ filter left (places_from (from + 1) id.client es)) (filter left (places_from (from + 1) id.client es))
+            both a b e_ab =
+                ap (λ (c : Bool). cond c (from ∷ filter unprinted (numbers_where (is_own_step id) (from + 1) es))
+                (filter unprinted (numbers_where (is_own_step id) (from + 1) es))) e_ab
+                ∙ ap (λ (l : List ℕ). cond b (from ∷ l) l) rest
       by b (inr f) = nowhere (and_right (e.by == id.client) (is_step_of id e.event) f) ∙ sym (other f)
       by (inr f) (inl u) =
           nowhere (and_left (e.by == id.client) (is_step_of id e.event) f)
@@ -186,14 +186,14 @@ pub between_is : (xs : List ℕ) (from to start end most : ℕ) → most ≡ max
 between_is xs from to start end most is low high under over before behind =
     stretch_is (λ p. nat_le from p && nat_lt p to) xs start (most - start)
     (λ k d lt.
-      let small = ltb-true (get_or xs k d) from (under k d lt) in
-      and_left (nat_le from (get_or xs k d)) (nat_lt (get_or xs k d) to) (lt-leb from (get_or xs k d) small))
+    let small = ltb-true (get_or xs k d) from (under k d lt) in
+    and_left (nat_le from (get_or xs k d)) (nat_lt (get_or xs k d) to) (lt-leb from (get_or xs k d) small))
     (λ k d ge lt.
-      let great = ltb-false (get_or xs k d) from (over k d ge (omega (arith, is, low, high, ge, lt))) in
-      and_from (nat_le from (get_or xs k d)) (nat_lt (get_or xs k d) to) (le-leb from (get_or xs k d) great)
-      (before k d (omega (arith, is, ge, lt))))
+    let great = ltb-false (get_or xs k d) from (over k d ge (omega (arith, is, low, high, ge, lt))) in
+    and_from (nat_le from (get_or xs k d)) (nat_lt (get_or xs k d) to) (le-leb from (get_or xs k d) great)
+    (before k d (omega (arith, is, ge, lt))))
     (λ k d ge lt.
-      and_right (nat_le from (get_or xs k d)) (nat_lt (get_or xs k d) to) (behind k d (omega (arith, is, ge)) lt))
+    and_right (nat_le from (get_or xs k d)) (nat_lt (get_or xs k d) to) (behind k d (omega (arith, is, ge)) lt))
     (omega (arith, is, low, high))
 
 -- a column that no log can have has no journal
@@ -201,9 +201,9 @@ pub no_column : (walked : Walked) (tracks : List Tracked) (may : MayWalk walked.
     → (MAX_REGIONS ≤ region) ⊎ (MAX_COLOURS ≤ colour) → journal_walked walked region colour ≡ []
 no_column walked tracks may region colour beyond =
     column_none walked.script walked.report tracks may region colour (outside beyond) where
-  outside : (MAX_REGIONS ≤ region) ⊎ (MAX_COLOURS ≤ colour) → (walked.script.shape.regions ≤ region) ⊎ (walked.script.shape.colours ≤ colour)
-  outside (inl ge) = let few = few_regions walked.script may.fitting in inl (omega (arith, ge, few))
-  outside (inr ge) = let few = few_colours walked.script may.fitting in inr (omega (arith, ge, few))
+      outside : (MAX_REGIONS ≤ region) ⊎ (MAX_COLOURS ≤ colour) → (walked.script.shape.regions ≤ region) ⊎ (walked.script.shape.colours ≤ colour)
+      outside (inl ge) = let few = few_regions walked.script may.fitting in inl (omega (arith, ge, few))
+      outside (inr ge) = let few = few_colours walked.script may.fitting in inr (omega (arith, ge, few))
 
 -- nor is anything made in it
 pub none_between : (walked : Walked) (tracks : List Tracked) (may : MayWalk walked.script walked.report tracks) (caller : Caller)
@@ -223,18 +223,18 @@ row_final histories own id [] = refl
 row_final histories own id (r ∷ rs) =
     ap (λ (b : Bool). final_of (cond (b && same_id id r.id) (Some r) (row_with own id rs))) (flip own r.region)
     ∙ by (r.region == own) where
-  rest : final_of (row_with own id rs) ≡ final_number (last_of (find (λ (s : BegunRow). same_id id s.node.id) (map (row_of histories no_nodes) (filter (is_in own) rs))))
-  rest = row_final histories own id rs
+      rest : final_of (row_with own id rs) ≡ final_number (last_of (find (λ (s : BegunRow). same_id id s.node.id) (map (row_of histories no_nodes) (filter (is_in own) rs))))
+      rest = row_final histories own id rs
 
-  step : (b : Bool) → final_of (cond b (Some r) (row_with own id rs)) ≡ final_number (last_of
-      (cond b (Some (row_of histories no_nodes r)) (find (λ (s : BegunRow). same_id id s.node.id) (map (row_of histories no_nodes) (filter (is_in own) rs)))))
-  step true = refl
-  step false = rest
+      step : (b : Bool) → final_of (cond b (Some r) (row_with own id rs)) ≡ final_number (last_of
+          (cond b (Some (row_of histories no_nodes r)) (find (λ (s : BegunRow). same_id id s.node.id) (map (row_of histories no_nodes) (filter (is_in own) rs)))))
+      step true = refl
+      step false = rest
 
-  by : (a : Bool) → final_of (cond (a && same_id id r.id) (Some r) (row_with own id rs))
-      ≡ final_number (last_of (find (λ (s : BegunRow). same_id id s.node.id) (map (row_of histories no_nodes) (cond a (r ∷ filter (is_in own) rs) (filter (is_in own) rs)))))
-  by false = rest
-  by true = step (same_id id r.id)
+      by : (a : Bool) → final_of (cond (a && same_id id r.id) (Some r) (row_with own id rs))
+          ≡ final_number (last_of (find (λ (s : BegunRow). same_id id s.node.id) (map (row_of histories no_nodes) (cond a (r ∷ filter (is_in own) rs) (filter (is_in own) rs)))))
+      by false = rest
+      by true = step (same_id id r.id)
 
 -- the stamp of an append on a row
 pub stamp_row : (walked : Walked) (client own ids number : ℕ) (caller : Caller) (kept : Kept) (row : Option ℕ) (points : List PointPiece)

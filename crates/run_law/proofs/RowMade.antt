@@ -65,9 +65,9 @@ module _ (places : ℕ → List ℕ) where
     by (inr g) =
         let ge = ltb-false c n g in
         is_not_below n c ge ∙ sym (is_not_below (n + 1) c (beyond ge (cases_lt n c))) where
-      beyond : n ≤ c → (n < c) ⊎ (c ≤ n) → n + 1 ≤ c
-      beyond ge (inl lt) = omega (arith, lt)
-      beyond ge (inr le) = absurd (eqb-false c n f (omega (arith, ge, le)))
+          beyond : n ≤ c → (n < c) ⊎ (c ≤ n) → n + 1 ≤ c
+          beyond ge (inl lt) = omega (arith, lt)
+          beyond ge (inr le) = absurd (eqb-false c n f (omega (arith, ge, le)))
 
 -- A TABLE BY REGION AND COLOUR, OF WHICH ONE REGION TAKES PLACES
 

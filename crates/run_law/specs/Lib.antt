@@ -1,6 +1,6 @@
 pub mod Answered
-pub mod Behind
 pub mod Asking
+pub mod Behind
 pub mod Columns
 pub mod Journals
 pub mod Keepings

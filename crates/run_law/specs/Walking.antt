@@ -2,10 +2,9 @@
 --
 -- A pass over it is a type that is a `Check` (`src/walking.rt`). Its ghost member `Asks` says what it asks of a step. Its method
 -- `go_on` decides that of one step, and goes on behind it where it holds: by the keeping, which counts what the client keeps when
--- the command is answered, and by what the subject looks up. A check that looks at the step as it begins ends in a call of
--- `Keeping::go_on`; one that looks at what is kept in the midst of a command goes on by the parts of that (`src/going_on.rt`,
--- `src/behind.rt`). What may be used of the step is `IsSeen`. `each_step` then decides it of all steps, at the account of whatever
--- nodes; `walk` goes over the steps of one client, and has what that one keeps in the end.
+-- the command is answered, and by what the subject looks up. What may be used of the step is `IsSeen`; what is kept goes on by
+-- parts (`src/going_on.rt`, `src/behind.rt`). `each_step` then decides it of all steps, at the account of whatever nodes; `walk`
+-- goes over the steps of one client, and has what that one keeps in the end.
 use Rattle.std.specs.Prelude.{◌≡◌, Bool, true, false, ℕ, ◌<◌, ◌^◌, List, length, map, Option, Some, None, slice_get}
 use Rattle.std.specs.List.{All}
 use Rattle.log_node.specs.declared.ids.Id.{Id}

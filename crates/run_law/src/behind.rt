@@ -8,14 +8,13 @@ ghost use Rattle.report_text.specs.declared.report.Answer.TheVariants as answers
 ghost use Rattle.report_text.specs.declared.report.ReplyLine.{ReplyLine};
 ghost use Rattle.lawful_run.specs.Callers.{Caller, caller_of};
 ghost use Rattle.lawful_run.specs.Deeds.{found_by};
-ghost use Rattle.lawful_run.specs.Reads.{kept_after_piece};
 ghost use Rattle.script_text.specs.Commands.{use_of};
 ghost use Rattle.run_law.specs.Asking.{AreFoundOf};
-ghost use Rattle.run_rules.specs.Told.{Step as StepTold, Untold, is_several, kept_after_append, kept_after_read, kept_after_row, kept_pulled, kept_told, stamp_told};
+ghost use Rattle.run_rules.specs.Told.{Untold, is_several, kept_after_append, kept_after_row, kept_pulled, stamp_told};
 ghost use Rattle.run_rules.specs.Telling.{low_told, made_between, replies_to};
-ghost use Rattle.run_law.specs.Behind.{Answers, HasSteps, IsCaller, IsUntold};
+ghost use Rattle.run_law.specs.Behind.{HasSteps, IsCaller};
 ghost use Rattle.run_law.specs.Keepings.{IsCounted};
-ghost use Rattle.run_law.specs.Walking.{CountsBehind, HasFew, IsSeen, IsStepOf, log_walked};
+ghost use Rattle.run_law.specs.Walking.{HasFew, log_walked};
 
 use crate::asked::colours_asked;
 use crate::going_on::events_until;
@@ -23,7 +22,7 @@ use crate::keeping::Keeping;
 use crate::replies::keys_at;
 use crate::subject::Subject;
 use log_node::{At, Id, ListOf, MAX_COLOURS, MAX_REGIONS};
-use report_text::{Answer, KeyAnswer, PointPiece, RaisePiece, SyncPiece};
+use report_text::{KeyAnswer, PointPiece};
 use script_text::{ReadUse, Use, What};
 use std::alloc::{AllocError, Global};
 
@@ -95,42 +94,6 @@ impl Keeping {
         let found = self.found_of(subject, client, what);
         let asked = colours_asked(alloc, objects, what, found)?;
         Ok(1 < asked.len())
-    }
-
-    /// Behind a sync that looked at so many events, and played up to a snapshot.
-    pub fn play(&mut self, subject: &Subject<'_>, own: u8, sync: SyncPiece)
-        requires { own < subject.now.script.shape.regions }
-        ensures { (replies : List ReplyLine) (caller : Caller) (kept : Kept) → caller.own ≡ own → IsCounted replies kept self.old
-            → IsCounted replies (kept_after_piece (log_walked subject.now) caller kept sync) self.new }
-    {
-        let start = self.start(sync.colour);
-        let stamp = subject.greatest_played(own, sync.colour, sync.events, start, sync.counts);
-        self.see(own, sync.colour, sync.events as u128);
-        self.raise_floor(stamp);
-        self.start_from(sync.colour, sync.counts);
-        self.know(sync.colour, sync.counts.of_region(own) as u128);
-    }
-
-    /// Behind a stamped read.
-    pub fn read_at(
-        &mut self,
-        subject: &Subject<'_>,
-        own: u8,
-        stamp: u64,
-        raises: &[RaisePiece],
-        syncs: &[SyncPiece],
-    ) -> Result<(), AllocError>
-        requires { own < subject.now.script.shape.regions }
-        ensures { (replies : List ReplyLine) (caller : Caller) (kept : Kept) → caller.own ≡ own → IsCounted replies kept self.old
-            → OnOk result (IsCounted replies
-            (kept_after_read (log_walked subject.now) caller kept stamp raises.now syncs.now) self.new) }
-    {
-        self.raises(own, raises)?;
-        for sync in syncs {
-            self.play(subject, own, *sync);
-        }
-        self.raise_floor(stamp);
-        Ok(())
     }
 
     /// Behind an append that began a row.
@@ -218,8 +181,8 @@ impl Keeping {
         }
     }
 
-    // Behind a pull.
-    fn pull(
+    /// Behind a pull.
+    pub fn pull(
         &mut self,
         subject: &Subject<'_>,
         client: u8,
@@ -243,149 +206,5 @@ impl Keeping {
         self.places(*region, *colour, low)?;
         self.event(*region, *colour, place)?;
         self.place_at(own, *colour, carry)
-    }
-
-    // Behind an answer.
-    fn told(
-        &mut self,
-        alloc: Global,
-        subject: &Subject<'_>,
-        client: u8,
-        own: u8,
-        what: &What,
-        place: usize,
-        answer: &Answer,
-    ) -> Result<(), AllocError>
-        requires client { client < length subject.now.report.clients }
-        requires own { own < subject.now.script.shape.regions }
-        requires few { HasFew self.old }
-        ensures { (caller : Caller) (kept : Kept) (untold : Untold) → IsCaller subject.now client own caller
-            → Answers subject.now client place answer.now
-            → IsUntold subject.now client caller kept what.now answer.now untold
-            → IsCounted (replies_to subject.now.report client) kept self.old → OnOk result
-            (IsCounted (replies_to subject.now.report client)
-            (kept_told (log_walked subject.now) untold caller kept what.now answer.now) self.new) }
-    {
-        match answer {
-            Answer::Stood { stamp, row, points } => {
-                self.append(alloc, subject, client, own, *stamp, *row, points.as_slice())
-            }
-            Answer::StampEnd { .. } => {
-                if self.is_several(alloc, subject, client, what)? {
-                    self.begin_row(alloc, subject, client, own)
-                } else {
-                    Ok(())
-                }
-            }
-            Answer::Stopped { steps } => {
-                if *steps == 0 {
-                    Ok(())
-                } else {
-                    self.begin_row(alloc, subject, client, own)
-                }
-            }
-            Answer::Synced { sync, .. }
-            | Answer::Got { sync, .. }
-            | Answer::GotMany { sync, .. }
-            | Answer::Undecided { sync, .. } => {
-                self.play(subject, own, *sync);
-                Ok(())
-            }
-            Answer::Scanned {
-                stamp,
-                raises,
-                syncs,
-                ..
-            }
-            | Answer::Listed {
-                stamp,
-                raises,
-                syncs,
-                ..
-            } => self.read_at(subject, own, *stamp, raises.as_slice(), syncs.as_slice()),
-            Answer::GotKeys {
-                stamp,
-                raises,
-                syncs,
-                ..
-            } => {
-                self.read_at(subject, own, *stamp, raises.as_slice(), syncs.as_slice())?;
-                self.found(what, place);
-                Ok(())
-            }
-            Answer::Pulled { give, carry, .. } => self.pull(subject, client, own, what, *give, *carry),
-            Answer::Based { at, .. } => self.trimmed(own, what, *at),
-            Answer::Ruled {
-                row,
-                points,
-                read_stamp,
-                raises,
-                syncs,
-                ..
-            }
-            | Answer::Changed {
-                row,
-                points,
-                read_stamp,
-                raises,
-                syncs,
-                ..
-            } => {
-                let stamp = self.stamp_of(subject, client, own, *row, points.as_slice());
-                self.append(alloc, subject, client, own, stamp, *row, points.as_slice())?;
-                self.read_at(subject, own, *read_stamp, raises.as_slice(), syncs.as_slice())
-            }
-            Answer::Decided {
-                sync,
-                read_stamp,
-                raises,
-                syncs,
-                ended,
-                ..
-            } => {
-                self.play(subject, own, *sync);
-                self.read_at(subject, own, *read_stamp, raises.as_slice(), syncs.as_slice())?;
-                self.ended(client, own, *ended)
-            }
-            Answer::Moved { colour, events, .. } => {
-                self.see(own, *colour, *events as u128);
-                Ok(())
-            }
-            Answer::Took { point, sync, .. } => {
-                let points = std::slice::from_ref(point);
-                let stamp = self.stamp_of(subject, client, own, None, points);
-                self.append(alloc, subject, client, own, stamp, None, points)?;
-                self.play(subject, own, *sync);
-                Ok(())
-            }
-            Answer::Full { .. }
-            | Answer::SameRegion
-            | Answer::NoTx
-            | Answer::UnreadTrimmed { .. }
-            | Answer::UnreadNoMemory { .. }
-            | Answer::Trimmed { .. }
-            | Answer::NotHome { .. }
-            | Answer::NoMemory => Ok(()),
-        }
-    }
-
-    /// Behind the client's step in this place.
-    pub fn go_on(
-        &mut self,
-        alloc: Global,
-        subject: &Subject<'_>,
-        client: u8,
-        place: usize,
-    ) -> Result<(), AllocError>
-        requires there { IsStepOf subject.now client place }
-        requires few { HasFew self.old }
-        ensures { (step : StepTold) → IsSeen subject.now client place self.old step
-            → OnOk result (CountsBehind subject.now client step self.new) }
-    {
-        let what = &subject.command(client, place).what;
-        let answer = &subject.reply(client, place).answer;
-        self.told(alloc, subject, client, subject.own(client), what, place, answer)?;
-        self.end(what);
-        Ok(())
     }
 }
