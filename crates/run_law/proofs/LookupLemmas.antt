@@ -244,7 +244,9 @@ pub stamp_row : (walked : Walked) (client own ids number : ℕ) (caller : Caller
 stamp_row walked client own ids number caller kept None points is same there found = absurd (true≢false (sym there))
 stamp_row walked client own ids number caller kept (Some n) points is same there found =
     let made_by = ap (λ (c : Caller). c.client) is.caller_is in
-    let id_is : record { client = client; count = ids } ≡ record { client = caller.client; count = kept.ids } =
+    let old : Id = record { client = client; count = ids } in
+    let new : Id = record { client = caller.client; count = kept.ids } in
+    let id_is : old ≡ new =
     ap (λ (m : ℕ). let i : Id = record { client = m; count = ids } in i) (sym made_by)
     ∙ ap (λ (m : ℕ). let i : Id = record { client = caller.client; count = m } in i) same in
     found
