@@ -12,7 +12,6 @@ mod LeftLemmas
 mod ListedLaws
 mod ListedLemmas
 mod Lists
-mod LookupLemmas
 mod Members
 mod Once
 mod OrderLemmas
@@ -23,7 +22,6 @@ mod ProposalLemmas
 mod RepliesLemmas
 mod RisingLemmas
 mod RowLemmas
-mod RowMade
 mod RowOrder
 mod Shards
 mod SubjectLemmas

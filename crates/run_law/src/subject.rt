@@ -3,9 +3,9 @@ ghost use Rattle.std.specs.Prelude.{◌≡◌, ◌<◌, ◌^◌, IfOk, List, Som
 ghost use Rattle.lawful_run.specs.Callers.{caller_of, commands_of};
 ghost use Rattle.run_rules.specs.Told.{stamp_of};
 ghost use Rattle.run_rules.specs.Telling.{replies_to};
-ghost use Rattle.run_law.specs.PlaceTables.{final_of, is_own_step, numbers_where, row_with};
+ghost use Rattle.run_law.specs.PlaceTables.{final_of, row_with};
 ghost use Rattle.run_law.specs.Subjects.{AtColumn};
-ghost use Rattle.run_law.specs.Walking.{IsStepOf, MayWalk, journal_walked, steps_walked};
+ghost use Rattle.run_law.specs.Walking.{IsStepOf, MayWalk, journal_walked};
 ghost use Rattle.col_core.specs.Log.{places_of};
 ghost use Rattle.column_track.specs.Tracks.{Tracked};
 
@@ -16,7 +16,7 @@ use crate::place_lists::{PlaceLists, commands_by_client};
 use crate::printed::Printed;
 use col_core::Entry;
 use column_track::Track;
-use log_node::{Id, ListOf};
+use log_node::Id;
 use report_text::{ReplyLine, Report};
 use script_text::{Command, Script};
 use std::alloc::{AllocError, Global};
@@ -202,41 +202,6 @@ impl<'r> Subject<'r> {
             Some(at) => self.places[at].own.places(client),
             None => &[],
         }
-    }
-
-    // The places of the own steps of an id.
-    fn own_steps(&self, region: u8, colour: u8, id: Id) -> &[u64]
-        ensures { result.now ≡ numbers_where (is_own_step id) 0 (journal_walked self.now region colour) }
-    {
-        match self.column(region, colour) {
-            Some(at) => self.places[at].steps.steps(id),
-            None => &[],
-        }
-    }
-
-    /// The places of a client's own steps of its id with this number, but for those that replies print.
-    pub fn steps(
-        &self,
-        alloc: Global,
-        client: u8,
-        region: u8,
-        colour: u8,
-        number: u64,
-    ) -> Result<ListOf<u64>, AllocError>
-        requires { client < length self.now.report.clients }
-        ensures { IfOk result (λ places. places ≡ steps_walked self.now client region colour number) }
-    {
-        let id = Id {
-            client,
-            count: number,
-        };
-        let mut places = ListOf::new(alloc);
-        for place in self.own_steps(region, colour, id) {
-            if !self.printed.has(client, region, colour, *place) {
-                places.push(*place)?;
-            }
-        }
-        Ok(places)
     }
 
     /// The final number of a region's row with this id; 0 where there is none, or it is not final.
