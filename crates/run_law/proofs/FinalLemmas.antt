@@ -43,10 +43,10 @@ one_number old new k number step region id =
     ∙ (ap (λ (b : Bool). unwrap_or (cond b (Some number) (lookup (λ e. is_eq (cmp-value.it q e)) old.by_row.entries)) 0) (row_same k q)
     ∙ (by (same_row region id k.region k.id)
     ∙ ap (λ (n : ℕ). cond (same_row region id k.region k.id) number n) (number_found q old.by_row.entries)))) where
-  by : (b : Bool) → unwrap_or (cond b (Some number) (lookup (λ e. is_eq (cmp-value.it (record { region = region; id = id }) e)) old.by_row.entries)) 0
-      ≡ cond b number (unwrap_or (lookup (λ e. is_eq (cmp-value.it (record { region = region; id = id }) e)) old.by_row.entries) 0)
-  by true = refl
-  by false = refl
+      by : (b : Bool) → unwrap_or (cond b (Some number) (lookup (λ e. is_eq (cmp-value.it (record { region = region; id = id }) e)) old.by_row.entries)) 0
+          ≡ cond b number (unwrap_or (lookup (λ e. is_eq (cmp-value.it (record { region = region; id = id }) e)) old.by_row.entries) 0)
+      by true = refl
+      by false = refl
 
 final_first : (region : ℕ) (id : Id) (r : RowReport) (rs : List RowReport)
     → final_of (row_with region id (r ∷ rs)) ≡ cond (same_row region id r.region r.id) (final_number r.last) (final_of (row_with region id rs))

@@ -13,7 +13,6 @@ mod LeftLemmas
 mod ListedLaws
 mod ListedLemmas
 mod Lists
-mod LookupLemmas
 mod Members
 mod NextNodes
 mod NodeRows
@@ -26,7 +25,6 @@ mod ProposalLemmas
 mod RepliesLemmas
 mod RisingLemmas
 mod RowLemmas
-mod RowMade
 mod RowOrder
 mod RowPlaceLemmas
 mod Shards

@@ -33,11 +33,11 @@ module _ {A : Type 0} (test : A → Bool) where
   where_more k (y ∷ ys) x =
       by (where_more (k + 1) ys x ∙ ap (λ (n : ℕ). numbers_where test (k + 1) ys ++ cond (test x) (n ∷ []) [])
       (let e : k + 1 + length ys ≡ k + length (y ∷ ys) = omega arith in e)) (test y) where
-    by : numbers_where test (k + 1) (ys ++ x ∷ []) ≡ numbers_where test (k + 1) ys ++ cond (test x) ((k + length (y ∷ ys)) ∷ []) []
-        → (b : Bool) → cond b (k ∷ numbers_where test (k + 1) (ys ++ x ∷ [])) (numbers_where test (k + 1) (ys ++ x ∷ []))
-        ≡ cond b (k ∷ numbers_where test (k + 1) ys) (numbers_where test (k + 1) ys) ++ cond (test x) ((k + length (y ∷ ys)) ∷ []) []
-    by more true = ap (λ (l : List ℕ). k ∷ l) more
-    by more false = more
+        by : numbers_where test (k + 1) (ys ++ x ∷ []) ≡ numbers_where test (k + 1) ys ++ cond (test x) ((k + length (y ∷ ys)) ∷ []) []
+            → (b : Bool) → cond b (k ∷ numbers_where test (k + 1) (ys ++ x ∷ [])) (numbers_where test (k + 1) (ys ++ x ∷ []))
+            ≡ cond b (k ∷ numbers_where test (k + 1) ys) (numbers_where test (k + 1) ys) ++ cond (test x) ((k + length (y ∷ ys)) ∷ []) []
+        by more true = ap (λ (l : List ℕ). k ∷ l) more
+        by more false = more
 
   -- as a loop goes on
   pub where_next : (xs : List A) (at : ℕ) (x : A) → at < length xs → x ≡ get_or xs at x
@@ -139,16 +139,16 @@ own_same by i id other e = turn (cases_Bool (i.client == by)) where
   turn (inl t) =
       let one : i ≡ id = same_some (sym (ap (λ (b : Bool). cond b (Some i) None) t) ∙ e) in
       same (cases_Bool (same_id other i)) ∙ ap (same_id other) one where
-    same : (same_id other i ≡ true) ⊎ (same_id other i ≡ false) → ((by == other.client) && same_id other i) ≡ same_id other i
-    same (inl s) =
-        let is : other ≡ i = same_id-is other i s in
-        ap (λ (b : Bool). b && same_id other i)
-        (subst (λ (n : ℕ). (by == n) ≡ true) (sym (ap (λ (j : Id). j.client) is))
-        (subst (λ (n : ℕ). (by == n) ≡ true) (sym (eqb-true i.client by t)) (eq-eqb by by refl)))
-    same (inr f) = ap (λ (b : Bool). (by == other.client) && b) f ∙ (no (by == other.client) ∙ sym f) where
-      no : (b : Bool) → (b && false) ≡ false
-      no true = refl
-      no false = refl
+        same : (same_id other i ≡ true) ⊎ (same_id other i ≡ false) → ((by == other.client) && same_id other i) ≡ same_id other i
+        same (inl s) =
+            let is : other ≡ i = same_id-is other i s in
+            ap (λ (b : Bool). b && same_id other i)
+            (subst (λ (n : ℕ). (by == n) ≡ true) (sym (ap (λ (j : Id). j.client) is))
+            (subst (λ (n : ℕ). (by == n) ≡ true) (sym (eqb-true i.client by t)) (eq-eqb by by refl)))
+        same (inr f) = ap (λ (b : Bool). (by == other.client) && b) f ∙ (no (by == other.client) ∙ sym f) where
+          no : (b : Bool) → (b && false) ≡ false
+          no true = refl
+          no false = refl
   turn (inr f) = absurd (let g : ⊥ = cc (ap (λ (b : Bool). cond b (Some i) None) f, e) in g)
 
 own_not : (by : ℕ) (i other : Id) → own_id by i ≡ None → ((by == other.client) && same_id other i) ≡ false

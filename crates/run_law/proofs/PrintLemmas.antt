@@ -81,9 +81,9 @@ one_print old new key step n r c p =
     ∙ (ap (λ (b : Bool). cond ((key.client == n) && is_among p (only_at key.region key.colour (key.place ∷ []) r c)) true b) (print_found q old)
     ∙ by ((key.client == n) && is_among p (only_at key.region key.colour (key.place ∷ []) r c))
     (list_any (λ (it : Print). same_print it q) old)))) where
-  by : (a b : Bool) → cond a true b ≡ (a || b)
-  by true b = refl
-  by false b = refl
+      by : (a b : Bool) → cond a true b ≡ (a || b)
+      by true b = refl
+      by false b = refl
 
 -- ONE PART BEHIND ANOTHER
 
@@ -94,11 +94,11 @@ both_parts m p xs ys z mid new first second =
     ∙ (ap (λ (b : Bool). (m && is_among p ys) || b) first
     ∙ (by m (is_among p xs) (is_among p ys) z
     ∙ ap (λ (b : Bool). (m && b) || z) (sym (list_any-append (λ k. k == p) xs ys)))) where
-  by : (m a b z : Bool) → ((m && b) || ((m && a) || z)) ≡ ((m && (a || b)) || z)
-  by false a b z = refl
-  by true true true z = refl
-  by true true false z = refl
-  by true false b z = refl
+      by : (m a b z : Bool) → ((m && b) || ((m && a) || z)) ≡ ((m && (a || b)) || z)
+      by false a b z = refl
+      by true true true z = refl
+      by true true false z = refl
+      by true false b z = refl
 
 -- what is left is less by what was put in
 pub rest_parts : (m : Bool) (p : ℕ) (xs ys : List ℕ) (now next : Bool) → next ≡ ((m && is_among p xs) || now)
@@ -189,30 +189,30 @@ one_client script report at shown old new there added so n r c p =
     added n r c p
     ∙ (ap (λ (b : Bool). (at == n) && is_among p (printed_all (caller_of script at).own (commands_of script at) shown.replies r c) || b) (so n r c p)
     ∙ by (cases_Bool (at == n)) (cases_lt n at)) where
-  here : at ≡ n → printed_all (caller_of script at).own (commands_of script at) shown.replies r c ≡ places_shown script report n r c
-  here e =
-      ap (λ (l : List ReplyLine). printed_all (caller_of script at).own (commands_of script at) l r c) (sym (ap replies_in there))
-      ∙ ap (λ (k : ℕ). places_shown script report k r c) e
+      here : at ≡ n → printed_all (caller_of script at).own (commands_of script at) shown.replies r c ≡ places_shown script report n r c
+      here e =
+          ap (λ (l : List ReplyLine). printed_all (caller_of script at).own (commands_of script at) l r c) (sym (ap replies_in there))
+          ∙ ap (λ (k : ℕ). places_shown script report k r c) e
 
-  either : (x : Bool) → (x || (false && x)) ≡ x
-  either true = refl
-  either false = refl
+      either : (x : Bool) → (x || (false && x)) ≡ x
+      either true = refl
+      either false = refl
 
-  by : ((at == n) ≡ true) ⊎ ((at == n) ≡ false) → (n < at) ⊎ (at ≤ n)
-      → ((at == n) && is_among p (printed_all (caller_of script at).own (commands_of script at) shown.replies r c)
-      || (nat_lt n at && is_among p (places_shown script report n r c)))
-      ≡ (nat_lt n (at + 1) && is_among p (places_shown script report n r c))
-  by (inl t) less =
-      let e : at ≡ n = eqb-true at n t in
-      rw (t, ap (λ (l : List ℕ). is_among p l) (here e), le-ltb n at (omega (arith, e)), lt-ltb n (at + 1) (omega (arith, e)))
-      (either (is_among p (places_shown script report n r c)))
-  by (inr f) (inl less) = rw (f, lt-ltb n at less, lt-ltb n (at + 1) (omega (arith, less))) refl
-  by (inr f) (inr ge) =
-      rw (f, le-ltb n at ge, le-ltb n (at + 1) (beyond (cases_lt n (at + 1)))) refl where
-    beyond : (n < at + 1) ⊎ (at + 1 ≤ n) → at + 1 ≤ n
-    beyond (inr more) = more
-    beyond (inl less) =
-        absurd (true≢false (sym (eq-eqb at n (let e : at ≡ n = omega (arith, less, ge) in e)) ∙ f))
+      by : ((at == n) ≡ true) ⊎ ((at == n) ≡ false) → (n < at) ⊎ (at ≤ n)
+          → ((at == n) && is_among p (printed_all (caller_of script at).own (commands_of script at) shown.replies r c)
+          || (nat_lt n at && is_among p (places_shown script report n r c)))
+          ≡ (nat_lt n (at + 1) && is_among p (places_shown script report n r c))
+      by (inl t) less =
+          let e : at ≡ n = eqb-true at n t in
+          rw (t, ap (λ (l : List ℕ). is_among p l) (here e), le-ltb n at (omega (arith, e)), lt-ltb n (at + 1) (omega (arith, e)))
+          (either (is_among p (places_shown script report n r c)))
+      by (inr f) (inl less) = rw (f, lt-ltb n at less, lt-ltb n (at + 1) (omega (arith, less))) refl
+      by (inr f) (inr ge) =
+          rw (f, le-ltb n at ge, le-ltb n (at + 1) (beyond (cases_lt n (at + 1)))) refl where
+            beyond : (n < at + 1) ⊎ (at + 1 ≤ n) → at + 1 ≤ n
+            beyond (inr more) = more
+            beyond (inl less) =
+                absurd (true≢false (sym (eq-eqb at n (let e : at ≡ n = omega (arith, less, ge) in e)) ∙ f))
 
 pub prints_none : (script : Script) (report : Report) (table : Printed) → ((n r c p : ℕ) → is_printed table n r c p ≡ false)
     → PrintsTo script report zero table

@@ -76,12 +76,12 @@ no_journal : (cs : List ColumnReport) (region colour : ℕ) → ((c : ColumnRepo
 no_journal [] region colour none = refl
 no_journal (c ∷ cs) region colour none =
     by (cases_Bool ((c.region == region) && (c.colour == colour))) (no_journal cs region colour (λ d i. none d (inr i))) where
-  by : (((c.region == region) && (c.colour == colour)) ≡ true) ⊎ (((c.region == region) && (c.colour == colour)) ≡ false)
-      → journal_among cs region colour ≡ [] → journal_among (c ∷ cs) region colour ≡ []
-  by (inl t) rest =
-      let two = and_parts (c.region == region) (c.colour == colour) t in
-      absurd (none c (inl refl) (eqb-true c.region region two.0) (eqb-true c.colour colour two.1))
-  by (inr f) rest = ap (λ (b : Bool). cond b c.journal (journal_among cs region colour)) f ∙ rest
+      by : (((c.region == region) && (c.colour == colour)) ≡ true) ⊎ (((c.region == region) && (c.colour == colour)) ≡ false)
+          → journal_among cs region colour ≡ [] → journal_among (c ∷ cs) region colour ≡ []
+      by (inl t) rest =
+          let two = and_parts (c.region == region) (c.colour == colour) t in
+          absurd (none c (inl refl) (eqb-true c.region region two.0) (eqb-true c.colour colour two.1))
+      by (inr f) rest = ap (λ (b : Bool). cond b c.journal (journal_among cs region colour)) f ∙ rest
 
 filter_few : {A : Type 0} (test : A → Bool) (xs : List A) → length (filter test xs) ≤ length xs
 filter_few test [] = omega arith
@@ -159,9 +159,11 @@ module _ (script : Script) (report : Report) (tracks : List Tracked) (may : MayW
   pub column_at : (region colour n : ℕ) → region < script.shape.regions → colour < script.shape.colours
       → n ≡ region * script.shape.colours + colour → AtColumn script report region colour (Some n)
   column_at region colour n lt low is =
-      let there = column_there script.shape.regions script.shape.colours report.columns may.first.columns region colour lt low in
-      (there.0, ap (slice_get report.columns) is ∙ there.1,
-      sym (ap history_or there.1) ∙ journal_there script report tracks are_tracked may.formed region colour lt low)
+      let there = column_there script.shape.regions script.shape.colours report.columns may.first.columns region colour lt low in (
+        there.0,
+        ap (slice_get report.columns) is ∙ there.1,
+        sym (ap history_or there.1) ∙ journal_there script report tracks are_tracked may.formed region colour lt low,
+      )
 
   -- no column has other numbers
   pub column_none : (region colour : ℕ) → (script.shape.regions ≤ region) ⊎ (script.shape.colours ≤ colour)
@@ -170,10 +172,10 @@ module _ (script : Script) (report : Report) (tracks : List Tracked) (may : MayW
       no_journal report.columns region colour (λ c i.
       let h = column_within script.shape.regions script.shape.colours report.columns may.first.columns c i in
       outside beyond h.0 h.1) where
-    outside : (script.shape.regions ≤ region) ⊎ (script.shape.colours ≤ colour) → {r k : ℕ} → r < script.shape.regions
-        → k < script.shape.colours → r ≡ region → k ≡ colour → ⊥
-    outside (inl ge) lt low r k = let f : ⊥ = omega (arith, ge, lt, r) in f
-    outside (inr ge) lt low r k = let f : ⊥ = omega (arith, ge, low, k) in f
+        outside : (script.shape.regions ≤ region) ⊎ (script.shape.colours ≤ colour) → {r k : ℕ} → r < script.shape.regions
+            → k < script.shape.colours → r ≡ region → k ≡ colour → ⊥
+        outside (inl ge) lt low r k = let f : ⊥ = omega (arith, ge, lt, r) in f
+        outside (inr ge) lt low r k = let f : ⊥ = omega (arith, ge, low, k) in f
 
   pub track_at : (region colour n : ℕ) (t : Tracked) → region < script.shape.regions → colour < script.shape.colours
       → n ≡ region * script.shape.colours + colour → t ≡ get_or tracks n t

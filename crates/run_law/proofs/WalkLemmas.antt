@@ -387,11 +387,12 @@ module _ (walked : Walked) (tracks : List Tracked) (may : MayWalk walked.script 
       → n ≤ length (commands_of walked.script client) → WalkedSo walked client Asked n counted → WalksTo walked client Asked (Some counted)
   walked_all Asked n counted ge le so =
       let many = steps_many in
-      let same : n ≡ length steps = omega (arith, ge, le, many) in
-      (subst (λ (l : List Step). All Asked l) (take_all n steps (omega (arith, same))) so.done,
-      subst (λ (k : Kept). IsCounted (replies_to walked.report client) k counted)
-      (ap (kept_upto log caller nothing_kept steps) same ∙ upto_end log caller nothing_kept (account.last client) steps told.follow)
-      so.kept)
+      let same : n ≡ length steps = omega (arith, ge, le, many) in (
+        subst (λ (l : List Step). All Asked l) (take_all n steps (omega (arith, same))) so.done,
+        subst (λ (k : Kept). IsCounted (replies_to walked.report client) k counted)
+            (ap (kept_upto log caller nothing_kept steps) same ∙ upto_end log caller nothing_kept (account.last client) steps told.follow)
+            so.kept,
+      )
 
 -- OF ALL CLIENTS
 

@@ -1,6 +1,5 @@
 -- What a subject of a walk has looked up.
-use Rattle.std.specs.Prelude.{◌≡◌, ℕ, ◌<◌, ◌-◌, nat_lt, List, [], length, Option, Some, None, slice_get, if◌then◌else◌}
-use Rattle.log_node.specs.declared.ids.Key.{Key}
+use Rattle.std.specs.Prelude.{◌≡◌, ℕ, ◌<◌, List, [], length, Option, Some, None, slice_get}
 use Rattle.col_core.specs.declared.Entry.{Entry}
 use Rattle.script_text.specs.declared.script.Script.{Script}
 use Rattle.report_text.specs.declared.report.Report.{Report}
@@ -43,12 +42,3 @@ pub record IsSubject (script : Script) (report : Report) (tracks : List Tracked)
   pub places_are : AreAllPlaces (length script.shape.homes) report.columns places
   pub printed_are : ArePrints script report printed
   pub finals_are : AreFinals report.rows finals
-
--- the stamp of a key; 0 where there is none
-abbrev pub stamp_or : Option Key → ℕ
-stamp_or None = 0
-stamp_or (Some key) = key.stamp
-
--- that of the last key before a place, where one stands from another place on
-abbrev pub last_between : List Key → ℕ → ℕ → ℕ
-last_between line from to = if nat_lt from to then stamp_or (slice_get line (to - 1)) else 0

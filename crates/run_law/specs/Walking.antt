@@ -2,13 +2,11 @@
 --
 -- A pass over it is a type that is a `Check` (`src/walking.rt`). Its ghost member `Asks` says what it asks of a step. Its method
 -- `go_on` decides that of one step, and goes on behind it where it holds: by the keeping, which counts what the client keeps when
--- the command is answered, and by what the subject looks up. A check that looks at the step as it begins ends in a call of
--- `Keeping::go_on`; one that looks at what is kept in the midst of a command goes on by the parts of that (`src/going_on.rt`,
--- `src/behind.rt`). What may be used of the step is `IsSeen`. `each_step` then decides it of all steps, at the account of whatever
--- nodes; `walk` goes over the steps of one client, and has what that one keeps in the end.
+-- the command is answered, and by what the subject looks up. What may be used of the step is `IsSeen`; what is kept goes on by
+-- parts (`src/going_on.rt`, `src/behind.rt`). `each_step` then decides it of all steps, at the account of whatever nodes; `walk`
+-- goes over the steps of one client, and has what that one keeps in the end.
 use Rattle.std.specs.Prelude.{◌≡◌, Bool, true, false, ℕ, ◌<◌, ◌^◌, List, length, map, Option, Some, None, slice_get}
 use Rattle.std.specs.List.{All}
-use Rattle.log_node.specs.declared.ids.Id.{Id}
 use Rattle.log_node.specs.declared.node.Node.{Node}
 use Rattle.col_core.specs.declared.Entry.{Entry}
 use Rattle.col_core.specs.Log.{Log}
@@ -18,7 +16,7 @@ use Rattle.report_text.specs.declared.report.Report.{Report}
 use Rattle.lawful_run.specs.Callers.{Caller, caller_of, commands_of}
 use Rattle.column_track.specs.Tracks.{Tells, Tracked}
 use Rattle.run_rules.specs.Told.{OfEachStep, Step, kept_at, kept_past}
-use Rattle.run_rules.specs.Telling.{IsWellFormed, account_of, journal_among, log_of, no_nodes, places_shown, replies_to, step_places, untold_told}
+use Rattle.run_rules.specs.Telling.{IsWellFormed, account_of, journal_among, log_of, no_nodes, places_shown, replies_to, untold_told}
 use Rattle.run_rules.specs.Rules.{IsReplyTo, Rule1, Rule2, Rule3}
 use Rattle.run_law.specs.Journals.{track_shown}
 use Rattle.run_law.specs.Keepings.{Counted, IsCounted}
@@ -48,12 +46,6 @@ journal_walked walked = journal_among walked.report.columns
 -- the places that a client's replies print, by column
 abbrev pub places_printed : Walked → ℕ → ℕ → ℕ → List ℕ
 places_printed walked = places_shown walked.script walked.report
-
--- the places of a client's own steps, of an id of its own with this number, that no reply prints
-abbrev pub steps_walked : Walked → ℕ → ℕ → ℕ → ℕ → List ℕ
-steps_walked walked client region colour number =
-    step_places client (record { client = client; count = number }) (places_printed walked client region colour)
-    (journal_walked walked region colour)
 
 -- The step of a client in this place, of which the keeping counts what the client keeps when the command is answered.
 pub record IsSeen (walked : Walked) (client place : ℕ) (counted : Counted) (step : Step) : Type 0 where

@@ -72,11 +72,7 @@ pub(crate) fn places_of_columns(
 {
     let mut places = Vec::with_capacity(alloc, columns.len())?;
     for column in columns {
-        places.push(ColumnPlaces::of_journal(
-            alloc,
-            clients,
-            column.journal.as_slice(),
-        )?)?;
+        places.push(ColumnPlaces::of_journal(alloc, clients, column.journal.as_slice())?)?;
     }
     Ok(places)
 }

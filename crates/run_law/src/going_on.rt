@@ -112,7 +112,12 @@ impl Keeping {
     }
 
     // Behind events of its own at these places of a column.
-    pub(crate) fn places(&mut self, region: u8, colour: u8, places: &[u64]) -> Result<(), AllocError>
+    pub(crate) fn places(
+        &mut self,
+        region: u8,
+        colour: u8,
+        places: &[u64],
+    ) -> Result<(), AllocError>
         ensures kept { (replies : List ReplyLine) (kept : Kept) → IsCounted replies kept self.old
             → OnOk result (IsCounted replies (with_places kept region colour places.now) self.new) }
         ensures count { OnOk result (KeepsCount self.old self.new) }

@@ -88,12 +88,7 @@ impl Printed {
     }
 
     // Those of the raises of a stamped read.
-    fn add_raises(
-        &mut self,
-        client: u8,
-        own: u8,
-        raises: &[RaisePiece],
-    ) -> Result<(), AllocError>
+    fn add_raises(&mut self, client: u8, own: u8, raises: &[RaisePiece]) -> Result<(), AllocError>
         ensures { (n r c p : ℕ) → OnOk result (is_printed self.new n r c p
             ≡ ((client == n) && is_among p (printed_raises own raises.now r c) || is_printed self.old n r c p)) }
     {

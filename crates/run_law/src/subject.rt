@@ -1,13 +1,11 @@
 // What a walk over a report's commands looks up.
-ghost use Rattle.std.specs.Prelude.{◌≡◌, ◌<◌, ◌≤◌, ◌^◌, IfOk, List, Some, length, slice_get};
-ghost use Rattle.col_core.specs.Keeping.{Kept};
-ghost use Rattle.lawful_run.specs.Callers.{Caller, caller_of, commands_of};
-ghost use Rattle.lawful_run.specs.Reads.{greatest_played};
+ghost use Rattle.std.specs.Prelude.{◌≡◌, ◌<◌, ◌^◌, IfOk, List, Some, length, slice_get};
+ghost use Rattle.lawful_run.specs.Callers.{caller_of, commands_of};
 ghost use Rattle.run_rules.specs.Told.{stamp_of};
 ghost use Rattle.run_rules.specs.Telling.{replies_to};
-ghost use Rattle.run_law.specs.PlaceTables.{final_of, is_own_step, numbers_where, row_with};
-ghost use Rattle.run_law.specs.Subjects.{AtColumn, last_between};
-ghost use Rattle.run_law.specs.Walking.{IsStepOf, MayWalk, journal_walked, log_walked, steps_walked};
+ghost use Rattle.run_law.specs.PlaceTables.{final_of, row_with};
+ghost use Rattle.run_law.specs.Subjects.{AtColumn};
+ghost use Rattle.run_law.specs.Walking.{IsStepOf, MayWalk, journal_walked};
 ghost use Rattle.col_core.specs.Log.{places_of};
 ghost use Rattle.column_track.specs.Tracks.{Tracked};
 
@@ -18,7 +16,7 @@ use crate::place_lists::{PlaceLists, commands_by_client};
 use crate::printed::Printed;
 use col_core::Entry;
 use column_track::Track;
-use log_node::{Counts, Id, Key, ListOf};
+use log_node::Id;
 use report_text::{ReplyLine, Report};
 use script_text::{Command, Script};
 use std::alloc::{AllocError, Global};
@@ -46,14 +44,6 @@ impl<'r> Model for Subject<'r> {
     ghost view = { λ s. record { script = s.script.now; report = s.report.now } };
 
     ghost invariant = { λ s. IsSubject s.script.now s.report.now s.tracks.now s.commands s.places.items s.printed s.finals };
-}
-
-// The stamp of the last key from one place to another; 0 where there is none.
-fn last_stamp(line: &[Key], from: u64, to: u64) -> u64
-    requires { to ≤ length line.now }
-    ensures { result ≡ last_between line.now from to }
-{
-    if from < to { line[to as usize - 1].stamp } else { 0 }
 }
 
 impl<'r> Subject<'r> {
@@ -214,41 +204,6 @@ impl<'r> Subject<'r> {
         }
     }
 
-    // The places of the own steps of an id.
-    fn own_steps(&self, region: u8, colour: u8, id: Id) -> &[u64]
-        ensures { result.now ≡ numbers_where (is_own_step id) 0 (journal_walked self.now region colour) }
-    {
-        match self.column(region, colour) {
-            Some(at) => self.places[at].steps.steps(id),
-            None => &[],
-        }
-    }
-
-    /// The places of a client's own steps of its id with this number, but for those that replies print.
-    pub fn steps(
-        &self,
-        alloc: Global,
-        client: u8,
-        region: u8,
-        colour: u8,
-        number: u64,
-    ) -> Result<ListOf<u64>, AllocError>
-        requires { client < length self.now.report.clients }
-        ensures { IfOk result (λ places. places ≡ steps_walked self.now client region colour number) }
-    {
-        let id = Id {
-            client,
-            count: number,
-        };
-        let mut places = ListOf::new(alloc);
-        for place in self.own_steps(region, colour, id) {
-            if !self.printed.has(client, region, colour, *place) {
-                places.push(*place)?;
-            }
-        }
-        Ok(places)
-    }
-
     /// The final number of a region's row with this id; 0 where there is none, or it is not final.
     pub fn final_number(&self, region: u8, id: Id) -> u64
         ensures { result ≡ final_of (row_with region id self.now.report.rows) }
@@ -264,34 +219,5 @@ impl<'r> Subject<'r> {
             Some(entry) => entry.stamp,
             None => 0,
         }
-    }
-
-    /// The greatest stamp of what a sync plays that looked at so many events of a region's column, from one snapshot to another;
-    /// 0 where that is nothing.
-    pub fn greatest_played(
-        &self,
-        own: u8,
-        colour: u8,
-        events: u64,
-        from: Counts,
-        to: Counts,
-    ) -> u64
-        requires { own < self.now.script.shape.regions }
-        ensures { (caller : Caller) (kept : Kept) → caller.own ≡ own → kept.starts colour ≡ from
-            → result ≡ greatest_played (log_walked self.now) caller kept colour events to }
-    {
-        if colour >= self.script.shape.colours {
-            return 0;
-        }
-        let track = self.track(own, colour);
-        let looked = events.min(self.journal(own, colour).len() as u64);
-        let held = track.mark(looked).held;
-        let mut greatest = 0;
-        for region in 0..self.script.shape.regions {
-            let line = self.track(region, colour).line();
-            let end = to.of_region(region).min(held.of_region(region));
-            greatest = greatest.max(last_stamp(line, from.of_region(region), end));
-        }
-        greatest
     }
 }

@@ -12,10 +12,11 @@ loop-at-preserved c =
     let at = c.loop-at.at - 1 in
     let low = c.loop-at.invariant.0 in
     let more = c.loop-at-test.true in
-    let here : at + 1 ≡ c.loop-at.at = omega (arith, more) in
-    (omega (arith, low),
-    final_more rows at c.index-rows-at.result c.loop-at.finals c.put.new.self c.final_number.result (omega (arith, low, more)) c.index-rows-at.is
-    c.final_number.ensures c.in_ok-put.ensures (subst (λ (n : ℕ). AreFinals (drop n rows) c.loop-at.finals) (sym here) c.loop-at.invariant.1))
+    let here : at + 1 ≡ c.loop-at.at = omega (arith, more) in (
+      omega (arith, low),
+      final_more rows at c.index-rows-at.result c.loop-at.finals c.put.new.self c.final_number.result (omega (arith, low, more)) c.index-rows-at.is
+          c.final_number.ensures c.in_ok-put.ensures (subst (λ (n : ℕ). AreFinals (drop n rows) c.loop-at.finals) (sym here) c.loop-at.invariant.1),
+    )
 
 pub returns : goal.returns
 returns c =
