@@ -126,7 +126,7 @@ pub bare_at : (columns : List ColumnReport) (rows : List RowReport) (n : ℕ) (r
 bare_at columns rows n r at = get_map (bare_row columns) rows n r at
 
 -- two rows with one id are one
-same_row : (rows : List RowReport) → HaveOwnIds rows → (m n : ℕ) (r s : RowReport) → slice_get rows m ≡ Some r
+pub same_row : (rows : List RowReport) → HaveOwnIds rows → (m n : ℕ) (r s : RowReport) → slice_get rows m ≡ Some r
     → slice_get rows n ≡ Some s → r.id ≡ s.id → m ≡ n
 same_row rows apart m n r s at_m at_n same = by (cases_order m n) where
   ids : (i j : ℕ) (x y : RowReport) → slice_get rows i ≡ Some x → slice_get rows j ≡ Some y → x.id ≡ y.id → i < j → ⊥
@@ -187,7 +187,7 @@ module _ (columns : List ColumnReport) (rows : List RowReport) (o : Option ℕ) 
         h (there.0, there.1, ap (λ (x : RowReport). x.last) same ∙ (ap (λ (x : BegunRow). x.last) back.2 ∙ s.4))
 
 -- what a node wants of a colour that is among its own
-wants_among : (cs : List ℕ) (f : ℕ → Counts) (colour : ℕ) → list_any (λ c. c == colour) cs ≡ true → wants_of cs (map f cs) colour ≡ f colour
+pub wants_among : (cs : List ℕ) (f : ℕ → Counts) (colour : ℕ) → list_any (λ c. c == colour) cs ≡ true → wants_of cs (map f cs) colour ≡ f colour
 wants_among [] f colour t = absurd (true≢false (sym t))
 wants_among (c ∷ cs) f colour t = elim (cases_Bool (c == colour)) [
   | inl here ↦ if_true (c == colour) (f c) (wants_of cs (map f cs) colour) here ∙ ap f (eqb-true c colour here)

@@ -19,16 +19,16 @@ use Rattle.report_text.specs.declared.report.RowReport.{RowReport}
 use Rattle.run_law.specs.declared.row_table.RowTable.{RowTable}
 use Rattle.run_law.specs.RowsBeside.{AreRowsAt, HasRow, HaveOwnIds, row_in}
 
-same_number : (a b : ℕ) → is_eq (nat_cmp a b) ≡ eqb b a
+pub same_number : (a b : ℕ) → is_eq (nat_cmp a b) ≡ eqb b a
 same_number a b = grind (arith, nat_tests)
 
-both_same : (p q : Ordering) → is_eq (ordering_then p q) ≡ (is_eq p && is_eq q)
+pub both_same : (p q : Ordering) → is_eq (ordering_then p q) ≡ (is_eq p && is_eq q)
 both_same Less q = refl
 both_same Equal q = refl
 both_same Greater q = refl
 
 -- ids stand as equal where they are one
-equal_is_same : (a b : Id) → is_eq (cmp-value.it a b) ≡ same_id b a
+pub equal_is_same : (a b : Id) → is_eq (cmp-value.it a b) ≡ same_id b a
 equal_is_same a b =
     both_same (nat_cmp a.client b.client) (nat_cmp a.count b.count)
     ∙ rw (same_number a.client b.client, same_number a.count b.count) refl

@@ -151,7 +151,7 @@ module _ (regions colours : ℕ) (columns : List ColumnReport) (tracks : List Tr
       omega (arith, long, left, many, h)
 
 -- a column that is not there has no journal
-journal_none : (cs : List ColumnReport) (region colour : ℕ) → ((d : ColumnReport) → In d cs → d.colour ≡ colour → ⊥)
+pub journal_none : (cs : List ColumnReport) (region colour : ℕ) → ((d : ColumnReport) → In d cs → d.colour ≡ colour → ⊥)
     → journal_among cs region colour ≡ []
 journal_none [] region colour none = refl
 journal_none (d ∷ ds) region colour none =

@@ -19,8 +19,8 @@ use report_text::{Ended, PointPiece, RaisePiece};
 use script_text::{ReadUse, Use, What};
 use std::alloc::AllocError;
 
-// The events before a place, and those of a look.
-fn events_until(at: At) -> u64
+/// The events before a place, and those of a look.
+pub(crate) fn events_until(at: At) -> u64
     ensures { result ≡ events_until at }
 {
     match at {
@@ -56,7 +56,7 @@ impl Keeping {
     }
 
     // A command ends: a commit has used its read up.
-    fn end(&mut self, what: &What)
+    pub(crate) fn end(&mut self, what: &What)
         ensures kept { (replies : List ReplyLine) (kept : Kept) → IsCounted replies kept self.old
             → IsCounted replies (kept_behind what.now kept) self.new }
         ensures count { KeepsCount self.old self.new }
@@ -71,7 +71,7 @@ impl Keeping {
     }
 
     // A read of an object that a commit may use up is kept, whose reply is in this place.
-    fn found(&mut self, what: &What, place: usize)
+    pub(crate) fn found(&mut self, what: &What, place: usize)
         ensures kept { (replies : List ReplyLine) (kept : Kept) (found : List Version) → IsFoundAt replies (Some found) (Some place)
             → IsCounted replies kept self.old → IsCounted replies (with_found (use_of what.now) found kept) self.new }
         ensures count { KeepsCount self.old self.new }
@@ -86,7 +86,7 @@ impl Keeping {
     }
 
     // Behind an event of its own.
-    fn event(&mut self, region: u8, colour: u8, place: u64) -> Result<(), AllocError>
+    pub(crate) fn event(&mut self, region: u8, colour: u8, place: u64) -> Result<(), AllocError>
         ensures kept { (replies : List ReplyLine) (kept : Kept) → IsCounted replies kept self.old
             → OnOk result (IsCounted replies (kept_after_event kept region colour place) self.new) }
         ensures count { OnOk result (KeepsCount self.old self.new) }
@@ -97,7 +97,7 @@ impl Keeping {
     }
 
     // Behind an event or a look that a reply names.
-    fn place_at(&mut self, region: u8, colour: u8, at: At) -> Result<(), AllocError>
+    pub(crate) fn place_at(&mut self, region: u8, colour: u8, at: At) -> Result<(), AllocError>
         ensures kept { (replies : List ReplyLine) (kept : Kept) → IsCounted replies kept self.old
             → OnOk result (IsCounted replies (kept_after_place kept region colour at) self.new) }
         ensures count { OnOk result (KeepsCount self.old self.new) }
@@ -112,7 +112,12 @@ impl Keeping {
     }
 
     // Behind events of its own at these places of a column.
-    fn places(&mut self, region: u8, colour: u8, places: &[u64]) -> Result<(), AllocError>
+    pub(crate) fn places(
+        &mut self,
+        region: u8,
+        colour: u8,
+        places: &[u64],
+    ) -> Result<(), AllocError>
         ensures kept { (replies : List ReplyLine) (kept : Kept) → IsCounted replies kept self.old
             → OnOk result (IsCounted replies (with_places kept region colour places.now) self.new) }
         ensures count { OnOk result (KeepsCount self.old self.new) }
@@ -126,7 +131,7 @@ impl Keeping {
     }
 
     // Behind an append to one colour.
-    fn single(
+    pub(crate) fn single(
         &mut self,
         own: u8,
         colour: u8,
@@ -148,7 +153,7 @@ impl Keeping {
     }
 
     // Behind a point of an append to several colours.
-    fn point(&mut self, own: u8, point: PointPiece)
+    pub(crate) fn point(&mut self, own: u8, point: PointPiece)
         ensures kept { (replies : List ReplyLine) (kept : Kept) → IsCounted replies kept self.old
             → IsCounted replies (kept_after_point kept own point.colour point.at point.position) self.new }
         ensures count { KeepsCount self.old self.new }
@@ -158,7 +163,7 @@ impl Keeping {
     }
 
     // Behind the points of an append to several colours.
-    fn points(&mut self, own: u8, points: &[PointPiece])
+    pub(crate) fn points(&mut self, own: u8, points: &[PointPiece])
         ensures kept { (replies : List ReplyLine) (kept : Kept) → IsCounted replies kept self.old
             → IsCounted replies (kept_after_points kept own points.now) self.new }
         ensures count { KeepsCount self.old self.new }
@@ -169,7 +174,7 @@ impl Keeping {
     }
 
     // Behind the raises of a stamped read.
-    fn raises(&mut self, own: u8, raises: &[RaisePiece]) -> Result<(), AllocError>
+    pub(crate) fn raises(&mut self, own: u8, raises: &[RaisePiece]) -> Result<(), AllocError>
         ensures kept { (replies : List ReplyLine) (kept : Kept) → IsCounted replies kept self.old
             → OnOk result (IsCounted replies (kept_raised own kept raises.now) self.new) }
         ensures count { OnOk result (KeepsCount self.old self.new) }
@@ -181,7 +186,7 @@ impl Keeping {
     }
 
     // Behind the append of a decision's node.
-    fn ended(&mut self, client: u8, own: u8, ended: Ended) -> Result<(), AllocError>
+    pub(crate) fn ended(&mut self, client: u8, own: u8, ended: Ended) -> Result<(), AllocError>
         requires ids { self.old.ids + 1 < 2 ^ 64 }
         ensures kept { (replies : List ReplyLine) (caller : Caller) (kept : Kept) (untold : Untold) → caller.own ≡ own
             → IsCounted replies kept self.old
@@ -203,7 +208,7 @@ impl Keeping {
     }
 
     // Behind a trim.
-    fn trimmed(&mut self, own: u8, what: &What, at: At) -> Result<(), AllocError>
+    pub(crate) fn trimmed(&mut self, own: u8, what: &What, at: At) -> Result<(), AllocError>
         ensures kept { (replies : List ReplyLine) (caller : Caller) (kept : Kept) → caller.own ≡ own → IsCounted replies kept self.old
             → OnOk result (IsCounted replies (kept_trimmed caller kept what.now at) self.new) }
         ensures count { OnOk result (KeepsCount self.old self.new) }

@@ -48,8 +48,11 @@ impl Model for Progress {
     ghost invariant = { λ p. length p.reads.items ≡ 256 };
 }
 
-// The keys that are shown by the reply in this place, where it is that of a read.
-fn keys_at<'r>(replies: &'r [ReplyLine], place: Option<usize>) -> Option<&'r ListOf<KeyAnswer>>
+/// The keys that are shown by the reply in this place, where it is that of a read.
+pub(crate) fn keys_at<'r>(
+    replies: &'r [ReplyLine],
+    place: Option<usize>,
+) -> Option<&'r ListOf<KeyAnswer>>
     ensures { (found : Option (List Version)) → IsFoundAt replies.now found place → AreFoundOf found (option_copied result) }
 {
     match &replies.get(place?)?.answer {

@@ -106,8 +106,8 @@ fn is_proposed(journal: &[Entry], track: &Track, id: Id, stamp: u64) -> bool
     }
 }
 
-// Whether a whole journal leaves no stamp for a floor.
-fn is_at_end(journal: &[Entry], track: &Track, floor: u64) -> bool
+/// Whether a whole journal leaves no stamp for a floor.
+pub(crate) fn is_at_end(journal: &[Entry], track: &Track, floor: u64) -> bool
     requires { track.now.journal ≡ journal.now }
     ensures { Tells result (IsAtEnd journal.now floor) }
 {
@@ -229,8 +229,8 @@ fn are_rising(marks: &[ColourMark], colours: u8) -> bool
     true
 }
 
-// Whether a client is there, in this region.
-fn is_client_in(script: &Script, region: u8, client: u8) -> bool
+/// Whether a client is there, in this region.
+pub(crate) fn is_client_in(script: &Script, region: u8, client: u8) -> bool
     ensures { Tells result (IsClientIn script.now region client) }
 {
     match script.shape.homes.get(client as usize) {

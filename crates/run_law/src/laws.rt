@@ -1,0 +1,13 @@
+// Laws of the rules, as a walk over commands decides them. Each function does nothing, and its contract is the law.
+ghost use Rattle.run_law.specs.Fifth.{FifthIsEntering};
+
+use run_rules::{computed_account_agrees, nodes_are_told, nodes_change_no_step};
+
+/// A report that keeps the first four rules enters the nodes of its commands where the first five hold at the account with these.
+pub fn fifth_is_entering()
+    ensures { FifthIsEntering }
+{
+    nodes_are_told();
+    nodes_change_no_step();
+    computed_account_agrees();
+}
