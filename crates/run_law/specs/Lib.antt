@@ -1,6 +1,5 @@
 pub mod Answered
 pub mod Asking
-pub mod Behind
 pub mod Columns
 pub mod Fifth
 pub mod Journals
