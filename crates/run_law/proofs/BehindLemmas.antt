@@ -4,6 +4,7 @@ use Rattle.std.specs.Prelude.{nat_le, nat_lt, not, slice_get}
 use Rattle.std.specs.List.{filter, find}
 use Rattle.std.specs.List.Sorted.{IsNonDecreasing}
 use Rattle.std.proofs.lemmas.Bool.{and_left, cases_Bool, cases_lt, eq-eqb, eqb-true, le-leb, le-ltb, leb-true, lt-leb, lt-ltb, ltb-false, ltb-true, true≢false}
+use Rattle.std.proofs.lemmas.List.Elements.{filter_more}
 use Rattle.std.proofs.lemmas.List.{get_or-take, length-append, length-take-le}
 use Rattle.std.proofs.lemmas.Option.{slice_get_read, slice_get_within}
 use Rattle.log_node.specs.declared.ids.Id.{Id}
@@ -22,7 +23,10 @@ use Rattle.run_rules.specs.Told.{last_of}
 use Rattle.run_rules.specs.Telling.{is_among, is_in, is_step_at, is_step_of, no_nodes, row_of, step_places}
 use Rattle.run_law.specs.declared.column_places.ColumnPlaces.{ColumnPlaces}
 use Rattle.run_law.specs.PlaceTables.{final_of, is_own_step, numbers_where, row_with, same_row, steps_in}
+use Rattle.lawful_run.specs.Callers.{caller_of}
+use Rattle.run_law.specs.Behind.{steps_untold}
 use Rattle.run_law.specs.Subjects.{AreAllPlaces}
+use Rattle.run_law.specs.Walking.{Walked, journal_walked, places_printed}
 use Rattle.run_law.proofs.PlaceLemmas.{is_made_by}
 use Rattle.run_law.proofs.PrintLemmas.{flip}
 
@@ -144,6 +148,21 @@ pub steps_are : (client count : ℕ) (shown : List ℕ) (history : List Entry)
     → filter (λ p. not (is_among p shown)) (numbers_where (is_own_step (record { client = client; count = count })) 0 history)
     ≡ step_places client (record { client = client; count = count }) shown history
 steps_are client count shown history = sym (steps_from client count (λ p. not (is_among p shown)) [] history 0 refl)
+
+-- as a loop goes on
+pub left_more : (left : ℕ → Bool) (xs : List ℕ) (i : ℕ) (old new : List ℕ) (b : Bool) → i < length xs → left (get_or xs i 0) ≡ b
+    → old ≡ filter left (take i xs) → new ≡ old ++ cond b (get_or xs i 0 ∷ []) [] → new ≡ filter left (take (i + 1) xs)
+left_more left xs i old new b lt is was now =
+    now
+    ∙ (ap (λ (l : List ℕ). l ++ cond b (get_or xs i 0 ∷ []) []) was
+    ∙ (ap (λ (t : Bool). filter left (take i xs) ++ cond t (get_or xs i 0 ∷ []) []) (sym is) ∙ sym (filter_more left xs i 0 lt)))
+
+-- a column without events has none
+pub steps_none : (walked : Walked) (client count colour : ℕ) → journal_walked walked (caller_of walked.script client).own colour ≡ []
+    → steps_untold walked client count colour ≡ []
+steps_none walked client count colour none =
+    let own = (caller_of walked.script client).own in
+    ap (step_places client (record { client = client; count = count }) (places_printed walked client own colour)) none
 
 -- those of a column at its place
 pub steps_at : (clients at : ℕ) (columns : List ColumnReport) (places : List ColumnPlaces) (column : ColumnReport) (p : ColumnPlaces)

@@ -19,7 +19,7 @@ use Rattle.col_core.specs.Computed.{dated}
 use Rattle.col_core.specs.Cuts.{Dated, carried, chain, entries_of, held, needs_of}
 use Rattle.col_core.specs.Legal.{IsColumnHistory, IsLawfulEvent}
 use Rattle.col_core.specs.PlayOrder.{greatest_between, nodes_between}
-use Rattle.col_core.proofs.CallerLemmas.{chains_grow, dates_longer, entries_dated, if_false, if_true, key-stamps, later, line_rises}
+use Rattle.col_core.proofs.CallerLemmas.{chains_grow, dates_longer, entries_dated, if_false, if_true, key-stamps, later, lawful_beginning, line_rises}
 use Rattle.column_track.specs.Tracks.{Tracked}
 use Rattle.run_law.specs.Behind.{StampsRise}
 use Rattle.run_law.specs.Walking.{MayWalk, Walked, journal_walked}
@@ -169,7 +169,7 @@ carried_none own regions region before (Carry other start heads) stamp ge lawful
 carried_none own regions region before (Trim counts) stamp ge lawful = refl
 
 -- of a region that there is not nothing is held
-pub chain_outside : (own regions region : ℕ) (ds : List Dated) → IsColumnHistory own regions ds → own < regions → regions ≤ region
+chain_outside : (own regions region : ℕ) (ds : List Dated) → IsColumnHistory own regions ds → own < regions → regions ≤ region
     → chain own ds region ≡ []
 chain_outside own regions region ds lawful lt ge =
     if_false (region == own) _ _ (other (cases_Bool (region == own)))
@@ -178,6 +178,13 @@ chain_outside own regions region ds lawful lt ge =
       other : ((region == own) ≡ true) ⊎ ((region == own) ≡ false) → (region == own) ≡ false
       other (inl t) = let same = eqb-true region own t in absurd (let f : ⊥ = omega (arith, same, lt, ge) in f)
       other (inr f) = f
+
+pub chain_none : (own regions region events : ℕ) (journal : List Entry) → IsColumnHistory own regions (dated own journal)
+    → own < regions → regions ≤ region → chain own (dated own (take events journal)) region ≡ []
+chain_none own regions region events journal lawful lt ge =
+    chain_outside own regions region (dated own (take events journal))
+    (lawful_beginning own regions (take events journal) (drop events journal)
+    (subst (λ (h : List Entry). IsColumnHistory own regions (dated own h)) (sym (split_at events journal)) lawful)) lt ge
 
 -- a column without events holds nothing
 pub chain_empty : (own events region : ℕ) (journal : List Entry) → journal ≡ [] → chain own (dated own (take events journal)) region ≡ []

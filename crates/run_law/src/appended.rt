@@ -53,6 +53,7 @@ impl Keeping {
             (with_made kept (caller_of subject.now.script client).own (steps_untold subject.now client kept.ids)) self.new) }
         ensures count { OnOk result (KeepsCount self.old self.new) }
     {
+        subject.agrees();
         let own = subject.own(client);
         let count = self.ids();
         for colour in 0..subject.script().shape.colours {
