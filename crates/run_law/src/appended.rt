@@ -103,20 +103,22 @@ impl Keeping {
         ensures rows { OnOk result (self.new.rows ≤ self.old.rows + 1) }
     {
         let own = subject.own(client);
-        if row.is_some() {
-            self.points(own, points);
-            self.raise_floor(stamp);
-            return self.begin_row(alloc, subject, client);
-        }
-        match points.first() {
-            Some(point) => self.single(
-                own,
-                point.colour,
-                events_until(point.at),
-                stamp,
-                point.position,
-            ),
-            None => Ok(()),
+        match row {
+            Some(_) => {
+                self.points(own, points);
+                self.raise_floor(stamp);
+                self.begin_row(alloc, subject, client)
+            }
+            None => match points.first() {
+                Some(point) => self.single(
+                    own,
+                    point.colour,
+                    events_until(point.at),
+                    stamp,
+                    point.position,
+                ),
+                None => Ok(()),
+            },
         }
     }
 

@@ -6,6 +6,7 @@ use Rattle.std.proofs.lemmas.Fn.{always_returns_same}
 use Rattle.std.proofs.lemmas.List.{length-drop}
 use Rattle.std.proofs.lemmas.List.Sorted.{IsPartitionedBy-ltb}
 use Rattle.col_core.specs.Keeping.{seen_past}
+use Rattle.col_core.specs.Log.{places_of}
 use Rattle.run_law.specs.Behind.{HasColumn}
 use Rattle.run_law.specs.Walking.{journal_walked}
 use Rattle.run_law.proofs.BehindLemmas.{between_is, places_rise, take_rises}
@@ -32,5 +33,5 @@ returns c replies kept s =
     ∙ (between_is xs past place to from (λ k d lt. one.0 k d (omega arith) lt) (λ k d le lt. one.1 k d le lt)
     c.partition_point.ensures.bound (λ k d lt. two.0 k d (omega arith) lt) (λ k d le lt. two.1 k d le lt) c.partition_point-2.ensures.bound
     ∙ (ap (λ (l : List ℕ). filter (λ p. nat_le past p && nat_lt p place) l) c.own_places-own.ensures
-    ∙ ap (λ (n : ℕ). filter (λ p. nat_le n p && nat_lt p place) _)
+    ∙ ap (λ (n : ℕ). filter (λ p. nat_le n p && nat_lt p place) (places_of c.args.client journal))
     (c.past-past.ensures ∙ ap (seen_past 0) (s.made c.args.region c.args.colour has.2))))
