@@ -3,7 +3,8 @@ ghost use Rattle.std.specs.Prelude.{◌≡◌, ◌<◌, ◌^◌, IfOk, List, Som
 ghost use Rattle.lawful_run.specs.Callers.{caller_of, commands_of};
 ghost use Rattle.run_rules.specs.Told.{stamp_of};
 ghost use Rattle.run_rules.specs.Telling.{replies_to};
-ghost use Rattle.run_law.specs.PlaceTables.{final_of, row_with};
+ghost use Rattle.run_law.specs.PlaceTables.{final_of, is_own_step, numbers_where, row_with};
+ghost use Rattle.run_law.specs.Behind.{HasColumn, steps_untold};
 ghost use Rattle.run_law.specs.Subjects.{AtColumn};
 ghost use Rattle.run_law.specs.Walking.{IsStepOf, MayWalk, journal_walked};
 ghost use Rattle.col_core.specs.Log.{places_of};
@@ -16,7 +17,7 @@ use crate::place_lists::{PlaceLists, commands_by_client};
 use crate::printed::Printed;
 use col_core::Entry;
 use column_track::Track;
-use log_node::Id;
+use log_node::{Id, ListOf};
 use report_text::{ReplyLine, Report};
 use script_text::{Command, Script};
 use std::alloc::{AllocError, Global};
@@ -158,13 +159,20 @@ impl<'r> Subject<'r> {
         &self.replies(client)[place]
     }
 
+    /// Whether the column is one of the shape.
+    pub(crate) fn has_column(&self, region: u8, colour: u8) -> bool
+        ensures { HasColumn self.now region colour result }
+    {
+        let shape = &self.script.shape;
+        region < shape.regions && colour < shape.colours
+    }
+
     // At which place the column stands among all, where it is one of the shape.
     fn column(&self, region: u8, colour: u8) -> Option<usize>
         ensures { AtColumn self.now.script self.now.report region colour result }
     {
-        let shape = &self.script.shape;
-        if region < shape.regions && colour < shape.colours {
-            Some(column_place(shape.colours, region, colour))
+        if self.has_column(region, colour) {
+            Some(column_place(self.script.shape.colours, region, colour))
         } else {
             None
         }
@@ -202,6 +210,37 @@ impl<'r> Subject<'r> {
             Some(at) => self.places[at].own.places(client),
             None => &[],
         }
+    }
+
+    // The places of the own steps of an id in a column.
+    fn all_steps(&self, region: u8, colour: u8, id: Id) -> &[u64]
+        ensures { result.now ≡ numbers_where (is_own_step id) 0 (journal_walked self.now region colour) }
+    {
+        match self.column(region, colour) {
+            Some(at) => self.places[at].steps.steps(id),
+            None => &[],
+        }
+    }
+
+    /// The places, in a column of a client's region, of its own steps of the id of this count that no reply to it prints.
+    pub(crate) fn steps(
+        &self,
+        alloc: Global,
+        client: u8,
+        colour: u8,
+        count: u64,
+    ) -> Result<ListOf<u64>, AllocError>
+        requires { client < length self.now.report.clients }
+        ensures { IfOk result (λ places. places ≡ steps_untold self.now client count colour) }
+    {
+        let own = self.own(client);
+        let mut places = ListOf::new(alloc);
+        for place in self.all_steps(own, colour, Id { client, count }) {
+            if !self.printed.has(client, own, colour, *place) {
+                places.push(*place)?;
+            }
+        }
+        Ok(places)
     }
 
     /// The final number of a region's row with this id; 0 where there is none, or it is not final.
