@@ -1,5 +1,5 @@
 -- From what is told of a node to what is told of its step, of a client and of the report.
-use Rattle.std.proofs.Common.{◌≡◌, ◌∙◌, refl, ap, sym, subst, inl, inr, Bool, true, false, ℕ, zero, suc, ◌+◌, ◌<◌, ◌≤◌, List, [], length, Option, Some, None, arith}
+use Rattle.std.proofs.Common.{◌≡◌, ◌∙◌, refl, ap, sym, subst, inl, inr, Bool, true, false, ℕ, zero, suc, ◌+◌, ◌<◌, ◌≤◌, List, [], length, Option, Some, None, get_or, arith}
 use Rattle.std.specs.Prelude.{IsTrue, slice_get}
 use Rattle.std.specs.List.{All}
 use Rattle.std.proofs.lemmas.Bool.{cases_lt}
@@ -23,15 +23,15 @@ use Rattle.report_text.specs.declared.report.Report.{Report}
 use Rattle.lawful_run.specs.Callers.{Caller, caller_of, commands_of}
 use Rattle.lawful_run.specs.Refusals.{kept_behind}
 use Rattle.column_track.specs.Tracks.{Tells, Tracked}
-use Rattle.run_rules.specs.Told.{Step, Untold, colours_asked, is_several, kept_after_end, kept_appending, kept_at, kept_deciding, kept_past, kept_told}
+use Rattle.run_rules.specs.Told.{Step, colours_asked, is_several, kept_after_end, kept_appending, kept_at, kept_deciding, kept_past, kept_told}
 use Rattle.run_rules.specs.Telling.{account_of, no_nodes, replies_to}
 use Rattle.run_rules.specs.Rules.{EntersAsNode, Rule4}
 use Rattle.run_rules.specs.Nodes.{nodes_told}
 use Rattle.run_rules.specs.Keeping.{RulesTo, four, one, three, two}
 use Rattle.run_law.specs.declared.row_places.RowPlaces.{RowPlaces}
-use Rattle.run_law.specs.Fifth.{AreRowIds, EntersBeside, EntersItsNodes, EntersItsOwn, EntersNode, EntersSo, FifthIsEntering, Finding, HasItsRows, HasNextRow, OfAppended, OfEnd, OfNode, OfPlain, finding_in, next_id, row_ids}
+use Rattle.run_law.specs.Fifth.{EntersBeside, EntersItsNodes, EntersItsOwn, EntersNode, EntersSo, FifthIsEntering, Finding, HasItsRows, HasNextRow, OfAppended, OfEnd, OfNode, finding_in, next_id, row_ids}
 use Rattle.run_law.specs.Keepings.{Counted, IsCounted}
-use Rattle.run_law.specs.PlaceTables.{places_at, row_with}
+use Rattle.run_law.specs.PlaceTables.{row_with}
 use Rattle.run_law.specs.RowPlaces.{AreRowPlaces}
 use Rattle.run_law.specs.Walking.{IsSeen, MayWalk, Walked, WalksTo, log_walked}
 
@@ -67,6 +67,39 @@ module _ (P : Kept → Option ℕ → List PointPiece → Type 0) where
       → Tells b (OfNode P log caller kept what answer)
   node_told log caller kept what (answers.Decided commits stamp sync read_stamp raises syncs ended) b told = told
   node_told log caller kept what _ b told = told
+
+-- what follows for each node
+module _ (P Q : Kept → Option ℕ → List PointPiece → Type 0) (more : (k : Kept) (row : Option ℕ) (points : List PointPiece)
+    → P k row points → Q k row points) (caller : Caller) (what : What) where
+  end_more : (kept : Kept) (ended : Ended) → OfEnd P kept ended → OfEnd Q kept ended
+  end_more kept (ends.Stood stamp point) is = more kept None _ is
+  end_more kept _ is = tt
+
+  node_more : (log : Log) (kept : Kept) (answer : Answer) → OfNode P log caller kept what answer → OfNode Q log caller kept what answer
+  node_more log kept (answers.Stood stamp row points) is = more kept row points is
+  node_more log kept (answers.StampEnd colour) is = λ t. more kept None [] (is t)
+  node_more log kept (answers.Stopped zero) is = tt
+  node_more log kept (answers.Stopped (suc steps)) is = more kept None [] is
+  node_more log kept (answers.Ruled conflict stamp row points read_stamp raises syncs) is = more kept row points is
+  node_more log kept (answers.Changed failed stamp row points read_stamp raises syncs) is = more kept row points is
+  node_more log kept (answers.Took value point sync) is = more kept None _ is
+  node_more log kept (answers.Decided commits stamp sync read_stamp raises syncs ended) is =
+      end_more (kept_deciding log caller kept sync read_stamp raises syncs) ended is
+  node_more log kept _ is = tt
+
+-- as rows are found
+found_so : (find other : Finding) → ((region : ℕ) (id : Id) → find region id ≡ other region id) → (walked : Walked) (caller : Caller)
+    (step : Step) → EntersNode find walked caller step → EntersNode other walked caller step
+found_so find other same walked caller step =
+    node_more (Beside find) (Beside other)
+    (λ k row points is. record {
+      enters = is.enters;
+      beside = subst (HasNextRow walked.script.shape.colours (log_walked walked) caller k (colours_asked caller k step.command.what))
+          (same caller.own (next_id caller k)) is.beside;
+    })
+    caller step.command.what (log_walked walked) (kept_at step) step.reply.answer where
+      Beside : Finding → Kept → Option ℕ → List PointPiece → Type 0
+      Beside f = EntersBeside f walked.script.shape.colours (log_walked walked) caller step.command.what
 
 -- A STEP
 
@@ -151,38 +184,6 @@ module _ (walked : Walked) (client place : ℕ) where
 
 -- ONE CLIENT
 
-module _ (P Q : Kept → Option ℕ → List PointPiece → Type 0) (more : (k : Kept) (row : Option ℕ) (points : List PointPiece)
-    → P k row points → Q k row points) (caller : Caller) (what : What) where
-  end_more : (kept : Kept) (ended : Ended) → OfEnd P kept ended → OfEnd Q kept ended
-  end_more kept (ends.Stood stamp point) is = more kept None _ is
-  end_more kept _ is = tt
-
-  node_more : (log : Log) (kept : Kept) (answer : Answer) → OfNode P log caller kept what answer → OfNode Q log caller kept what answer
-  node_more log kept (answers.Stood stamp row points) is = more kept row points is
-  node_more log kept (answers.StampEnd colour) is = λ t. more kept None [] (is t)
-  node_more log kept (answers.Stopped zero) is = tt
-  node_more log kept (answers.Stopped (suc steps)) is = more kept None [] is
-  node_more log kept (answers.Ruled conflict stamp row points read_stamp raises syncs) is = more kept row points is
-  node_more log kept (answers.Changed failed stamp row points read_stamp raises syncs) is = more kept row points is
-  node_more log kept (answers.Took value point sync) is = more kept None _ is
-  node_more log kept (answers.Decided commits stamp sync read_stamp raises syncs ended) is =
-      end_more (kept_deciding log caller kept sync read_stamp raises syncs) ended is
-  node_more log kept _ is = tt
-
--- as rows are found
-found_so : (find other : Finding) → ((region : ℕ) (id : Id) → find region id ≡ other region id) → (walked : Walked) (caller : Caller)
-    (step : Step) → EntersNode find walked caller step → EntersNode other walked caller step
-found_so find other same walked caller step =
-    node_more (Beside find) (Beside other)
-    (λ k row points is. record {
-      enters = is.enters;
-      beside = subst (HasNextRow walked.script.shape.colours (log_walked walked) caller k (colours_asked caller k step.command.what))
-          (same caller.own (next_id caller k)) is.beside;
-    })
-    caller step.command.what (log_walked walked) (kept_at step) step.reply.answer where
-      Beside : Finding → Kept → Option ℕ → List PointPiece → Type 0
-      Beside f = EntersBeside f walked.script.shape.colours (log_walked walked) caller step.command.what
-
 module _ (walked : Walked) (client : ℕ) (table : RowPlaces) (are : AreRowPlaces walked.report.rows table) where
   abbrev steps : List Step
   steps = (account_of walked.script walked.report no_nodes).steps client
@@ -197,12 +198,12 @@ module _ (walked : Walked) (client : ℕ) (table : RowPlaces) (are : AreRowPlace
   asked_looked : All Asked steps → All Looked steps
   asked_looked all k d lt =
       found_so (finding_in table walked.report.rows) (λ region id. row_with region id walked.report.rows) are walked
-      (caller_of walked.script client) _ (all k d lt)
+      (caller_of walked.script client) (get_or steps k d) (all k d lt)
 
   looked_asked : All Looked steps → All Asked steps
   looked_asked all k d lt =
       found_so (λ region id. row_with region id walked.report.rows) (finding_in table walked.report.rows)
-      (λ region id. sym (are region id)) walked (caller_of walked.script client) _ (all k d lt)
+      (λ region id. sym (are region id)) walked (caller_of walked.script client) (get_or steps k d) (all k d lt)
 
   pub own_off : (o : Option Counted) → o ≡ None → WalksTo walked client Asked o → EntersItsOwn walked.script walked.report client → ⊥
   own_off o is to own = subst (WalksTo walked client Asked) is to (looked_asked own.steps)

@@ -1,6 +1,5 @@
 use Rattle.std.proofs.Common.{◌∙◌}
 use Rattle.lawful_run.specs.Callers.{caller_of}
-use Rattle.run_rules.specs.Told.{colours_asked}
 use Rattle.run_law.specs.Fifth.{EntersBeside, HasNextRow, finding_in, next_id}
 use Rattle.run_law.specs.Walking.{log_walked}
 use Rattle.run_law.proofs.EnteringLemmas.{beside_told}
