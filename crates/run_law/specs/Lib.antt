@@ -15,4 +15,6 @@ pub mod RowsBeside
 pub mod Subjects
 pub mod Tables
 pub mod Third
+pub mod NodeTables
+pub mod Playing
 pub mod Walking
