@@ -12,6 +12,7 @@ mod HeadLemmas
 mod LeftLemmas
 mod ListedLaws
 mod ListedLemmas
+mod LineOrder
 mod Lists
 mod Members
 mod NextNodes

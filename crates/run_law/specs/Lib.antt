@@ -4,6 +4,7 @@ pub mod Columns
 pub mod Fifth
 pub mod Journals
 pub mod Keepings
+pub mod KeysRead
 pub mod LeftOpen
 pub mod Listed
 pub mod Lists

@@ -12,6 +12,7 @@ mod first;
 mod going_on;
 mod journals;
 mod keeping;
+mod keys_read;
 mod laws;
 mod left_open;
 mod listing;

@@ -1,0 +1,30 @@
+// The keys that reads go over.
+ghost use Rattle.std.specs.Prelude.{◌≡◌, ◌<◌, IfOk};
+ghost use Rattle.std.specs.List.{All};
+ghost use Rattle.run_law.specs.KeysRead.{whole_order};
+ghost use Rattle.run_law.specs.Walking.{log_walked};
+
+use crate::subject::Subject;
+use log_node::Key;
+use playback::with_line;
+use std::alloc::{AllocError, Global};
+
+/// All keys of the own lines of these colours in a region, each once, in rising order.
+pub(crate) fn whole_order(
+    alloc: Global,
+    subject: &Subject<'_>,
+    region: u8,
+    colours: &[u8],
+) -> Result<Vec<Key>, AllocError>
+    requires region { region < subject.now.script.shape.regions }
+    requires colours { All (λ colour. colour < subject.now.script.shape.colours) colours.now }
+    ensures { IfOk result (λ keys. keys.items ≡ whole_order (log_walked subject.now) region colours.now) }
+{
+    let mut keys = Vec::new(alloc);
+    for colour in colours {
+        let track = subject.track(region, *colour);
+        track.agrees();
+        keys = with_line(alloc, keys.as_slice(), track.line(), u64::MAX)?;
+    }
+    Ok(keys)
+}
