@@ -23,6 +23,7 @@ mod PastLemmas
 mod PlaceLemmas
 mod PrintLemmas
 mod ProposalLemmas
+mod ReadsWhole
 mod RepliesLemmas
 mod RisingLemmas
 mod RowLemmas

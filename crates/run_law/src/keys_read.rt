@@ -1,12 +1,13 @@
 // The keys that reads go over.
 ghost use Rattle.std.specs.Prelude.{◌≡◌, ◌<◌, IfOk};
 ghost use Rattle.std.specs.List.{All};
-ghost use Rattle.run_law.specs.KeysRead.{whole_order};
+ghost use Rattle.run_law.specs.KeysRead.{ReadsBegin, whole_order};
 ghost use Rattle.run_law.specs.Walking.{log_walked};
 
 use crate::subject::Subject;
 use log_node::Key;
-use playback::with_line;
+use lawful_run::read_items_last;
+use playback::{region_order_is_lawful, with_line};
 use std::alloc::{AllocError, Global};
 
 /// All keys of the own lines of these colours in a region, each once, in rising order.
@@ -27,4 +28,12 @@ pub(crate) fn whole_order(
         keys = with_line(alloc, keys.as_slice(), track.line(), u64::MAX)?;
     }
     Ok(keys)
+}
+
+/// A stamped read goes over the beginning of the order of its colours up to its stamp.
+pub(crate) fn reads_begin()
+    ensures { ReadsBegin }
+{
+    region_order_is_lawful();
+    read_items_last();
 }
