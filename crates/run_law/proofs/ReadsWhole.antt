@@ -2,34 +2,36 @@
 use Rattle.std.proofs.Common.{◌≡◌, ◌∙◌, true, ℕ, zero, suc, ◌+◌, ◌-◌, ◌^◌, ◌<◌, ◌≤◌, List, [], ◌∷◌, ◌++◌, length, take, drop, take-append-drop, map, Some, ◌⊎◌, inl, inr, ap, refl, sym, subst, arith, max}
 use Rattle.std.specs.Prelude.{◌==◌, IsTrue, nat_le, slice_get}
 use Rattle.std.specs.List.{Contains}
+use mathlib.Core.List.{IsPrefix}
 use Rattle.std.proofs.lemmas.Option.{get_or_from_slice_get}
 use Rattle.std.proofs.lemmas.Bool.{cases_lt, eq-eqb, eqb-true, le-leb, leb-true}
-use Rattle.std.proofs.lemmas.List.{take_all}
+use Rattle.std.proofs.lemmas.List.{length-map, take_all}
 use Rattle.std.proofs.lemmas.List.Kept.{AllPairs-filter}
 use Rattle.log_node.specs.declared.ids.Key.{Key}
 use Rattle.log_node.specs.declared.node.At.{At}
 use Rattle.log_node.specs.declared.node.At.TheVariants as ats
 use Rattle.log_node.specs.Order.{key_below}
+use Rattle.log_node.specs.Vectors.{at}
 use Rattle.log_node.proofs.CallerLemmas.{get_within}
 use Rattle.col_core.specs.declared.Event.TheVariants as events
 use Rattle.col_core.specs.declared.Entry.{Entry}
 use Rattle.col_core.specs.History.{clock, line}
 use Rattle.col_core.specs.Computed.{dated}
-use Rattle.col_core.specs.Cuts.{entries_of}
+use Rattle.col_core.specs.Cuts.{chain, entries_of, needs_of}
 use Rattle.col_core.specs.Legal.{IsColumnHistory}
-use Rattle.col_core.specs.Log.{Log}
+use Rattle.col_core.specs.Log.{Log, first}
 use Rattle.col_core.specs.Keeping.{Kept, updated, updated_at}
 use Rattle.col_core.specs.RegionOrder.{IsRegionOrder, IsClearUpTo}
-use Rattle.col_core.proofs.CallerLemmas.{In, choice, clock_more, clocks_rise, contains_in, dates_longer, entries_dated, if_true, in_contains, in_filter, in_filter-back, in_left, in_map, in_map-back, in_take, lawful_beginning, later, line_grows}
+use Rattle.col_core.proofs.CallerLemmas.{In, choice, clock_more, clocks_rise, contains_in, dates_longer, entries_dated, if_true, in_contains, in_filter, in_filter-back, in_left, in_map, in_map-back, in_take, later, line_grows, reached_within}
 use Rattle.playback.specs.Merging.{AreRising, region_order, up_to}
 use Rattle.playback.specs.Laws.{RegionOrderIsLawful}
 use Rattle.report_text.specs.declared.report.RaisePiece.{RaisePiece}
 use Rattle.report_text.specs.declared.report.SyncPiece.{SyncPiece}
 use Rattle.lawful_run.specs.Callers.{Caller}
-use Rattle.lawful_run.proofs.CallerLemmas.{get_within as there_within}
+use Rattle.lawful_run.proofs.CallerLemmas.{get_within as there_within, prefix_length, prefix_take}
 use Rattle.lawful_run.specs.Laws.{ReadItemsLast}
 use Rattle.lawful_run.specs.Reads.{RaisesClock, kept_after_place, Raises, ClearSyncs, kept_after_piece, ReadsAt, lines_read, AreKeysRead}
-use Rattle.run_law.specs.KeysRead.{ReadsBegin, whole_lines, whole_order}
+use Rattle.run_law.specs.KeysRead.{PlayedBegin, ReadsBegin, whole_lines, whole_order}
 use Rattle.run_law.proofs.LineOrder.{line_rising}
 
 -- A FUNCTION OF REGION AND COLOUR WITH ANOTHER VALUE AT ONE COLUMN
@@ -78,6 +80,17 @@ clock_grows h n m le =
     let up = clock_up h n (m - n) in
     let e : clock (take (n + (m - n)) h) ≡ clock (take m h) = ap (λ (k : ℕ). clock (take k h)) (omega (arith, le)) in
     omega (arith, up, e)
+
+-- a line begins the later one
+grown_line : (own regions : ℕ) (h more : List Entry) → IsColumnHistory own regions (dated own (h ++ more))
+    → IsPrefix (line h) (line (h ++ more))
+grown_line own regions h more legal =
+    let dates = dates_longer own h more in
+    let g = line_grows own regions (dated own h) (later own (dated own h) more) (subst (IsColumnHistory own regions) dates legal) in (
+      g.0,
+      ap (λ (es : List Entry). line es ++ g.0) (sym (entries_dated own h))
+          ∙ (g.1 ∙ ap line (ap entries_of (sym dates) ∙ entries_dated own (h ++ more))),
+    )
 
 -- OF ONE CLIENT, AND OF A STAMP
 
@@ -178,13 +191,8 @@ module _ (log : Log) (caller : Caller) (stamp : ℕ) where
         → In key (line (log.histories caller.own colour))
     stays colour n i key there =
         let h = log.histories caller.own colour in
-        let legal = subst (IsColumnHistory caller.own caller.regions) (dates_longer caller.own (take n h) (drop n h)) (parted colour n i) in
-        let more = line_grows caller.own caller.regions (dated caller.own (take n h)) (later caller.own (dated caller.own (take n h)) (drop n h)) legal in
-        let whole = ap entries_of (sym (dates_longer caller.own (take n h) (drop n h))) ∙ entries_dated caller.own (take n h ++ drop n h)
-            ∙ take-append-drop n h in
-        subst (λ (l : List Key). In key l) (more.1 ∙ ap line whole)
-        (in_left key (line (entries_of (dated caller.own (take n h)))) more.0
-        (subst (λ (e : List Entry). In key (line e)) (sym (entries_dated caller.own (take n h))) there))
+        let more = grown_line caller.own caller.regions (take n h) (drop n h) (parted colour n i) in
+        subst (λ (l : List Key). In key l) (more.1 ∙ ap line (take-append-drop n h)) (in_left key (line (take n h)) more.0 there)
 
     rising : (l : List Key) → Contains (whole_lines log caller.own colours) l → AreRising l
     rising l c =
@@ -237,3 +245,24 @@ pub reads_begin : RegionOrderIsLawful → ReadItemsLast → ReadsBegin
 reads_begin ordered last log caller kept colours stamp raises syncs after n lawful low =
     keys_begin log caller stamp ordered last colours (λ colour i. lawful colour (contains_in colours colour i)) kept raises syncs after n
     (omega (arith, low))
+
+-- WHAT A SYNC PLAYED
+
+pub played_begin : PlayedBegin
+played_begin log caller kept sync few lawful s =
+    let own = caller.own in
+    let whole = log.histories own sync.colour in
+    let h = take sync.events whole in
+    let within = reached_within (chain own (first log own sync.colour sync.events)) s.cut.reached own few in
+    let long : length (chain own (dated own h) own) ≡ length (line h) =
+        ap length (if_true (own == own) _ _ (eq-eqb own own refl))
+        ∙ (length-map (line (entries_of (dated own h)))
+        (λ (key : Key). record { key = key; needs = needs_of (dated own h) key.id })
+        ∙ ap (λ (es : List Entry). length (line es)) (entries_dated own h)) in
+    let legal = subst (λ (x : List Entry). IsColumnHistory own caller.regions (dated own x)) (sym (take-append-drop sync.events whole)) lawful in
+    let more = grown_line own caller.regions h (drop sync.events whole) legal in
+    let prefix : IsPrefix (line h) (line whole) = (more.0, more.1 ∙ ap line (take-append-drop sync.events whole)) in
+    let inside = prefix_length (line h) (line whole) prefix in (
+      prefix_take (line h) (line whole) (at sync.counts own) prefix (omega (arith, within, long)),
+      omega (arith, within, long, inside),
+    )

@@ -1,7 +1,9 @@
 -- The keys that reads go over, as beginnings of whole lines and of their order.
-use Rattle.std.specs.Prelude.{◌≡◌, ℕ, ◌-◌, ◌^◌, ◌<◌, ◌≤◌, List, map, take}
+use Rattle.std.specs.Prelude.{◌≡◌, ℕ, ◌-◌, ◌^◌, ◌<◌, ◌≤◌, List, length, map, take}
 use Rattle.std.specs.List.{Contains}
+use Rattle.log_node.specs.declared.limits.TheConstants.{MAX_REGIONS}
 use Rattle.log_node.specs.declared.ids.Key.{Key}
+use Rattle.log_node.specs.Vectors.{at}
 use Rattle.col_core.specs.History.{line}
 use Rattle.col_core.specs.Log.{Log}
 use Rattle.col_core.specs.Computed.{dated}
@@ -11,7 +13,8 @@ use Rattle.playback.specs.Merging.{region_order, up_to}
 use Rattle.report_text.specs.declared.report.RaisePiece.{RaisePiece}
 use Rattle.report_text.specs.declared.report.SyncPiece.{SyncPiece}
 use Rattle.lawful_run.specs.Callers.{Caller}
-use Rattle.lawful_run.specs.Reads.{AreKeysRead, ReadsAt}
+use Rattle.lawful_run.specs.Objects.{own_played}
+use Rattle.lawful_run.specs.Reads.{AreKeysRead, ReadsAt, Syncs}
 
 -- the whole own lines of these colours
 abbrev pub whole_lines : Log → ℕ → List ℕ → List (List Key)
@@ -30,3 +33,11 @@ ReadsBegin = (log : Log) (caller : Caller) (kept : Kept) (colours : List ℕ) (s
     → stamp < 2 ^ 64 → ReadsAt log caller kept colours stamp raises syncs after
     → take n (whole_order log caller.own colours) ≡ up_to stamp (whole_order log caller.own colours)
     → AreKeysRead log caller stamp syncs (take n (whole_order log caller.own colours))
+
+-- The own nodes that a sync played are the first of the whole line, whose history is lawful, as many as its snapshot counts.
+abbrev pub PlayedBegin : Type 0
+PlayedBegin = (log : Log) (caller : Caller) (kept : Kept) (sync : SyncPiece) → caller.own < MAX_REGIONS
+    → IsColumnHistory caller.own caller.regions (dated caller.own (log.histories caller.own sync.colour))
+    → Syncs log caller kept sync.colour sync.events sync.counts
+    → (take (at sync.counts caller.own) (line (log.histories caller.own sync.colour)) ≡ own_played log caller sync)
+    × (at sync.counts caller.own ≤ length (line (log.histories caller.own sync.colour)))

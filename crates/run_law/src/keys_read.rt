@@ -1,7 +1,7 @@
 // The keys that reads go over.
 ghost use Rattle.std.specs.Prelude.{◌≡◌, ◌<◌, IfOk};
 ghost use Rattle.std.specs.List.{All};
-ghost use Rattle.run_law.specs.KeysRead.{ReadsBegin, whole_order};
+ghost use Rattle.run_law.specs.KeysRead.{PlayedBegin, ReadsBegin, whole_order};
 ghost use Rattle.run_law.specs.Walking.{log_walked};
 
 use crate::subject::Subject;
@@ -37,3 +37,8 @@ pub(crate) fn reads_begin()
     region_order_is_lawful();
     read_items_last();
 }
+
+/// The own nodes that a sync played are the first of the whole line.
+pub(crate) fn played_begin()
+    ensures { PlayedBegin }
+{}
