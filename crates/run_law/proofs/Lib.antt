@@ -15,6 +15,7 @@ mod ListedLemmas
 mod Lists
 mod Members
 mod NextNodes
+mod NinthLaws
 mod NodeRows
 mod Once
 mod OrderLemmas

@@ -7,6 +7,7 @@ pub mod Keepings
 pub mod LeftOpen
 pub mod Listed
 pub mod Lists
+pub mod Ninth
 pub mod PlaceTables
 pub mod Proposals
 pub mod Replies
