@@ -12,6 +12,7 @@ pub mod Proposals
 pub mod Replies
 pub mod RowPlaces
 pub mod RowsBeside
+pub mod ShownTexts
 pub mod Subjects
 pub mod Tables
 pub mod Third

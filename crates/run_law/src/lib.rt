@@ -24,6 +24,7 @@ mod replies;
 mod row_places;
 mod row_table;
 mod rows;
+mod shown_texts;
 mod step_table;
 mod subject;
 mod texts;
