@@ -29,6 +29,7 @@ mod RowLemmas
 mod RowOrder
 mod RowPlaceLemmas
 mod Shards
+mod ShownTextLemmas
 mod SubjectLemmas
 mod TableLemmas
 mod ThirdLemmas

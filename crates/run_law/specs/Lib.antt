@@ -1,5 +1,6 @@
 pub mod Answered
 pub mod Asking
+pub mod Behind
 pub mod Columns
 pub mod Fifth
 pub mod Journals
@@ -13,6 +14,7 @@ pub mod Proposals
 pub mod Replies
 pub mod RowPlaces
 pub mod RowsBeside
+pub mod ShownTexts
 pub mod Subjects
 pub mod Tables
 pub mod Third

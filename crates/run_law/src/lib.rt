@@ -1,6 +1,7 @@
 //! Which rule of a lawful run a report is the first to break.
 #![tactic(auto)]
 
+mod appended;
 mod asked;
 mod behind;
 mod can_have;
@@ -19,13 +20,16 @@ mod made;
 mod object_colours;
 mod pieces;
 mod place_lists;
+mod played;
 mod printed;
 mod replies;
 mod row_places;
 mod row_table;
 mod rows;
+mod shown_texts;
 mod step_table;
 mod subject;
+mod synced;
 mod texts;
 mod third;
 mod walking;
