@@ -16,6 +16,7 @@ mod LineOrder
 mod Lists
 mod Members
 mod NextNodes
+mod NinthLaws
 mod NodeRows
 mod Once
 mod OrderLemmas
@@ -30,6 +31,7 @@ mod RowLemmas
 mod RowOrder
 mod RowPlaceLemmas
 mod Shards
+mod ShownTextLemmas
 mod SubjectLemmas
 mod TableLemmas
 mod ThirdLemmas

@@ -1,5 +1,6 @@
 pub mod Answered
 pub mod Asking
+pub mod Behind
 pub mod Columns
 pub mod Fifth
 pub mod Journals
@@ -8,11 +9,13 @@ pub mod KeysRead
 pub mod LeftOpen
 pub mod Listed
 pub mod Lists
+pub mod Ninth
 pub mod PlaceTables
 pub mod Proposals
 pub mod Replies
 pub mod RowPlaces
 pub mod RowsBeside
+pub mod ShownTexts
 pub mod Subjects
 pub mod Tables
 pub mod Third

@@ -1,6 +1,7 @@
 //! Which rule of a lawful run a report is the first to break.
 #![tactic(auto)]
 
+mod appended;
 mod asked;
 mod behind;
 mod can_have;
@@ -22,14 +23,17 @@ mod node_table;
 mod object_colours;
 mod pieces;
 mod place_lists;
+mod played;
 mod printed;
 mod region_play;
 mod replies;
 mod row_places;
 mod row_table;
 mod rows;
+mod shown_texts;
 mod step_table;
 mod subject;
+mod synced;
 mod texts;
 mod third;
 mod walking;
@@ -37,7 +41,7 @@ mod walking;
 pub use first::keeps_first;
 pub use journals::tracks_of;
 pub use keeping::Keeping;
-pub use laws::fifth_is_entering;
+pub use laws::{fifth_is_entering, ninth_is_shown};
 pub use left_open::keeps_eighth;
 pub use subject::Subject;
 pub use third::keeps_third;
