@@ -24,6 +24,7 @@ mod PastLemmas
 mod PlaceLemmas
 mod PrintLemmas
 mod ProposalLemmas
+mod ReadDecides
 mod ReadsWhole
 mod RepliesLemmas
 mod RisingLemmas

@@ -12,6 +12,7 @@ pub mod Lists
 pub mod Ninth
 pub mod PlaceTables
 pub mod Proposals
+pub mod ReadNodes
 pub mod Replies
 pub mod RowPlaces
 pub mod RowsBeside

@@ -1,11 +1,13 @@
 // The keys that reads go over.
 ghost use Rattle.std.specs.Prelude.{◌≡◌, ◌<◌, IfOk};
 ghost use Rattle.std.specs.List.{All};
-ghost use Rattle.run_law.specs.KeysRead.{PlayedBegin, ReadsBegin, whole_order};
+ghost use Rattle.run_law.specs.KeysRead.{whole_order};
+ghost use Rattle.run_law.specs.ReadNodes.{PlayingDecides, ReadingDecides, TakingDecides};
 ghost use Rattle.run_law.specs.Walking.{log_walked};
 
 use crate::subject::Subject;
 use log_node::Key;
+use col_core::region_order_is_unique;
 use lawful_run::read_items_last;
 use playback::{region_order_is_lawful, with_line};
 use std::alloc::{AllocError, Global};
@@ -30,15 +32,21 @@ pub(crate) fn whole_order(
     Ok(keys)
 }
 
-/// A stamped read goes over the beginning of the order of its colours up to its stamp.
-pub(crate) fn reads_begin()
-    ensures { ReadsBegin }
+/// The nodes that a stamped read read are those of the beginning of the order of its colours.
+pub(crate) fn reading_decides()
+    ensures { ReadingDecides }
 {
     region_order_is_lawful();
+    region_order_is_unique();
     read_items_last();
 }
 
-/// The own nodes that a sync played are the first of the whole line.
-pub(crate) fn played_begin()
-    ensures { PlayedBegin }
+/// Those that a sync played are the first of the whole own line.
+pub(crate) fn playing_decides()
+    ensures { PlayingDecides }
+{}
+
+/// A dequeue takes the front behind the nodes before it.
+pub(crate) fn taking_decides()
+    ensures { TakingDecides }
 {}

@@ -7,7 +7,7 @@ pub use Rattle.run_rules.proofs.RulesAlike.{one_account_decides}
 pub use Rattle.run_rules.proofs.Decided.{first_rules_decided}
 pub use Rattle.run_rules.proofs.FirstAlike.{found_told, told_reads}
 pub use Rattle.run_rules.proofs.WellFormed.{OnceEach, columns_apart, once_rows}
-pub use Rattle.run_rules.proofs.KeysTold.{IsAbove, MovesNamed, NamesMoves, key_above, shows_moves}
+pub use Rattle.run_rules.proofs.KeysTold.{IsAbove, MovesNamed, NamesMoves, column_of, key_above, moves_named, shows_moves}
 pub use Rattle.run_rules.proofs.HeadsTold.{head_above}
 pub use Rattle.run_rules.proofs.LinesShown.{shows_text, zip_before}
 pub use Rattle.run_rules.proofs.LeftOut.{Obeys}
