@@ -34,7 +34,7 @@ equal_is_same a b =
     ∙ rw (same_number a.client b.client, same_number a.count b.count) refl
 
 -- what a map has at an id
-pub found : (id : Id) (es : List (Id × ℕ))
+pub found : {A : Type 0} (id : Id) (es : List (Id × A))
     → lookup (λ k. is_eq (cmp-value.it id k)) es ≡ option_map (λ e. e.1) (find (λ e. same_id e.0 id) es)
 found id [] = refl
 found id (e ∷ es) = elim (cases_Bool (same_id e.0 id)) [

@@ -1,5 +1,6 @@
 // Laws of the rules, as a walk over commands decides them. Each function does nothing, and its contract is the law.
 ghost use Rattle.run_law.specs.Fifth.{FifthIsEntering};
+ghost use Rattle.run_law.specs.Ninth.{NinthIsShown};
 
 use run_rules::{computed_account_agrees, nodes_are_told, nodes_change_no_step};
 
@@ -10,4 +11,12 @@ pub fn fifth_is_entering()
     nodes_are_told();
     nodes_change_no_step();
     computed_account_agrees();
+}
+
+/// Of a report that keeps the rules before it the ninth holds where each step shows what it has to, and texts as they are first
+/// shown.
+pub fn ninth_is_shown()
+    ensures { NinthIsShown }
+{
+    nodes_change_no_step();
 }

@@ -52,7 +52,7 @@ use Rattle.run_rules.proofs.Lists.{greatest_above, map_map, zip_at}
 use Rattle.run_rules.proofs.Numbers.{keeps_fewer, rule1, rule2, rule3, rule4, rule5, rule9}
 use Rattle.run_rules.proofs.Decided.{found_account_decides}
 use Rattle.run_rules.proofs.FindsAlike.{FoundBelow, KeysStandAbove, SameFound, form_there, keys_above, write, writes_same}
-use Rattle.run_rules.proofs.KeysTold.{column_of}
+use Rattle.run_rules.proofs.KeysTold.{column_of, moves_named}
 use Rattle.run_rules.proofs.NodesAlike.{told_nodes_agree}
 use Rattle.run_rules.proofs.OneAccount.{obeys, told_accounts_agree}
 use Rattle.run_rules.proofs.Reached.{home_within, synced_within}
@@ -265,7 +265,7 @@ module _ (lawful : RegionOrderIsLawful) (plain : DecisionsArePlain) (script : Sc
           subst (λ (h : List Entry). IsColumnHistory who.own script.shape.regions (dated who.own h))
           (agree.histories who.own colour (home, lt))
           (column_of script report keeps.0 fits keeps.1 (rule1 r.0.0.0.0.0.0.0.0.1) (rule2 r.0.0.0.0.0.0.0.1)
-          (rule3 r.0.0.0.0.0.0.1) (rule4 r.0.0.0.0.0.1) (rule5 r.0.0.0.0.1) (rule9 r.1) who.own colour (home, lt)).0
+          (rule3 r.0.0.0.0.0.0.1) (rule4 r.0.0.0.0.0.1) (rule5 r.0.0.0.0.1) (moves_named script report keeps.0 (rule9 r.1)) who.own colour (home, lt)).0
 
       -- what a read found, by the texts that those of lower stamps leave, is what it is by all texts
       module _ (stamp : ℕ) (syncs : List SyncPiece)

@@ -70,7 +70,7 @@ use Rattle.run_rules.proofs.FindsAlike.{KeysStandAbove, keys_above, zip_both, zi
 use Rattle.run_rules.proofs.Deciding.{decide_synced}
 use Rattle.run_rules.proofs.DecisionTexts.{SaysBelow, TextBelow, texts_below}
 use Rattle.run_rules.proofs.DecisionsSaid.{decisions_said}
-use Rattle.run_rules.proofs.KeysTold.{column_of}
+use Rattle.run_rules.proofs.KeysTold.{column_of, moves_named}
 use Rattle.run_rules.proofs.LeftOut.{Obeys}
 use Rattle.run_rules.proofs.Lists.{all_at, greatest_above, slice_mapped, zip_at}
 use Rattle.run_rules.proofs.NodesAlike.{told_nodes_agree}
@@ -354,7 +354,7 @@ module _ (unique : RegionOrderIsUnique) (lawful : RegionOrderIsLawful) (plain : 
                 let legal = lawful_beginning who.own script.shape.regions (take sync.events h) (drop sync.events h)
                 (subst (λ (x : List Entry). IsColumnHistory who.own script.shape.regions (dated who.own x))
                 (sym (take-append-drop sync.events h))
-                (column_of script report a fits ta rules.r1 rules.r2 rules.r3 rules.r4 rules.r5 rules.r9 who.own sync.colour
+                (column_of script report a fits ta rules.r1 rules.r2 rules.r3 rules.r4 rules.r5 (moves_named script report a rules.r9) who.own sync.colour
                 (home, low)).0) in
                 let le = within_clock who.own script.shape.regions (take sync.events h) legal key i in
                 let r = reached in omega (arith, le, r, is)

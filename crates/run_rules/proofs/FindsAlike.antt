@@ -59,7 +59,7 @@ use Rattle.run_rules.specs.Laws.{FindsAreRight, ToldFindsAgree}
 use Rattle.run_rules.proofs.Lists.{zip_at}
 use Rattle.run_rules.proofs.Numbers.{rule1, rule2, rule3, rule4, rule5, rule9, rule10}
 use Rattle.run_rules.proofs.FirstAlike.{read_reads, told_reads}
-use Rattle.run_rules.proofs.KeysTold.{key_above}
+use Rattle.run_rules.proofs.KeysTold.{key_above, moves_named}
 use Rattle.run_rules.proofs.LeftOut.{Obeys}
 use Rattle.run_rules.proofs.NodesAlike.{NodesAt, all_at_places, nodes_from, over, over_same}
 use Rattle.run_rules.proofs.OneAccount.{told_accounts_agree, obeys, step_with}
@@ -508,7 +508,7 @@ pub keys_above : (script : Script) (report : Report) (a : Account) → IsFitting
 keys_above script report a fits ta rules r k has key events i =
     let five = rules.0.0.0.0 in
     let above = key_above script report a fits ta (rule1 five.0.0.0.0.1) (rule2 five.0.0.0.1) (rule3 five.0.0.1) (rule4 five.0.1)
-    (rule5 five.1) (rule9 rules.1) r k has key events i in record {
+    (rule5 five.1) (moves_named script report a (rule9 rules.1)) r k has key events i in record {
       client = above.client;
       shown = above.shown;
       node = above.node;

@@ -19,9 +19,8 @@ use Rattle.script_text.specs.Fitting.{IsFitting}
 use Rattle.report_text.specs.declared.report.Report.{Report}
 use Rattle.run_rules.specs.Told.{Account, IsTold}
 use Rattle.run_rules.specs.Rules.{Rule1, Rule2, Rule3, Rule4, Rule5}
-use Rattle.run_rules.specs.Shown.{Rule9}
 use Rattle.run_rules.specs.Agreeing.{HasColumn}
-use Rattle.run_rules.proofs.KeysTold.{IsAbove, column_of, key_above}
+use Rattle.run_rules.proofs.KeysTold.{IsAbove, MovesNamed, column_of, key_above}
 
 -- an event brings heads of a region by carrying them
 carries : (region : ℕ) (event : Event) (head : Head) → In head (carried region event)
@@ -43,13 +42,13 @@ take_all (e ∷ es) = ap (λ (l : List Entry). e ∷ l) (take_all es)
 
 module _ (script : Script) (report : Report) (a : Account) (fits : IsFitting script) (told : IsTold script report a)
     (first : Rule1 script report a) (second : Rule2 script report) (third : Rule3 script a) (fourth : Rule4 script report a)
-    (fifth : Rule5 script report a) (ninth : Rule9 script report a) where
+    (fifth : Rule5 script report a) (moves : MovesNamed script report a) where
   abbrev Above : Key → Type 0
-  Above key = IsAbove script report a fits told first second third fourth fifth ninth key
+  Above key = IsAbove script report a fits told first second third fourth fifth moves key
 
   line_above : (r c : ℕ) → HasColumn script r c → (key : Key) (n : ℕ) → In key (line (take n (a.log.histories r c)))
       → Above key
-  line_above r c has key n i = key_above script report a fits told first second third fourth fifth ninth r c has key n i
+  line_above r c has key n i = key_above script report a fits told first second third fourth fifth moves r c has key n i
 
   -- a head of the own chain, after some events
   own_above : (r c : ℕ) → HasColumn script r c → (n : ℕ) (head : Head)
@@ -79,7 +78,7 @@ module _ (script : Script) (report : Report) (a : Account) (fits : IsFitting scr
       let at = in_slice ds e.0 e.1 in
       let event : e.0.entry.event ≡ events.Carry region carry.0 carry.1 = ap (λ (x : Entry). x.event) e.2 ∙ carry.2 in
       let legal = subst (λ (v : Event). IsLawfulEvent r script.shape.regions (take at.0 ds) v e.0.entry.stamp) event
-      ((column_of script report a fits told first second third fourth fifth ninth r c has).0 at.0 e.0 at.1) in
+      ((column_of script report a fits told first second third fourth fifth moves r c has).0 at.0 e.0 at.1) in
       let low = legal.2 in
       let held : In head (flat_map (λ (x : Dated). carried region x.entry.event) ds) =
       in_flat_map-back (λ (x : Dated). carried region x.entry.event) ds e.0 head e.1

@@ -1,5 +1,5 @@
 -- The key of a node in a line stands above the node's floor, where nodes are of commands and moves name their events.
-use Rattle.std.proofs.Common.{◌≡◌, ◌∙◌, refl, ap, sym, subst, true, ℕ, zero, suc, ◌+◌, ◌<◌, List, [], ◌∷◌, length, take, drop, take-append-drop, Option, Some, None, ◌⊎◌, inl, inr, arith}
+use Rattle.std.proofs.Common.{◌≡◌, ◌∙◌, refl, ap, sym, subst, true, ℕ, zero, suc, ◌+◌, ◌<◌, List, [], ◌∷◌, length, take, drop, take-append-drop, Option, Some, None, ◌⊎◌, inl, inr, arith, get_or}
 use Rattle.std.specs.Prelude.{◌==◌, ◌&&◌, slice_get}
 use Rattle.std.specs.List.{All}
 use Rattle.std.proofs.lemmas.Bool.{and_from, eq-eqb}
@@ -36,7 +36,7 @@ use Rattle.report_text.specs.declared.report.Report.{Report}
 use Rattle.lawful_run.specs.Callers.{Caller, caller_of, node_of}
 use Rattle.lawful_run.specs.Columns.{IsClientIn}
 use Rattle.lawful_run.specs.Reads.{events_until, kept_after_place, kept_after_piece}
-use Rattle.run_rules.specs.Told.{Untold, Step, Account, IsTold, kept_at, kept_after_append, kept_deciding, stamp_told}
+use Rattle.run_rules.specs.Told.{Untold, Step, Account, IsTold, OfEachStep, kept_at, kept_after_append, kept_deciding, stamp_told}
 use Rattle.run_rules.specs.Printed.{only_at, printed, printed_append, printed_at, printed_end, printed_raises}
 use Rattle.run_rules.specs.Naming.{GivesTo, CarriesOf, IsRaise, IsTrim, NamesPlace, NamesRaises, Names}
 use Rattle.run_rules.specs.Rules.{EntersAsNode, HasNode, IsLawfulColumn, Rule1, Rule2, Rule3, Rule4, Rule5, UsesEnd, UsesNode}
@@ -67,6 +67,30 @@ place_there from client (d ∷ ds) (suc n) e there by own =
     (places_from (from + 1) client ds)
     (λ t. inr (subst (λ (k : ℕ). In k (places_from (from + 1) client ds)) is more))
     (λ f. subst (λ (k : ℕ). In k (places_from (from + 1) client ds)) is more)
+
+-- MOVES
+
+-- a pull's give and a trim are events, and no looks
+abbrev pub NamesMoves : Answer → Type 0
+NamesMoves (answers.Pulled count give carry) = (place : ℕ) × (give ≡ Event place)
+NamesMoves (answers.Based at base) = (place : ℕ) × (at ≡ Event place)
+NamesMoves _ = Unit {0}
+
+abbrev pub MovesNamed : Script → Report → Account → Type 0
+MovesNamed script report a = OfEachStep script report a (λ caller step. NamesMoves step.reply.answer)
+
+-- rule 9 says so
+pub shows_moves : (log : Log) (untold : Untold) (caller : Caller) (kept : Kept) (what : What) (nodes : List PlacedNode) (answer : Answer)
+    → Shows log untold caller kept what nodes answer → NamesMoves answer
+shows_moves log untold caller kept what nodes (answers.Pulled count give carry) s = (s.3, s.4)
+shows_moves log untold caller kept what nodes (answers.Based at base) s = (s.2, s.3)
+shows_moves log untold caller kept what nodes _ s = tt
+
+pub moves_named : (script : Script) (report : Report) (a : Account) → Rule9 script report a → MovesNamed script report a
+moves_named script report a ninth n c there k d lt =
+    let s = get_or (a.steps n) k d in
+    shows_moves a.log s.untold (caller_of script n) (kept_at s) s.command.what s.reply.nodes s.reply.answer
+    (ninth.shows n c there k d lt)
 
 -- SINGLES
 
@@ -126,44 +150,41 @@ module _ (log : Log) (caller : Caller) (id : Id) (floor : ℕ) (wants : Counts) 
   append_floor kept what (Some number) points h n i = absurd i
 
   -- one that an answer prints is that of its command's node
-  step_floor : (untold : Untold) (kept : Kept) (what : What) (nodes : List PlacedNode) (answer : Answer)
+  step_floor : (untold : Untold) (kept : Kept) (what : What) (answer : Answer)
       → Names log untold caller kept what answer → UsesNode log caller kept what answer
-      → Shows log untold caller kept what nodes answer → In p (printed caller.own answer what r c) → HasFloor
-  step_floor untold kept what nodes (answers.Stood stamp row points) n u s i =
+      → NamesMoves answer → In p (printed caller.own answer what r c) → HasFloor
+  step_floor untold kept what (answers.Stood stamp row points) n u s i =
       append_floor kept what row points u.0 u.1 i
-  step_floor untold kept what nodes (answers.Scanned stamp count raises syncs) n u s i = absurd (raises_none kept raises n.0 i)
-  step_floor untold kept what nodes (answers.Pulled count give carry) n u s i =
+  step_floor untold kept what (answers.Scanned stamp count raises syncs) n u s i = absurd (raises_none kept raises n.0 i)
+  step_floor untold kept what (answers.Pulled count give carry) n u s i =
       absurd (turn (in_append p (only_at n.0 n.1 (events_until give ∷ []) r c) (printed_at caller.own n.1 carry r c)
       (subst (λ (w : What). In p (printed caller.own (answers.Pulled count give carry) w r c)) n.2 i))) where
-        same : whats.Pull s.0 s.1 ≡ whats.Pull n.0 n.1
-        same = sym s.2 ∙ n.2
-
         turn : In p (only_at n.0 n.1 (events_until give ∷ []) r c) ⊎ In p (printed_at caller.own n.1 carry r c) → ⊥
         turn (inl j) =
-            place_none kept n.0 n.1 (GivesTo caller.own) (λ f. f) (Event s.3)
-            (subst (NamesPlace log caller kept n.0 n.1 (GivesTo caller.own)) s.4 n.3.1)
-            (subst (λ (g : At). In p (only_at n.0 n.1 (events_until g ∷ []) r c)) s.4 j)
+            place_none kept n.0 n.1 (GivesTo caller.own) (λ f. f) (Event s.0)
+            (subst (NamesPlace log caller kept n.0 n.1 (GivesTo caller.own)) s.1 n.3.1)
+            (subst (λ (g : At). In p (only_at n.0 n.1 (events_until g ∷ []) r c)) s.1 j)
         turn (inr j) = place_none kept caller.own n.1 (CarriesOf n.0) (λ f. f) carry n.3.2 j
-  step_floor untold kept what nodes (answers.Based given base) n u s i =
-      absurd (place_none kept caller.own n.0 IsTrim (λ f. f) (Event s.2)
-      (subst (NamesPlace log caller kept caller.own n.0 IsTrim) s.3 n.2)
-      (subst (λ (g : At). In p (only_at caller.own n.0 (events_until g ∷ []) r c)) s.3
+  step_floor untold kept what (answers.Based given base) n u s i =
+      absurd (place_none kept caller.own n.0 IsTrim (λ f. f) (Event s.0)
+      (subst (NamesPlace log caller kept caller.own n.0 IsTrim) s.1 n.2)
+      (subst (λ (g : At). In p (only_at caller.own n.0 (events_until g ∷ []) r c)) s.1
       (subst (λ (w : What). In p (printed caller.own (answers.Based given base) w r c)) n.1 i)))
-  step_floor untold kept what nodes (answers.GotKeys stamp shown raises syncs) n u s i = absurd (raises_none kept raises n.0 i)
-  step_floor untold kept what nodes (answers.Ruled conflict stamp row points read_stamp raises syncs) n u s i =
+  step_floor untold kept what (answers.GotKeys stamp shown raises syncs) n u s i = absurd (raises_none kept raises n.0 i)
+  step_floor untold kept what (answers.Ruled conflict stamp row points read_stamp raises syncs) n u s i =
       turn (in_append p (printed_append caller.own row points r c) (printed_raises caller.own raises r c) i) where
         turn : In p (printed_append caller.own row points r c) ⊎ In p (printed_raises caller.own raises r c) → HasFloor
         turn (inl j) = append_floor kept what row points u.0 u.1 j
         turn (inr j) = absurd (raises_none
             (kept_after_append untold caller kept (stamp_told log caller kept row points) row points) raises n.1.0 j)
-  step_floor untold kept what nodes (answers.Changed failed stamp row points read_stamp raises syncs) n u s i =
+  step_floor untold kept what (answers.Changed failed stamp row points read_stamp raises syncs) n u s i =
       turn (in_append p (printed_append caller.own row points r c) (printed_raises caller.own raises r c) i) where
         turn : In p (printed_append caller.own row points r c) ⊎ In p (printed_raises caller.own raises r c) → HasFloor
         turn (inl j) = append_floor kept what row points u.0 u.1 j
         turn (inr j) = absurd (raises_none
             (kept_after_append untold caller kept (stamp_told log caller kept row points) row points) raises n.1.0 j)
-  step_floor untold kept what nodes (answers.Listed names stamp raises syncs) n u s i = absurd (raises_none kept raises n.0 i)
-  step_floor untold kept what nodes (answers.Decided commits stamp sync read_stamp raises syncs ended) n u s i =
+  step_floor untold kept what (answers.Listed names stamp raises syncs) n u s i = absurd (raises_none kept raises n.0 i)
+  step_floor untold kept what (answers.Decided commits stamp sync read_stamp raises syncs ended) n u s i =
       turn (in_append p (printed_raises caller.own raises r c) (printed_end caller.own ended r c) i) where
         end : (x : Ended) → UsesEnd log caller (kept_deciding log caller kept sync read_stamp raises syncs) what x
             → In p (printed_end caller.own x r c) → HasFloor
@@ -174,33 +195,33 @@ module _ (log : Log) (caller : Caller) (id : Id) (floor : ℕ) (wants : Counts) 
         turn : In p (printed_raises caller.own raises r c) ⊎ In p (printed_end caller.own ended r c) → HasFloor
         turn (inl j) = absurd (raises_none (kept_after_piece log caller kept sync) raises n.1.0 j)
         turn (inr j) = end ended u j
-  step_floor untold kept what nodes (answers.Took value point sync) n u s i =
+  step_floor untold kept what (answers.Took value point sync) n u s i =
       append_floor kept what None (point ∷ []) u.0 u.1 i
-  step_floor untold kept what nodes _ n u s i = absurd i
+  step_floor untold kept what _ n u s i = absurd i
 
   -- and so is one that steps print
-  abbrev ShowsAt : Step → Type 0
-  ShowsAt s = Shows log s.untold caller (kept_at s) s.command.what s.reply.nodes s.reply.answer
+  abbrev NamesAt : Step → Type 0
+  NamesAt s = NamesMoves s.reply.answer
 
   steps_floor : (script : Script) (xs : List Step) → All (Obeys script log caller) xs → All (Uses log caller) xs
-      → All ShowsAt xs → In p (printed_by caller xs r c) → HasFloor
+      → All NamesAt xs → In p (printed_by caller xs r c) → HasFloor
   steps_floor script [] o u s i = absurd i
   steps_floor script (x ∷ xs) o u s i =
       turn (in_append p (printed caller.own x.reply.answer x.command.what r c) (printed_by caller xs r c) i)
       (steps_floor script xs (All-tail (Obeys script log caller) x xs o) (All-tail (Uses log caller) x xs u)
-      (All-tail ShowsAt x xs s)) where
+      (All-tail NamesAt x xs s)) where
         turn : In p (printed caller.own x.reply.answer x.command.what r c) ⊎ In p (printed_by caller xs r c)
             → (In p (printed_by caller xs r c) → HasFloor) → HasFloor
         turn (inl j) more =
-            step_floor x.untold (kept_at x) x.command.what x.reply.nodes x.reply.answer
-            (All-head (Obeys script log caller) x xs o).names (All-head (Uses log caller) x xs u) (All-head ShowsAt x xs s) j
+            step_floor x.untold (kept_at x) x.command.what x.reply.answer
+            (All-head (Obeys script log caller) x xs o).names (All-head (Uses log caller) x xs u) (All-head NamesAt x xs s) j
         turn (inr j) more = more j
 
 -- KEYS
 
 module _ (script : Script) (report : Report) (a : Account) (fits : IsFitting script) (told : IsTold script report a)
     (first : Rule1 script report a) (second : Rule2 script report) (third : Rule3 script a) (fourth : Rule4 script report a)
-    (fifth : Rule5 script report a) (ninth : Rule9 script report a) where
+    (fifth : Rule5 script report a) (moves : MovesNamed script report a) where
   -- the journal of a column is lawful, and made by clients
   pub column_of : (r c : ℕ) → HasColumn script r c
       → IsColumnHistory r script.shape.regions (dated r (a.log.histories r c))
@@ -253,7 +274,7 @@ module _ (script : Script) (report : Report) (a : Account) (fits : IsFitting scr
               × (node.floor ≡ floor) × (key.id.client ≡ n)
           turn n p there obeying d shown (inl j) =
               steps_floor a.log (caller_of script n) key.id floor wants r c p e there is script (a.steps n) obeying
-              (fifth.used n d shown) (ninth.shows n d shown) j
+              (fifth.used n d shown) (moves n d shown) j
           turn n p there obeying d shown (inr s) =
               absurd (none s.2) where
                 same : s.0 ≡ e

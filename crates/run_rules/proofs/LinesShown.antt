@@ -26,7 +26,7 @@ use Rattle.run_rules.specs.Shown.{Rule9, Shows}
 use Rattle.run_rules.specs.Keeping.{RulesTo, all_replies}
 use Rattle.run_rules.specs.Said.{is_line_of, node_lines, shown_text}
 use Rattle.run_rules.proofs.HeadsTold.{head_above}
-use Rattle.run_rules.proofs.KeysTold.{IsAbove, key_above}
+use Rattle.run_rules.proofs.KeysTold.{IsAbove, key_above, moves_named}
 use Rattle.run_rules.proofs.LeftOut.{Obeys}
 use Rattle.run_rules.proofs.Numbers.{rule1, rule2, rule3, rule4, rule5}
 use Rattle.run_rules.proofs.OneAccount.{obeys}
@@ -119,7 +119,7 @@ IsShownId report id = (c : ClientReport) × (slice_get report.clients id.client 
 module _ (script : Script) (report : Report) (a : Account) (fits : IsFitting script) (ta : IsTold script report a)
     (ra : RulesTo script report a 5) (ninth : Rule9 script report a) where
   shown_of : (key : Key)
-      → IsAbove script report a fits ta (rule1 ra.0.0.0.0.1) (rule2 ra.0.0.0.1) (rule3 ra.0.0.1) (rule4 ra.0.1) (rule5 ra.1) ninth key
+      → IsAbove script report a fits ta (rule1 ra.0.0.0.0.1) (rule2 ra.0.0.0.1) (rule3 ra.0.0.1) (rule4 ra.0.1) (rule5 ra.1) (moves_named script report a ninth) key
       → IsShownId report key.id
   shown_of key x = (x.client, x.shown)
 
@@ -135,10 +135,10 @@ module _ (script : Script) (report : Report) (a : Account) (fits : IsFitting scr
     known_shown = record {
       of_line = λ colour lt events key i.
           shown_of key (key_above script report a fits ta (rule1 ra.0.0.0.0.1) (rule2 ra.0.0.0.1) (rule3 ra.0.0.1)
-          (rule4 ra.0.1) (rule5 ra.1) ninth who.own colour (home, lt) key events i);
+          (rule4 ra.0.1) (rule5 ra.1) (moves_named script report a ninth) who.own colour (home, lt) key events i);
       of_chain = λ colour lt events place head s.
           shown_of head.key (head_above script report a fits ta (rule1 ra.0.0.0.0.1) (rule2 ra.0.0.0.1) (rule3 ra.0.0.1)
-          (rule4 ra.0.1) (rule5 ra.1) ninth who.own colour (home, lt) events place head s);
+          (rule4 ra.0.1) (rule5 ra.1) (moves_named script report a ninth) who.own colour (home, lt) events place head s);
       of_own = λ count. (c, there);
     }
 

@@ -73,7 +73,7 @@ module _ (report : Report) (x y : ℕ → List Node) (caller : Caller) where
   abbrev two : Log
   two = log_of report y
 
-  stamp_one : (kept : Kept) (row : Option ℕ) (points : List PointPiece)
+  pub stamp_one : (kept : Kept) (row : Option ℕ) (points : List PointPiece)
       → stamp_told one caller kept row points ≡ stamp_told two caller kept row points
   stamp_one kept None [] = refl
   stamp_one kept None (p ∷ ps) = refl
