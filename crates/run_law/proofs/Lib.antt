@@ -15,6 +15,7 @@ mod ListedLemmas
 mod Lists
 mod Members
 mod NextNodes
+mod NextRows
 mod NodeRows
 mod Once
 mod OrderLemmas
@@ -28,6 +29,7 @@ mod RowLemmas
 mod RowOrder
 mod RowPlaceLemmas
 mod Shards
+mod SixthLaws
 mod SubjectLemmas
 mod TableLemmas
 mod ThirdLemmas

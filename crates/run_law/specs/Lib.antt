@@ -12,6 +12,8 @@ pub mod Proposals
 pub mod Replies
 pub mod RowPlaces
 pub mod RowsBeside
+pub mod Seventh
+pub mod Sixth
 pub mod Subjects
 pub mod Tables
 pub mod Third
