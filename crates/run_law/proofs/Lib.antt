@@ -30,6 +30,7 @@ mod RowOrder
 mod RowPlaceLemmas
 mod Shards
 mod SixthLaws
+mod SixthLemmas
 mod SubjectLemmas
 mod TableLemmas
 mod ThirdLemmas

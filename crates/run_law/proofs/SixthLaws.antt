@@ -40,7 +40,7 @@ use Rattle.lawful_run.specs.Callers.{Caller, caller_of, node_of}
 use Rattle.lawful_run.specs.Appends.{Appends, StandsAt}
 use Rattle.lawful_run.specs.Deeds.{AsksToAppend}
 use Rattle.lawful_run.specs.Reads.{events_until}
-use Rattle.run_rules.specs.Told.{Account, Step, Untold, colours_asked, kept_after_append, kept_at, kept_deciding, last_of, stamp_of, stamp_told}
+use Rattle.run_rules.specs.Told.{Account, Step, Untold, colours_asked, kept_after_append, kept_appending, kept_at, kept_deciding, last_of, stamp_of, stamp_told}
 use Rattle.run_rules.specs.Telling.{IsWellFormed, account_of, journal_among, log_of, no_nodes}
 use Rattle.run_rules.specs.Naming.{Names, NamesAppend, NamesEnd, NamesPlace, NamesPoint, EntersOf}
 use Rattle.run_rules.specs.Answering.{CanEnd, CanHave, HasPoints}
@@ -337,7 +337,8 @@ module _ (script : Script) (report : Report) (nodes : ℕ → List Node) (third 
 
   pub answer_told : (kept : Kept) (shown : _) (answer : Answer) → CanHave it kept what shown answer
       → Names full_log untold it kept what answer → UsesNode full_log it kept what answer
-      → OfStood (StandsSo finding bare_log it) bare_log it kept answer → Stands full_log untold it kept what answer
+      → OfStood (StandsSo finding bare_log it) bare_log it (kept_appending bare_log it kept answer) answer
+      → Stands full_log untold it kept what answer
   answer_told kept shown (answers.Stood stamp row points) can names uses so =
       as_told kept stamp row points can.2 uses.0 uses.1 names so
   answer_told kept shown (answers.Ruled conflict stamp row points read_stamp raises syncs) can names uses so =
@@ -353,7 +354,8 @@ module _ (script : Script) (report : Report) (nodes : ℕ → List Node) (third 
   answer_told kept shown _ can names uses so = tt
 
   pub answer_looked : (kept : Kept) (answer : Answer) → UsesNode full_log it kept what answer
-      → Stands full_log untold it kept what answer → OfStood (StandsSo finding bare_log it) bare_log it kept answer
+      → Stands full_log untold it kept what answer
+      → OfStood (StandsSo finding bare_log it) bare_log it (kept_appending bare_log it kept answer) answer
   answer_looked kept (answers.Stood stamp row points) uses stands = as_looked kept stamp row points uses.0 stands
   answer_looked kept (answers.Ruled conflict stamp row points read_stamp raises syncs) uses stands =
       from_stamp kept row points (as_looked kept (stamp_told full_log it kept row points) row points uses.0 stands)

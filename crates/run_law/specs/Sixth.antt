@@ -1,13 +1,14 @@
 -- The sixth rule, at the account with the nodes of the commands: what is looked at of an append that stands.
-use Rattle.std.specs.Prelude.{◌≡◌, ◌≢◌, ◌↔◌, ℕ, ◌<◌, List, [], ◌∷◌, Option, Some, None, slice_get}
+use Rattle.std.specs.Prelude.{◌≡◌, ◌≢◌, ◌↔◌, IsTrue, ℕ, ◌<◌, List, [], ◌∷◌, Option, Some, None, slice_get}
 use Rattle.std.specs.List.{All}
+use Rattle.log_node.specs.declared.ids.Id.{Id}
 use Rattle.log_node.specs.declared.node.At.{At}
 use Rattle.log_node.specs.declared.node.At.TheVariants as ats
 use Rattle.log_node.specs.declared.marks.Outcome.TheVariants.{Final}
 use Rattle.col_core.specs.declared.Event.{Event}
 use Rattle.col_core.specs.declared.Event.TheVariants.{Propose}
 use Rattle.col_core.specs.declared.Entry.{Entry}
-use Rattle.col_core.specs.History.{entry_key, line}
+use Rattle.col_core.specs.History.{enters, entry_key, line}
 use Rattle.col_core.specs.Log.{Log}
 use Rattle.col_core.specs.Keeping.{Kept}
 use Rattle.script_text.specs.declared.script.Script.{Script}
@@ -20,7 +21,8 @@ use Rattle.report_text.specs.declared.report.PointPiece.{PointPiece}
 use Rattle.report_text.specs.declared.report.RowReport.{RowReport}
 use Rattle.report_text.specs.declared.report.Report.{Report}
 use Rattle.lawful_run.specs.Callers.{Caller}
-use Rattle.run_rules.specs.Told.{OfEachStep, Step, kept_at, kept_deciding, stamp_of, stamp_told}
+use Rattle.column_track.specs.Tracks.{EntersAt}
+use Rattle.run_rules.specs.Told.{OfEachStep, Step, kept_appending, kept_at, stamp_of, stamp_told}
 use Rattle.run_rules.specs.Telling.{IsWellFormed, account_of}
 use Rattle.run_rules.specs.Rules.{Rule6}
 use Rattle.run_rules.specs.Nodes.{nodes_told}
@@ -31,6 +33,11 @@ use Rattle.run_law.specs.Walking.{Walked, log_walked}
 
 -- AT A POINT
 
+-- the id enters by the event at this place alone, or by none
+pub record EntersOnlyAt (history : List Entry) (id : Id) (place : Option ℕ) : Type 0 where
+  pub there : EntersAt history id place
+  pub only : (n : ℕ) (e : Entry) → slice_get history n ≡ Some e → IsTrue (enters id e.event) → place ≡ Some n
+
 -- the event proposes the client's next node
 abbrev pub ProposesNext : Caller → Kept → ℕ → Event → Type 0
 ProposesNext caller kept colour event = event ≡ Propose (next_id caller kept) kept.floor (kept.starts colour)
@@ -39,6 +46,10 @@ ProposesNext caller kept colour event = event ≡ Propose (next_id caller kept) 
 abbrev pub IsProposalAt : Log → Caller → Kept → ℕ → ℕ → Entry → Type 0
 IsProposalAt log caller kept colour place e =
     (slice_get (log.histories caller.own colour) place ≡ Some e) × ProposesNext caller kept colour e.event
+
+-- the event of another client proposes it
+abbrev pub IsHelped : Caller → Kept → ℕ → Entry → Type 0
+IsHelped caller kept colour e = ProposesNext caller kept colour e.event × (e.by ≢ caller.client)
 
 -- the node was proposed by the event at a place, or by one of another client before a look
 abbrev pub IsProposedBy : Log → Caller → Kept → ℕ → At → Type 0
@@ -93,7 +104,8 @@ abbrev pub OfStoodEnd : (Kept → ℕ → Option ℕ → List PointPiece → Typ
 OfStoodEnd P kept (ends.Stood stamp point) = P kept stamp None (point ∷ [])
 OfStoodEnd P kept _ = Unit {0}
 
--- What is asked of an append that stands: by what the client kept, the stamp, and the row and the points that are named.
+-- What is asked of an append that stands: by what the client keeps when its node is appended, the stamp, and the row and the points
+-- that are named.
 abbrev pub OfStood : (Kept → ℕ → Option ℕ → List PointPiece → Type 0) → Log → Caller → Kept → Answer → Type 0
 OfStood P log caller kept (answers.Stood stamp row points) = P kept stamp row points
 OfStood P log caller kept (answers.Ruled conflict stamp row points read_stamp raises syncs) =
@@ -103,19 +115,20 @@ OfStood P log caller kept (answers.Changed failed stamp row points read_stamp ra
 OfStood P log caller kept (answers.Took value point sync) =
     P kept (stamp_told log caller kept None (point ∷ [])) None (point ∷ [])
 OfStood P log caller kept (answers.Decided commits stamp sync read_stamp raises syncs ended) =
-    OfStoodEnd P (kept_deciding log caller kept sync read_stamp raises syncs) ended
+    OfStoodEnd P kept ended
 OfStood P log caller kept _ = Unit {0}
 
 -- what is looked at of a step
 abbrev pub StandsBeside : Finding → Walked → Caller → Step → Type 0
 StandsBeside find walked caller step =
-    OfStood (StandsSo find (log_walked walked) caller) (log_walked walked) caller (kept_at step) step.reply.answer
+    OfStood (StandsSo find (log_walked walked) caller) (log_walked walked) caller
+    (kept_appending (log_walked walked) caller (kept_at step) step.reply.answer) step.reply.answer
 
 -- THE RULE
 
 -- how rows are found is by their regions and ids
 abbrev pub FindsRows : Report → Finding → Type 0
-FindsRows report find = (region : ℕ) (id : _) → find region id ≡ row_with region id report.rows
+FindsRows report find = (region : ℕ) (id : Id) → find region id ≡ row_with region id report.rows
 
 -- Where a report keeps the first five rules, the sixth is what is looked at of each step.
 abbrev pub SixthIsStanding : Type 0
