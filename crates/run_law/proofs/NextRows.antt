@@ -1,5 +1,5 @@
 -- The row of a client's next node, with whatever nodes of which the fifth rule holds.
-use Rattle.std.proofs.Common.{◌≡◌, ◌∙◌, ap, sym, subst, ℕ, ◌<◌, List, map, Some}
+use Rattle.std.proofs.Common.{◌≡◌, ◌∙◌, ap, sym, ℕ, ◌<◌, List, map, Some}
 use Rattle.std.specs.Prelude.{slice_get}
 use Rattle.log_node.specs.declared.ids.Id.{Id}
 use Rattle.log_node.specs.declared.ids.Colours.{Colours}

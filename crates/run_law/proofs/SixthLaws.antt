@@ -1,9 +1,9 @@
 -- The sixth rule, at the account with the nodes of the commands, is what is looked at of appends that stand.
-use Rattle.std.proofs.Common.{◌≡◌, ◌⊎◌, ◌∙◌, refl, ap, sym, subst, Bool, true, false, ℕ, zero, suc, ◌+◌, ◌<◌, ◌≤◌, List, [], ◌∷◌, length, map, get_or, Option, Some, None, inl, inr, arith}
-use Rattle.std.specs.Prelude.{◌≢◌, ◌↔◌, slice_get}
+use Rattle.std.proofs.Common.{◌≡◌, ◌∙◌, refl, ap, sym, subst, ℕ, ◌<◌, List, [], ◌∷◌, length, map, get_or, Option, Some, None, inl, inr, arith}
+use Rattle.std.specs.Prelude.{slice_get}
 use Rattle.std.specs.List.{All, find}
 use Rattle.std.proofs.lemmas.List.{length-map}
-use Rattle.std.proofs.lemmas.List.Elements.{All-contains, All-head}
+use Rattle.std.proofs.lemmas.List.Elements.{All-contains}
 use Rattle.std.proofs.lemmas.Option.{slice_get_within}
 use Rattle.log_node.specs.declared.ids.Id.{Id}
 use Rattle.log_node.specs.declared.ids.Colours.{Colours}
@@ -22,7 +22,7 @@ use Rattle.col_core.specs.declared.Entry.{Entry}
 use Rattle.col_core.specs.Appending.{EntersBehind}
 use Rattle.col_core.specs.Log.{Log, HasOutcome}
 use Rattle.col_core.specs.Keeping.{Kept, kept_after_single}
-use Rattle.col_core.specs.Rows.{BegunRow, FitsRow, node_wants}
+use Rattle.col_core.specs.Rows.{BegunRow, node_wants}
 use Rattle.col_core.proofs.CallerLemmas.{In, all_in, by_test, contains_in, if_true, if_false, in_map-back}
 use Rattle.script_text.specs.declared.commands.What.{What}
 use Rattle.script_text.specs.declared.commands.What.TheVariants as whats
@@ -40,22 +40,19 @@ use Rattle.lawful_run.specs.Callers.{Caller, caller_of, node_of}
 use Rattle.lawful_run.specs.Appends.{Appends, StandsAt}
 use Rattle.lawful_run.specs.Deeds.{AsksToAppend}
 use Rattle.lawful_run.specs.Reads.{events_until}
-use Rattle.run_rules.specs.Told.{Account, Step, Untold, colours_asked, kept_after_append, kept_appending, kept_at, kept_deciding, last_of, stamp_of, stamp_told}
-use Rattle.run_rules.specs.Telling.{IsWellFormed, account_of, journal_among, log_of, no_nodes}
+use Rattle.run_rules.specs.Told.{Account, Untold, colours_asked, kept_after_append, kept_appending, kept_at, kept_deciding, last_of, stamp_of, stamp_told}
+use Rattle.run_rules.specs.Telling.{account_of, journal_among, log_of, no_nodes}
 use Rattle.run_rules.specs.Naming.{Names, NamesAppend, NamesEnd, NamesPlace, NamesPoint, EntersOf}
 use Rattle.run_rules.specs.Answering.{CanEnd, CanHave, HasPoints}
 use Rattle.run_rules.specs.Rules.{EntersAsNode, HasNode, HasOwnNodes, Rule1, Rule3, Rule4, Rule5, Rule6, Stands, StandsAsTold, StandsAtEnd, UsesEnd, UsesNode, with_room}
 use Rattle.run_rules.specs.Nodes.{nodes_told}
-use Rattle.run_rules.specs.Keeping.{RulesTo}
 use Rattle.run_rules.proofs.CallerLemmas.{rule1, rule3, rule4, rule5}
 use Rattle.run_law.specs.Fifth.{Finding, next_id}
-use Rattle.run_law.specs.Sixth.{FindsRows, HasEnteredBy, HasFinalRow, IsFinalUnder, IsProposedBy, OfStood, OfStoodEnd, SixthIsStanding, StandsBeside, StandsSo, StandsThere}
+use Rattle.run_law.specs.Sixth.{FindsRows, HasEnteredBy, IsFinalUnder, IsProposedBy, OfStood, OfStoodEnd, SixthIsStanding, StandsBeside, StandsSo, StandsThere}
 use Rattle.run_law.specs.Third.{rows_in}
-use Rattle.run_law.specs.Walking.{Walked}
 use Rattle.run_law.proofs.FifthLaws.{node_colours, wants_own}
 use Rattle.run_law.proofs.NextRows.{begun_row, row_begun, steps_named}
 use Rattle.run_law.proofs.NodeRows.{full, full_id}
-use Rattle.run_law.proofs.NodeRows as beside
 
 -- WITH WHATEVER NODES
 
@@ -286,9 +283,13 @@ module _ (script : Script) (report : Report) (nodes : ℕ → List Node) (third 
   as_told : (kept : Kept) (stamp : ℕ) (row : Option ℕ) (points : List PointPiece) → HasPoints (colours_asked it kept what) row points
       → HasNode full_log it kept what → EntersAsNode full_log it kept row points → NamesAppend full_log untold it kept row points
       → StandsSo finding bare_log it kept stamp row points → StandsAsTold full_log untold it kept what stamp row points
-  as_told kept stamp row points are (colours, text, asks, next) enters names so =
-      (colours, text, asks, stands_told script report nodes third finding finds n home own kept untold what colours text asks next
-      stamp row points are enters names so)
+  as_told kept stamp row points are (colours, text, asks, next) enters names so = (
+    colours,
+    text,
+    asks,
+    stands_told script report nodes third finding finds n home own kept untold what colours text asks next
+        stamp row points are enters names so,
+  )
 
   as_looked : (kept : Kept) (stamp : ℕ) (row : Option ℕ) (points : List PointPiece) → HasNode full_log it kept what
       → StandsAsTold full_log untold it kept what stamp row points → StandsSo finding bare_log it kept stamp row points

@@ -1,6 +1,6 @@
 -- What is found of an append that stands.
 use Rattle.std.proofs.Common.{◌≡◌, ◌∙◌, refl, ap, sym, subst, Bool, true, false, ℕ, zero, suc, ◌<◌, ◌≤◌, List, [], ◌∷◌, length, get_or, Option, Some, None, arith}
-use Rattle.std.specs.Prelude.{◌≢◌, IsTrue, slice_get}
+use Rattle.std.specs.Prelude.{◌≢◌, slice_get}
 use Rattle.std.specs.List.{All}
 use Rattle.std.proofs.lemmas.Bool.{true≢false}
 use Rattle.std.proofs.lemmas.Option.{get_or_from_slice_get}
@@ -8,7 +8,6 @@ use Rattle.log_node.specs.declared.ids.Id.{Id}
 use Rattle.log_node.specs.declared.node.At.TheVariants as ats
 use Rattle.log_node.proofs.CallerLemmas.{get_within, same_id-refl, same_some}
 use Rattle.col_core.specs.declared.Entry.{Entry}
-use Rattle.col_core.specs.declared.Event.{Event}
 use Rattle.col_core.specs.Computed.{dated}
 use Rattle.col_core.specs.History.{enters}
 use Rattle.col_core.specs.Legal.{IsColumnHistory}
@@ -16,8 +15,6 @@ use Rattle.col_core.specs.Log.{Log}
 use Rattle.col_core.specs.Keeping.{Kept}
 use Rattle.report_text.specs.declared.report.PointPiece.{PointPiece}
 use Rattle.script_text.specs.Fitting.{IsFitting}
-use Rattle.script_text.specs.declared.script.Script.{Script}
-use Rattle.report_text.specs.declared.report.Report.{Report}
 use Rattle.lawful_run.specs.Callers.{Caller}
 use Rattle.run_rules.specs.Keeping.{RulesTo}
 use Rattle.run_rules.specs.Nodes.{nodes_told}

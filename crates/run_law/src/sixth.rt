@@ -28,8 +28,7 @@ use std::alloc::{AllocError, Global};
 /// Where a report keeps the first five rules, the sixth is what is looked at of each step.
 pub fn sixth_is_standing()
     ensures { SixthIsStanding }
-{
-}
+{}
 
 // COLUMNS
 
@@ -368,13 +367,7 @@ impl Standing {
     }
 
     // Whether the append of a command with this answer stands, of a client that keeps this when its node is appended.
-    fn stands(
-        &self,
-        subject: &Subject<'_>,
-        client: u8,
-        keeping: &Keeping,
-        answer: &Answer,
-    ) -> bool
+    fn stands(&self, subject: &Subject<'_>, client: u8, keeping: &Keeping, answer: &Answer) -> bool
         requires { client < length subject.now.report.clients }
         ensures { (kept : Kept) → IsCounted (replies_to subject.now.report client) kept keeping.now → Tells result
             (OfStood (StandsSo (finding_in self.now.rows subject.now.report.rows) (log_walked subject.now)

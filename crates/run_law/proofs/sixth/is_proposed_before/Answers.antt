@@ -1,6 +1,4 @@
-use Rattle.std.proofs.Common.{◌≡◌, ◌∙◌, ◌<◌, ◌≤◌, List, ap, sym, arith}
-use Rattle.std.specs.Prelude.{slice_get}
-use Rattle.col_core.specs.declared.Entry.{Entry}
+use Rattle.std.proofs.Common.{◌∙◌, ap, arith}
 use Rattle.lawful_run.specs.Callers.{caller_of}
 use Rattle.run_law.specs.Walking.{journal_walked, log_walked}
 use Rattle.run_law.proofs.SixthLemmas.{before_told, none_before, not_before, not_there, read_none, read_there}

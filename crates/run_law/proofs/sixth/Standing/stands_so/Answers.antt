@@ -1,4 +1,4 @@
-use Rattle.std.proofs.Common.{◌≡◌, ◌<◌, arith}
+use Rattle.std.proofs.Common.{arith}
 use Rattle.lawful_run.specs.Callers.{caller_of}
 use Rattle.run_law.specs.Fifth.{finding_in}
 use Rattle.run_law.specs.Walking.{log_walked}
