@@ -28,6 +28,7 @@ mod RisingLemmas
 mod RowLemmas
 mod RowOrder
 mod RowPlaceLemmas
+mod SeventhLaws
 mod Shards
 mod SixthLaws
 mod SixthLemmas

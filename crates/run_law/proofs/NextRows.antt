@@ -1,20 +1,23 @@
 -- The row of a client's next node, with whatever nodes of which the fifth rule holds.
 use Rattle.std.proofs.Common.{◌≡◌, ◌∙◌, ap, sym, ℕ, ◌<◌, List, map, Some}
 use Rattle.std.specs.Prelude.{slice_get}
+use Rattle.std.specs.List.{All}
+use Rattle.std.proofs.lemmas.List.Elements.{All-contains}
 use Rattle.log_node.specs.declared.ids.Id.{Id}
 use Rattle.log_node.specs.declared.ids.Colours.{Colours}
 use Rattle.log_node.specs.declared.node.Node.{Node}
+use Rattle.log_node.specs.declared.marks.ColourMark.{ColourMark}
 use Rattle.log_node.proofs.CallerLemmas.{same_some}
 use Rattle.col_core.specs.Log.{Log, IsBegunFor}
 use Rattle.col_core.specs.Keeping.{Kept}
-use Rattle.col_core.specs.Rows.{BegunRow}
+use Rattle.col_core.specs.Rows.{BegunRow, FitsRow, IsMarkOf}
 use Rattle.col_core.proofs.CallerLemmas.{contains_in, in_contains, in_map, in_map-back}
 use Rattle.script_text.specs.declared.script.Script.{Script}
 use Rattle.report_text.specs.declared.report.Report.{Report}
 use Rattle.report_text.specs.declared.report.RowReport.{RowReport}
 use Rattle.lawful_run.specs.Appends.{AreSteps}
 use Rattle.lawful_run.specs.Callers.{Caller, caller_of, node_of}
-use Rattle.run_rules.specs.Telling.{account_of, log_of}
+use Rattle.run_rules.specs.Telling.{account_of, journal_among, log_of}
 use Rattle.run_rules.specs.Naming.{NamesSteps}
 use Rattle.run_rules.specs.Rules.{HasOwnNodes, Rule3, with_room}
 use Rattle.run_law.specs.Fifth.{Finding, next_id}
@@ -51,6 +54,17 @@ module _ (script : Script) (report : Report) (nodes : ℕ → List Node) (third 
         of_node = same_some (sym (own.row_nodes (g r) among of_it)
             ∙ (ap (λ (d : Id). slice_get (nodes n) d.count) (full_id script report nodes r ∙ there.1) ∙ next));
       }
+
+  -- it is lawful beside its columns
+  pub row_fits : (r : RowReport) → find who.own (next_id who kept) ≡ Some r → FitsRow who.own (g r)
+  row_fits r found =
+      All-contains (FitsRow who.own) (map g its_rows) (g r) (third.lawful who.own home).fit (begun_row r found).begun
+
+  pub marks_fit : (r : RowReport) → find who.own (next_id who kept) ≡ Some r
+      → All (λ (m : ColourMark). IsMarkOf (journal_among report.columns who.own m.colour) (g r).node m.mark) r.marks
+  marks_fit r found =
+      All-contains (λ (b : BegunRow). All (λ (m : ColourMark). IsMarkOf (journal_among report.columns who.own m.colour) b.node m.mark) b.marks)
+      (map g its_rows) (g r) (third.lawful who.own home).marks (begun_row r found).begun
 
   -- and a row that is begun for the node is found
   pub row_begun : (b : BegunRow) → IsBegunFor (log_of report nodes) node b
