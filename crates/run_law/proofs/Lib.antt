@@ -32,6 +32,7 @@ mod RowLemmas
 mod RowOrder
 mod RowPlaceLemmas
 mod SeventhLaws
+mod SeventhLemmas
 mod Shards
 mod SixthLaws
 mod SixthLemmas

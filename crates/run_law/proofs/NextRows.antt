@@ -66,6 +66,12 @@ module _ (script : Script) (report : Report) (nodes : ℕ → List Node) (third 
       All-contains (λ (b : BegunRow). All (λ (m : ColourMark). IsMarkOf (journal_among report.columns who.own m.colour) b.node m.mark) b.marks)
       (map g its_rows) (g r) (third.lawful who.own home).marks (begun_row r found).begun
 
+  pub marks_low : (r : RowReport) → find who.own (next_id who kept) ≡ Some r
+      → All (λ (m : ColourMark). m.colour < script.shape.colours) r.marks
+  marks_low r found =
+      All-contains (λ (b : BegunRow). All (λ (m : ColourMark). m.colour < script.shape.colours) b.marks) (map g its_rows) (g r)
+      (third.marked who.own home) (begun_row r found).begun
+
   -- and a row that is begun for the node is found
   pub row_begun : (b : BegunRow) → IsBegunFor (log_of report nodes) node b
       → (r : RowReport) × (find who.own (next_id who kept) ≡ Some r) × (g r ≡ b)

@@ -1,6 +1,6 @@
 -- The seventh rule, at the account with the nodes of the commands, is what is looked at of stops.
 use Rattle.std.proofs.Common.{◌≡◌, ◌⊎◌, ◌∙◌, refl, ap, sym, subst, Bool, true, false, ℕ, zero, suc, ◌+◌, ◌<◌, ◌≤◌, List, [], ◌∷◌, ◌++◌, length, map, take, drop, get_or, cond, Option, Some, None, inl, inr, arith}
-use Rattle.std.specs.Prelude.{◌≢◌, ◌==◌, ◌&&◌, IsTrue, slice_get, if◌then◌else◌}
+use Rattle.std.specs.Prelude.{◌≢◌, ◌↔◌, ◌==◌, ◌&&◌, IsTrue, slice_get, if◌then◌else◌}
 use Rattle.std.specs.List.{All, Contains}
 use Rattle.std.proofs.lemmas.Bool.{and_parts, cases_Bool, eq-eqb, eqb-true}
 use Rattle.std.proofs.lemmas.List.{length-map, take-append-drop, take_all}
@@ -48,9 +48,9 @@ use Rattle.run_rules.specs.Rules.{HasNode, HasOwnNodes, IsLawfulColumn, Rule1, R
 use Rattle.run_rules.specs.Nodes.{nodes_told}
 use Rattle.run_rules.proofs.CallerLemmas.{rule1, rule2, rule3, rule4, rule5}
 use Rattle.run_law.specs.Fifth.{Finding, next_id}
-use Rattle.run_law.specs.Seventh.{AsksToStop, IsClosed, IsEarlyAt, SeventhIsStopping, StopsBeside, StopsBy, StopsIn, StopsOn, StopsOnRow, StopsSo}
+use Rattle.run_law.specs.Seventh.{AsksToStop, FindsOpen, IsClosed, IsEarlyAt, Opening, SeventhIsStopping, StopsBeside, StopsBy, StopsIn, StopsOn, StopsOnRow, StopsSo}
 use Rattle.run_law.specs.Sixth.{FindsRows}
-use Rattle.run_law.proofs.NextRows.{begun_row, marks_fit, row_begun, row_fits, steps_named}
+use Rattle.run_law.proofs.NextRows.{begun_row, marks_fit, marks_low, row_begun, row_fits, steps_named}
 use Rattle.run_law.proofs.NodeRows.{full}
 use Rattle.run_law.proofs.RisingLemmas.{members_once}
 use Rattle.run_law.proofs.SixthLaws.{home_low}
@@ -157,7 +157,7 @@ stopped_so log caller kept node steps after (stopped_after k places s) n is = (p
 module _ (script : Script) (report : Report) (nodes : ℕ → List Node) (third : Rule3 script (account_of script report nodes))
     (lawful : (region colour : ℕ)
     → IsColumnHistory region script.shape.regions (dated region (journal_among report.columns region colour)))
-    (finding : Finding) (finds : FindsRows report finding) (n : ℕ) (home : (caller_of script n).own < script.shape.regions)
+    (finding : Finding) (finds : FindsRows report finding) (opens : Opening) (opening : FindsOpen script report opens) (n : ℕ) (home : (caller_of script n).own < script.shape.regions)
     (own : HasOwnNodes script (account_of script report nodes) n) (kept : Kept) (untold : Untold) (colours : Colours) (text : List ℕ)
     (next : slice_get (nodes n) kept.ids ≡ Some (node_of (caller_of script n) kept colours text)) where
   abbrev who : Caller
@@ -219,34 +219,42 @@ module _ (script : Script) (report : Report) (nodes : ℕ → List Node) (third 
         let place : there.0 ≡ k = members_once colours there.0 k m.colour (colour_at there.0 d there.1) (colour_at k m at) in
         ap (λ (y : ColourMark). y.mark) (same_some (sym at ∙ (ap (slice_get r.marks) (sym place) ∙ there.1)))
 
+    its_opening : (k : ℕ) (m : ColourMark) → slice_get r.marks k ≡ Some m
+        → (opens who.own m.colour (next_id who kept) ≡ false) ↔ (open_entry (next_id who kept) (entries (h m.colour)) ≡ None)
+    its_opening k m at = opening who.own m.colour home
+        (All-contains (λ (x : ColourMark). x.colour < script.shape.colours) r.marks m
+        (marks_low script report nodes third finding finds n home own kept colours text next r found)
+        (contains_in r.marks m (slice_in r.marks k m at))) (next_id who kept)
+
     closed_so : (k : ℕ) (m : ColourMark) → slice_get r.marks k ≡ Some m → IsSettledIn whole (with_room who kept) node m.colour
-        → IsClosed (h m.colour) (next_id who kept) m.mark
+        → IsClosed (opens who.own m.colour (next_id who kept)) (h m.colour) (next_id who kept) m.mark
     closed_so k m at (count, within, closed) = by closed.for_good where
       by : ((why : Why) × HasMark whole node m.colour (marks.Fenced why))
-          ⊎ IsTrue (has_entered node.id (take count (h m.colour))) → IsClosed (h m.colour) (next_id who kept) m.mark
+          ⊎ IsTrue (has_entered node.id (take count (h m.colour))) → IsClosed (opens who.own m.colour (next_id who kept)) (h m.colour) (next_id who kept) m.mark
       by (inl (why, has)) =
           let same = same_mark k m at (marks.Fenced why) has in
           let fits = All-contains (λ (x : ColourMark). IsMarkOf (h x.colour) b.node x.mark) r.marks m
           (marks_fit script report nodes third finding finds n home own kept colours text next r found)
           (contains_in r.marks m (slice_in r.marks k m at)) in record {
-            not_open = never_open who.own script.shape.regions (h m.colour) (next_id who kept) (lawful who.own m.colour)
+            not_open = (its_opening k m at).1
+                (never_open who.own script.shape.regions (h m.colour) (next_id who kept) (lawful who.own m.colour)
                 (fenced_never (h m.colour) node why
                 (subst (IsMarkOf (h m.colour) node) same
-                (subst (λ (x : Node). IsMarkOf (h m.colour) x m.mark) begun.of_node fits)));
+                (subst (λ (x : Node). IsMarkOf (h m.colour) x m.mark) begun.of_node fits))));
             for_good = inl (why, same);
           }
       by (inr entered) =
           let now = entered_closed who.own script.shape.regions (h m.colour) (next_id who kept) count (lawful who.own m.colour)
           (record { entered = entered; not_open = closed.not_open }) in
-          record { not_open = now.not_open; for_good = inr now.entered }
+          record { not_open = (its_opening k m at).1 now.not_open; for_good = inr now.entered }
 
-    settled_so : (k : ℕ) (m : ColourMark) → slice_get r.marks k ≡ Some m → IsClosed (h m.colour) (next_id who kept) m.mark
+    settled_so : (k : ℕ) (m : ColourMark) → slice_get r.marks k ≡ Some m → IsClosed (opens who.own m.colour (next_id who kept)) (h m.colour) (next_id who kept) m.mark
         → IsSettledIn whole (with_room who kept) node m.colour
     settled_so k m at closed = (
       length (h m.colour),
       omega arith,
       subst (λ (x : List Entry). IsClosedFor whole x node m.colour) (sym (take_all (length (h m.colour)) (h m.colour) (omega arith)))
-          (record { not_open = closed.not_open; for_good = by closed.for_good }),
+          (record { not_open = (its_opening k m at).0 closed.not_open; for_good = by closed.for_good }),
     ) where
       by : ((why : Why) × (m.mark ≡ marks.Fenced why)) ⊎ IsTrue (has_entered node.id (h m.colour))
           → ((why : Why) × HasMark whole node m.colour (marks.Fenced why)) ⊎ IsTrue (has_entered node.id (h m.colour))
@@ -256,7 +264,7 @@ module _ (script : Script) (report : Report) (nodes : ℕ → List Node) (third 
     module _ (steps : ℕ) where
       -- FROM WHAT IS LOOKED AT
 
-      stops_told : NamesSteps whole who kept untold.places → StopsOn bare who kept untold.places steps r
+      stops_told : NamesSteps whole who kept untold.places → StopsOn opens bare who kept untold.places steps r
           → StopsAfter whole (with_room who kept) kept node steps untold.places
       stops_told names so = record {
         begins = record {
@@ -285,7 +293,7 @@ module _ (script : Script) (report : Report) (nodes : ℕ → List Node) (third 
       -- AND BACK
 
       stops_so : (places : ℕ → List ℕ) → ((c : ℕ) → places c ≡ untold.places c)
-          → StopsAfter whole (with_room who kept) kept node steps places → StopsOn bare who kept untold.places steps r
+          → StopsAfter whole (with_room who kept) kept node steps places → StopsOn opens bare who kept untold.places steps r
       stops_so places same is = record {
         decided = λ le. let many = as_many in decided_so (is.decided (omega (arith, le, many)));
         each = λ k m at. record {
@@ -310,7 +318,7 @@ module _ (script : Script) (report : Report) (nodes : ℕ → List Node) (third 
 module _ (script : Script) (report : Report) (nodes : ℕ → List Node) (third : Rule3 script (account_of script report nodes))
     (lawful : (region colour : ℕ)
     → IsColumnHistory region script.shape.regions (dated region (journal_among report.columns region colour)))
-    (finding : Finding) (finds : FindsRows report finding) (n : ℕ) (home : (caller_of script n).own < script.shape.regions)
+    (finding : Finding) (finds : FindsRows report finding) (opens : Opening) (opening : FindsOpen script report opens) (n : ℕ) (home : (caller_of script n).own < script.shape.regions)
     (own : HasOwnNodes script (account_of script report nodes) n) (kept : Kept) (untold : Untold) (what : What) where
   abbrev it : Caller
   it = caller_of script n
@@ -332,14 +340,14 @@ module _ (script : Script) (report : Report) (nodes : ℕ → List Node) (third 
 
   row_told : (o : Option RowReport) → finding it.own (next_id it kept) ≡ o → (colours : Colours) (text : List ℕ)
       → slice_get (nodes n) kept.ids ≡ Some (node_of it kept colours text) → (steps : ℕ) → NamesSteps full_log it kept untold.places
-      → StopsOnRow bare_log it kept untold.places steps o
+      → StopsOnRow opens bare_log it kept untold.places steps o
       → StopsAfter full_log (with_room it kept) kept (node_of it kept colours text) steps untold.places
   row_told None found colours text next steps names so = absurd so
   row_told (Some r) found colours text next steps names so =
-      stops_told script report nodes third lawful finding finds n home own kept untold colours text next r found steps names so
+      stops_told script report nodes third lawful finding finds opens opening n home own kept untold colours text next r found steps names so
 
   pub answer_told : (answer : Answer) → Names full_log untold it kept what answer → UsesNode full_log it kept what answer
-      → StopsBy finding bare_log untold it kept what answer → StopsAsTold full_log untold it kept what answer
+      → StopsBy finding opens bare_log untold it kept what answer → StopsAsTold full_log untold it kept what answer
   answer_told (answers.Stopped zero) names uses ((colours, text, is), so) = (colours, text, is, stopped_at_once)
   answer_told (answers.Stopped (suc k)) names uses ((colours, text, is), so) = (
     colours,
@@ -353,19 +361,19 @@ module _ (script : Script) (report : Report) (nodes : ℕ → List Node) (third 
   -- and back
   stops_looked : (k : ℕ) (colours : Colours) (text : List ℕ)
       → Stops full_log (with_room it kept) kept (node_of it kept colours text) (suc k) (kept_after_stop untold it kept (suc k))
-      → StopsOnRow bare_log it kept untold.places (suc k) (finding it.own (next_id it kept))
+      → StopsOnRow opens bare_log it kept untold.places (suc k) (finding it.own (next_id it kept))
   stops_looked k colours text stops =
       let made = stopped_so full_log (with_room it kept) kept (node_of it kept colours text) (suc k)
       (kept_after_stop untold it kept (suc k)) stops k refl in
       let is = made.1 in
       let back = row_begun script report nodes third finding finds n home own kept colours text is.begins.next is.begins.row
       is.begins.begun in
-      subst (StopsOnRow bare_log it kept untold.places (suc k)) (sym back.1)
-      (stops_so script report nodes third lawful finding finds n home own kept untold colours text is.begins.next back.0 back.1 (suc k)
+      subst (StopsOnRow opens bare_log it kept untold.places (suc k)) (sym back.1)
+      (stops_so script report nodes third lawful finding finds opens opening n home own kept untold colours text is.begins.next back.0 back.1 (suc k)
       made.0 (same_made (with_row kept) it.own made.0 untold.places (sym made.2)) is)
 
   pub answer_looked : (answer : Answer) → StopsAsTold full_log untold it kept what answer
-      → StopsBy finding bare_log untold it kept what answer
+      → StopsBy finding opens bare_log untold it kept what answer
   answer_looked (answers.Stopped zero) (colours, text, is, stops) = ((colours, text, is), tt)
   answer_looked (answers.Stopped (suc k)) (colours, text, is, stops) = ((colours, text, is), stops_looked k colours text stops)
   answer_looked _ so = tt
@@ -373,7 +381,7 @@ module _ (script : Script) (report : Report) (nodes : ℕ → List Node) (third 
 -- THE RULE
 
 pub seventh_is_stopping : SeventhIsStopping
-seventh_is_stopping script report finding fits formed finds rules = (forth, back) where
+seventh_is_stopping script report finding opens fits formed finds opening rules = (forth, back) where
   first : Rule1 script report (account_of script report (nodes_told script report))
   first = rule1 rules.0.0.0.0.0.1
 
@@ -391,23 +399,23 @@ seventh_is_stopping script report finding fits formed finds rules = (forth, back
   lawful = lawful_journals script report (rule2 rules.0.0.0.0.1)
 
   forth : ((n : ℕ) (c : ClientReport) → slice_get report.clients n ≡ Some c
-      → All (StopsBeside finding (record { script = script; report = report }) (caller_of script n))
+      → All (StopsBeside finding opens (record { script = script; report = report }) (caller_of script n))
       ((account_of script report (nodes_told script report)).steps n))
       → Rule7 script report (account_of script report (nodes_told script report))
   forth so = record {
     stops = λ n c at k d lt.
         let s = get_or ((account_of script report (nodes_told script report)).steps n) k d in
-        answer_told script report (nodes_told script report) third lawful finding finds n
+        answer_told script report (nodes_told script report) third lawful finding finds opens opening n
         (home_low script report (account_of script report (nodes_told script report)) fits first n c at) (fifth.own n c at) (kept_at s) s.untold
         s.command.what s.reply.answer (fourth.named n c at k d lt) (fifth.used n c at k d lt) (so n c at k d lt);
   }
 
   back : Rule7 script report (account_of script report (nodes_told script report))
       → (n : ℕ) (c : ClientReport) → slice_get report.clients n ≡ Some c
-      → All (StopsBeside finding (record { script = script; report = report }) (caller_of script n))
+      → All (StopsBeside finding opens (record { script = script; report = report }) (caller_of script n))
       ((account_of script report (nodes_told script report)).steps n)
   back rule n c at k d lt =
       let s = get_or ((account_of script report (nodes_told script report)).steps n) k d in
-      answer_looked script report (nodes_told script report) third lawful finding finds n
+      answer_looked script report (nodes_told script report) third lawful finding finds opens opening n
       (home_low script report (account_of script report (nodes_told script report)) fits first n c at) (fifth.own n c at) (kept_at s) s.untold
       s.command.what s.reply.answer (rule.stops n c at k d lt)

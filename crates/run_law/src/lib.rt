@@ -42,7 +42,7 @@ pub use journals::tracks_of;
 pub use keeping::Keeping;
 pub use laws::fifth_is_entering;
 pub use left_open::keeps_eighth;
-pub use seventh::seventh_is_stopping;
+pub use seventh::{keeps_seventh, seventh_is_stopping};
 pub use sixth::{keeps_sixth, sixth_is_standing};
 pub use subject::Subject;
 pub use third::keeps_third;

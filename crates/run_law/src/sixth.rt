@@ -42,8 +42,8 @@ fn line_of<'s>(subject: &'s Subject<'_>, region: u8, colour: u8) -> &'s [Key]
     subject.track(region, colour).line()
 }
 
-/// The place of the event of a column by which an id enters, if one does.
-pub(crate) fn place_of(subject: &Subject<'_>, region: u8, colour: u8, id: Id) -> Option<u64>
+// The place of the event of a column by which an id enters, if one does.
+fn place_of(subject: &Subject<'_>, region: u8, colour: u8, id: Id) -> Option<u64>
     ensures { EntersOnlyAt (journal_walked subject.now region colour) id result }
 {
     if !subject.has_column(region, colour) {
@@ -99,8 +99,8 @@ fn is_helped(
     proposes_next(subject, client, keeping, colour, &entry.event)
 }
 
-// The place at which that node enters a column, if it does.
-fn next_place(
+/// The place at which that node enters a column, if it does.
+pub(crate) fn next_place(
     subject: &Subject<'_>,
     client: u8,
     own: u8,
