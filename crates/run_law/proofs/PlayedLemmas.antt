@@ -1,15 +1,15 @@
 -- The greatest stamp of the nodes that a sync played, region by region.
-use Rattle.std.proofs.Common.{◌≡◌, ◌⊎◌, ℕ, zero, suc, ◌+◌, ◌-◌, ◌<◌, ◌≤◌, Bool, true, false, ◌==◌, cond, List, [], ◌∷◌, ◌++◌, length, map, take, drop, min, max, Option, Some, None, get_or, flat_map, inl, inr, refl, ap, sym, subst, ◌∙◌, arith, append-nil}
+use Rattle.std.proofs.Common.{◌≡◌, ◌⊎◌, ℕ, zero, suc, ◌+◌, ◌-◌, ◌<◌, ◌≤◌, Bool, true, false, ◌==◌, cond, List, [], ◌∷◌, ◌++◌, length, map, take, drop, min, max, Some, get_or, flat_map, inl, inr, refl, ap, sym, subst, ◌∙◌, arith}
 use Rattle.std.specs.Prelude.{slice_get}
 use Rattle.std.proofs.lemmas.Bool.{cases_Bool, cases_lt, eq-eqb, eqb-true, true≢false}
-use Rattle.std.proofs.lemmas.List.{drop-map, length-append, length-map, length-take-le, map-append, take-map, take-take, take_all, take_at}
+use Rattle.std.proofs.lemmas.List.{drop-map, length-append, length-map, map-append, take-map, take-take, take_all, take_at}
 use Rattle.std.proofs.lemmas.Option.{get_or_from_slice_get}
 use mathlib.Core.List.{IsPrefix}
 use Rattle.log_node.specs.declared.ids.Counts.{Counts}
 use Rattle.log_node.specs.declared.ids.Key.{Key}
 use Rattle.log_node.specs.declared.node.Head.{Head}
 use Rattle.log_node.specs.Outcomes.{greatest}
-use Rattle.log_node.specs.Vectors.{all_regions, at, least, vector}
+use Rattle.log_node.specs.Vectors.{all_regions, at, least}
 use Rattle.log_node.proofs.CallerLemmas.{at-vector, get_within}
 use Rattle.col_core.specs.declared.Event.{Event}
 use Rattle.col_core.specs.declared.Event.TheVariants.{Single, Propose, Settle, Raise, Give, Carry, Trim}
@@ -19,7 +19,7 @@ use Rattle.col_core.specs.Computed.{dated}
 use Rattle.col_core.specs.Cuts.{Dated, carried, chain, entries_of, held, needs_of}
 use Rattle.col_core.specs.Legal.{IsColumnHistory, IsLawfulEvent}
 use Rattle.col_core.specs.PlayOrder.{greatest_between, nodes_between}
-use Rattle.col_core.proofs.CallerLemmas.{chains_grow, dates_longer, entries_dated, if_false, if_true, key-stamps, later, line_rises}
+use Rattle.col_core.proofs.CallerLemmas.{chains_grow, dates_longer, entries_dated, if_false, if_true, key-stamps, later, lawful_beginning, line_rises}
 use Rattle.column_track.specs.Tracks.{Tracked}
 use Rattle.run_law.specs.Behind.{StampsRise}
 use Rattle.run_law.specs.Walking.{MayWalk, Walked, journal_walked}
@@ -169,7 +169,7 @@ carried_none own regions region before (Carry other start heads) stamp ge lawful
 carried_none own regions region before (Trim counts) stamp ge lawful = refl
 
 -- of a region that there is not nothing is held
-pub chain_outside : (own regions region : ℕ) (ds : List Dated) → IsColumnHistory own regions ds → own < regions → regions ≤ region
+chain_outside : (own regions region : ℕ) (ds : List Dated) → IsColumnHistory own regions ds → own < regions → regions ≤ region
     → chain own ds region ≡ []
 chain_outside own regions region ds lawful lt ge =
     if_false (region == own) _ _ (other (cases_Bool (region == own)))
@@ -178,6 +178,13 @@ chain_outside own regions region ds lawful lt ge =
       other : ((region == own) ≡ true) ⊎ ((region == own) ≡ false) → (region == own) ≡ false
       other (inl t) = let same = eqb-true region own t in absurd (let f : ⊥ = omega (arith, same, lt, ge) in f)
       other (inr f) = f
+
+pub chain_none : (own regions region events : ℕ) (journal : List Entry) → IsColumnHistory own regions (dated own journal)
+    → own < regions → regions ≤ region → chain own (dated own (take events journal)) region ≡ []
+chain_none own regions region events journal lawful lt ge =
+    chain_outside own regions region (dated own (take events journal))
+    (lawful_beginning own regions (take events journal) (drop events journal)
+    (subst (λ (h : List Entry). IsColumnHistory own regions (dated own h)) (sym (split_at events journal)) lawful)) lt ge
 
 -- a column without events holds nothing
 pub chain_empty : (own events region : ℕ) (journal : List Entry) → journal ≡ [] → chain own (dated own (take events journal)) region ≡ []
