@@ -190,11 +190,11 @@ pub seventh_told : SeventhIsStopping → (walked : Walked) (tracks : List Tracke
     → DecidesEachStep walked (λ caller step. StopsBeside (finding_in table walked.report.rows)
     (opening_in tables walked.script.shape.colours) walked caller step) b
     → Tells b (Rule7 walked.script walked.report (account_of walked.script walked.report (nodes_told walked.script walked.report)))
-seventh_told law walked tracks may table are tables open rules true told =
+seventh_told law walked tracks may table are tables of rules true told =
     (law walked.script walked.report (finding_in table walked.report.rows) (opening_in tables walked.script.shape.colours) may.fitting
-    may.formed are (tables_find walked tracks may tables open) rules).0
+    may.formed are (tables_find walked tracks may tables of) rules).0
     (told (nodes_told walked.script walked.report))
-seventh_told law walked tracks may table are tables open rules false told = λ rule.
+seventh_told law walked tracks may table are tables of rules false told = λ rule.
     told (nodes_told walked.script walked.report)
     ((law walked.script walked.report (finding_in table walked.report.rows) (opening_in tables walked.script.shape.colours) may.fitting
-    may.formed are (tables_find walked tracks may tables open) rules).1 rule)
+    may.formed are (tables_find walked tracks may tables of) rules).1 rule)

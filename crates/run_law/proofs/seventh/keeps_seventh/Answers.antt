@@ -1,26 +1,20 @@
-use Rattle.std.proofs.Common.{rules, ◌≡◌, ◌≢◌, ◌+◌, ◌<◌, ◌≤◌, ℕ, IfOk, Some, length, slice_get, ◌-◌, ◌*◌, ◌/◌, ◌%◌, Bool, true, false, nat_eq, nat_lt, List, [], ◌∷◌, ◌++◌, slice_index_or, slice_set, bit_and, bit_or, Fits, w8, w32, w64, Bor, MutBor}
-use Rattle.std.specs.List.{All}
-use Rattle.log_node.specs.declared.ids.Id.{Id as NodeId}
-use Rattle.log_node.specs.declared.marks.ColourMark.{ColourMark as MarkOfColour}
-use Rattle.log_node.specs.declared.marks.Mark.TheVariants as marks
-use Rattle.log_node.specs.declared.marks.Outcome.TheVariants as outcomes
-use Rattle.col_core.specs.Appending.{IsStepWithin}
-use Rattle.col_core.specs.Keeping.{Kept}
-use Rattle.lawful_run.specs.Callers.{caller_of}
-use Rattle.column_track.specs.Tracks.{Tells}
-use Rattle.run_rules.specs.Keeping.{RulesTo}
-use Rattle.run_rules.specs.Nodes.{nodes_told}
-use Rattle.run_rules.specs.Rules.{Rule7}
-use Rattle.run_rules.specs.Told.{Untold}
-use Rattle.run_rules.specs.Telling.{account_of, replies_to}
-use Rattle.run_law.specs.Behind.{steps_untold}
-use Rattle.run_law.specs.Fifth.{finding_in, next_id}
-use Rattle.run_law.specs.Keepings.{IsCounted}
-use Rattle.run_law.specs.LeftOpen.{has_id, is_open_in}
-use Rattle.run_law.specs.Seventh.{AreOpenTables, AsksToStop, IsClosed, IsEarlyAt, IsFence, SeventhIsStopping, StopsBeside, StopsBy, StopsIn, StopsOn, StopsSo, opening_in}
-use Rattle.run_law.specs.Walking.{journal_walked, log_walked}
+use Rattle.std.proofs.Common.{◌∙◌, List, ap, subst}
+use Rattle.log_node.proofs.CallerLemmas.{ok_then}
+use Rattle.report_text.specs.declared.report.ColumnReport.{ColumnReport}
+use Rattle.report_text.specs.declared.report.Report.{Report}
+use Rattle.report_text.specs.declared.report.RowReport.{RowReport}
+use Rattle.run_law.specs.RowPlaces.{AreRowPlaces}
+use Rattle.run_law.specs.Seventh.{AreOpenTables}
+use Rattle.run_law.proofs.SeventhLemmas.{seventh_told}
 use Rattle.run_law.proofs.seventh.keeps_seventh.Goals as goal
 
--- src/seventh.rt:453:1
 pub returns : goal.returns
-returns c = ?
+returns c =
+    let may = c.agrees.ensures.may in
+    ok_then c.each_step.result _ _
+    (seventh_told c.seventh_is_stopping.ensures c.args.subject.now may.0 may.1 c.in_ok-rows.rows
+    (subst (λ (l : List RowReport). AreRowPlaces l c.in_ok-rows.rows)
+    (c.as_slice.ensures ∙ ap (λ (r : Report). r.rows) c.report.ensures) c.in_ok-rows.ensures) c.in_ok-open.open.items
+    (subst (λ (l : List ColumnReport). AreOpenTables l c.in_ok-open.open.items)
+    (c.as_slice-2.ensures ∙ ap (λ (r : Report). r.columns) c.report-2.ensures) c.in_ok-open.ensures) c.requires)
+    c.each_step.ensures

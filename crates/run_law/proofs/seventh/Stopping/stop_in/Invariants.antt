@@ -1,25 +1,16 @@
-use Rattle.std.proofs.Common.{◌≡◌, ◌≢◌, ◌+◌, ◌<◌, ◌≤◌, ℕ, IfOk, Some, length, slice_get, ◌-◌, ◌*◌}
-use Rattle.std.specs.List.{All}
-use Rattle.log_node.specs.declared.ids.Id.{Id as NodeId}
-use Rattle.log_node.specs.declared.marks.ColourMark.{ColourMark as MarkOfColour}
-use Rattle.log_node.specs.declared.marks.Mark.TheVariants as marks
-use Rattle.log_node.specs.declared.marks.Outcome.TheVariants as outcomes
-use Rattle.col_core.specs.Appending.{IsStepWithin}
+use Rattle.std.proofs.Common.{length}
 use Rattle.col_core.specs.Keeping.{Kept}
 use Rattle.lawful_run.specs.Callers.{caller_of}
-use Rattle.column_track.specs.Tracks.{Tells}
-use Rattle.run_rules.specs.Keeping.{RulesTo}
-use Rattle.run_rules.specs.Nodes.{nodes_told}
-use Rattle.run_rules.specs.Rules.{Rule7}
-use Rattle.run_rules.specs.Told.{Untold}
-use Rattle.run_rules.specs.Telling.{account_of, replies_to}
+use Rattle.run_rules.specs.Telling.{replies_to}
 use Rattle.run_law.specs.Behind.{steps_untold}
-use Rattle.run_law.specs.Fifth.{finding_in, next_id}
 use Rattle.run_law.specs.Keepings.{IsCounted}
-use Rattle.run_law.specs.LeftOpen.{has_id, is_open_in}
-use Rattle.run_law.specs.Seventh.{AreOpenTables, AsksToStop, IsClosed, IsEarlyAt, IsFence, SeventhIsStopping, StopsBeside, StopsBy, StopsIn, StopsOn, StopsSo, opening_in}
-use Rattle.run_law.specs.Walking.{journal_walked, log_walked}
+use Rattle.run_law.specs.Seventh.{opening_in}
+use Rattle.run_law.specs.Walking.{log_walked}
+use Rattle.run_law.proofs.SeventhLemmas.{StopSo}
 use Rattle.run_law.proofs.seventh.Stopping.stop_in.Given as goal
 
+-- all colours so far
 abbrev pub invariant-loop-n : goal.invariant-loop-n
-invariant-loop-n l = ?
+invariant-loop-n l = (kept : Kept) → IsCounted (replies_to l.subject.report l.client) kept l.keeping
+    → StopSo (opening_in l.self.open.items l.subject.script.shape.colours) (log_walked l.subject)
+    (caller_of l.subject.script l.client) kept (steps_untold l.subject l.client kept.ids) (length l.marks) l.steps l.marks l.n
