@@ -1,5 +1,5 @@
 -- What is found of an append that stopped.
-use Rattle.std.proofs.Common.{◌≡◌, ◌⊎◌, ◌∙◌, refl, ap, sym, subst, Bool, true, false, ℕ, zero, suc, ◌+◌, ◌*◌, ◌<◌, ◌≤◌, List, [], ◌∷◌, ◌++◌, length, take, get_or, Option, Some, None, inl, inr, arith}
+use Rattle.std.proofs.Common.{◌≡◌, ◌⊎◌, ◌∙◌, refl, ap, sym, subst, Bool, true, false, ℕ, zero, suc, ◌+◌, ◌*◌, ◌<◌, ◌≤◌, List, [], ◌∷◌, ◌++◌, length, map, take, get_or, Option, Some, None, inl, inr, arith}
 use Rattle.std.specs.Prelude.{◌≢◌, ◌↔◌, IsTrue, is_some, slice_get}
 use Rattle.std.specs.List.{All}
 use Rattle.std.proofs.lemmas.Bool.{cases_lt, true≢false}
@@ -18,6 +18,9 @@ use Rattle.col_core.specs.Log.{Log}
 use Rattle.col_core.specs.Keeping.{Kept}
 use Rattle.col_core.proofs.CallerLemmas.{contains_in, slice_in}
 use Rattle.std.proofs.lemmas.List.Elements.{All-contains}
+use Rattle.script_text.specs.declared.commands.What.{What}
+use Rattle.report_text.specs.declared.report.Answer.{Answer}
+use Rattle.report_text.specs.declared.report.Answer.TheVariants as answers
 use Rattle.report_text.specs.declared.report.ColumnReport.{ColumnReport}
 use Rattle.report_text.specs.declared.report.RowReport.{RowReport}
 use Rattle.lawful_run.specs.Callers.{Caller}
@@ -25,13 +28,15 @@ use Rattle.column_track.specs.Tracks.{Tells, Tracked}
 use Rattle.run_rules.specs.Keeping.{RulesTo}
 use Rattle.run_rules.specs.Nodes.{nodes_told}
 use Rattle.run_rules.specs.Rules.{IsLawfulColumn, Rule7}
+use Rattle.run_rules.specs.Told.{Untold}
 use Rattle.run_rules.specs.Telling.{account_of, journal_among}
 use Rattle.run_law.specs.declared.row_places.RowPlaces.{RowPlaces}
 use Rattle.run_law.specs.declared.row_table.RowTable.{RowTable}
 use Rattle.run_law.specs.Fifth.{Finding, finding_in, next_id}
 use Rattle.run_law.specs.LeftOpen.{has_id, is_open_in}
+use Rattle.run_law.specs.Journals.{standing_shown}
 use Rattle.run_law.specs.RowPlaces.{AreRowPlaces}
-use Rattle.run_law.specs.Seventh.{AreOpenTables, FindsOpen, IsClosed, IsEarlyAt, IsFence, Opening, SeventhIsStopping, StopsBeside, StopsIn, StopsOn, StopsOnRow, StopsSo, is_in_table, opening_in}
+use Rattle.run_law.specs.Seventh.{AreOpenTables, AsksToStop, FindsOpen, IsClosed, IsEarlyAt, IsFence, Opening, SeventhIsStopping, StopsBeside, StopsBy, StopsIn, StopsOn, StopsOnRow, StopsSo, is_in_table, opening_in}
 use Rattle.run_law.specs.Sixth.{EntersOnlyAt}
 use Rattle.run_law.specs.Walking.{DecidesEachStep, MayWalk, Walked}
 use Rattle.run_law.proofs.LeftLemmas.{none_open, open_there}
@@ -83,7 +88,7 @@ tables_find walked tracks may tables are region colour lt low id = (
       × (c.journal ≡ journal_among walked.report.columns region colour)
   c = column_at walked.script walked.report tracks may region colour (region * walked.script.shape.colours + colour) lt low refl
 
-  shown : _
+  shown : map standing_shown c.0.queue ≡ queue_of (entries c.0.journal)
   shown = (All-contains (IsLawfulColumn walked.script) walked.report.columns c.0 may.second.each
       (contains_in walked.report.columns c.0
       (slice_in walked.report.columns (region * walked.script.shape.colours + colour) c.0 c.1))).closing.queue_shown
@@ -116,6 +121,11 @@ closed_told opens history id mark none fence None enters_at = λ is. elim is.for
 ]
 
 -- OF A ROW
+
+pub read_mark : (ms : List ColourMark) (i : ℕ) (d : ColourMark) → i < length ms → slice_get ms i ≡ Some (get_or ms i d)
+read_mark ms i d lt =
+    let w = get_within ms i lt in
+    w.1 ∙ ap (λ (x : ColourMark). Some x) (sym (get_or_from_slice_get ms i w.0 d w.1))
 
 module _ (opens : Opening) (log : Log) (caller : Caller) (kept : Kept) (places : ℕ → List ℕ) (k steps : ℕ) where
   pub in_told : (n : ℕ) (m : ColourMark) → (n + 1 < steps → m.mark ≢ marks.None)
@@ -150,20 +160,21 @@ module _ (opens : Opening) (log : Log) (caller : Caller) (kept : Kept) (places :
   stop_all ms i ge so n m at = let lt = slice_get_within ms n m at in so n m (omega (arith, lt, ge)) at
 
 module _ (opens : Opening) (log : Log) (caller : Caller) (kept : Kept) (places : ℕ → List ℕ) where
+  on_own : (steps : ℕ) (r : RowReport) → (length r.marks + 2 ≤ steps → r.last ≢ Open) → (b : Bool)
+      → Tells b ((n : ℕ) (m : ColourMark) → slice_get r.marks n ≡ Some m
+      → StopsIn opens log caller kept places (length r.marks) steps n m)
+      → Tells b (StopsOn opens log caller kept places steps r)
+  on_own steps r decided true each = record { decided = decided; each = each }
+  on_own steps r decided false fails = λ is. fails is.each
+
   pub on_told : (steps : ℕ) (r : RowReport) (ms : List ColourMark) → ms ≡ r.marks → (length ms + 2 ≤ steps → r.last ≢ Open)
       → (b : Bool)
       → Tells b ((n : ℕ) (m : ColourMark) → slice_get ms n ≡ Some m → StopsIn opens log caller kept places (length ms) steps n m)
       → Tells b (StopsOn opens log caller kept places steps r)
-  on_told steps r ms same decided b told = subst (λ (l : List ColourMark).
-      ((length l + 2 ≤ steps → r.last ≢ Open)
-      → Tells b ((n : ℕ) (m : ColourMark) → slice_get l n ≡ Some m → StopsIn opens log caller kept places (length l) steps n m)
-      → Tells b (StopsOn opens log caller kept places steps r))) same (λ d t. by b d t) decided told where
-    by : (b : Bool) → (length r.marks + 2 ≤ steps → r.last ≢ Open)
-        → Tells b ((n : ℕ) (m : ColourMark) → slice_get r.marks n ≡ Some m
-        → StopsIn opens log caller kept places (length r.marks) steps n m)
-        → Tells b (StopsOn opens log caller kept places steps r)
-    by true d each = record { decided = d; each = each }
-    by false d fails = λ is. fails is.each
+  on_told steps r ms same decided b told =
+      on_own steps r (subst (λ (l : List ColourMark). length l + 2 ≤ steps → r.last ≢ Open) same decided) b
+      (subst (λ (l : List ColourMark). Tells b ((n : ℕ) (m : ColourMark) → slice_get l n ≡ Some m
+      → StopsIn opens log caller kept places (length l) steps n m)) same told)
 
   pub on_not : (steps : ℕ) (r : RowReport) (ms : List ColourMark) → ms ≡ r.marks
       → ((length ms + 2 ≤ steps → r.last ≢ Open) → ⊥) → StopsOn opens log caller kept places steps r → ⊥
@@ -180,6 +191,19 @@ module _ (opens : Opening) (log : Log) (caller : Caller) (kept : Kept) (places :
 
   pub none_done : (find : Finding) (steps : ℕ) → steps ≡ 0 → StopsSo find opens log caller kept places steps
   none_done find steps is = subst (StopsSo find opens log caller kept places) (sym is) tt
+
+-- of the answer of a stop
+pub stop_told : (find : Finding) (opens : Opening) (log : Log) (untold : Untold) (caller : Caller) (kept : Kept) (what : What)
+    (steps : ℕ) (answer : Answer) (places : ℕ → List ℕ) → answer ≡ answers.Stopped steps → untold.places ≡ places
+    → AsksToStop what steps → (b : Bool) → Tells b (StopsSo find opens log caller kept places steps)
+    → Tells b (StopsBy find opens log untold caller kept what answer)
+stop_told find opens log untold caller kept what steps answer places is same asks b told =
+    subst (λ (a : Answer). Tells b (StopsBy find opens log untold caller kept what a)) (sym is)
+    (by b (subst (λ (p : ℕ → List ℕ). Tells b (StopsSo find opens log caller kept p steps)) (sym same) told)) where
+      by : (b : Bool) → Tells b (StopsSo find opens log caller kept untold.places steps)
+          → Tells b (StopsBy find opens log untold caller kept what (answers.Stopped steps))
+      by true so = (asks, so)
+      by false fails = λ both. fails both.1
 
 -- the rule, as it is decided of each step
 pub seventh_told : SeventhIsStopping → (walked : Walked) (tracks : List Tracked) → MayWalk walked.script walked.report tracks

@@ -6,6 +6,9 @@ use Rattle.run_law.specs.Walking.{log_walked}
 use Rattle.run_law.proofs.SeventhLemmas.{in_told}
 use Rattle.run_law.proofs.seventh.Stopping.stops_in.Goals as goal
 
+pub returns-then-not-has_settled : goal.returns-then-not-has_settled
+returns-then-not-has_settled c = λ kept is so. c.if-not-has_settled.ensures kept is so.settled
+
 pub returns : goal.returns
 returns c = λ kept is.
     let walked = c.args.subject.now in
