@@ -1,6 +1,6 @@
 -- The seventh rule, at the account with the nodes of the commands, is what is looked at of stops.
-use Rattle.std.proofs.Common.{◌≡◌, ◌⊎◌, ◌∙◌, refl, ap, sym, subst, Bool, true, false, ℕ, zero, suc, ◌+◌, ◌<◌, ◌≤◌, List, [], ◌∷◌, ◌++◌, length, map, take, drop, get_or, cond, Option, Some, None, inl, inr, arith}
-use Rattle.std.specs.Prelude.{◌≢◌, ◌↔◌, ◌==◌, ◌&&◌, IsTrue, slice_get, if◌then◌else◌}
+use Rattle.std.proofs.Common.{◌≡◌, ◌⊎◌, ◌∙◌, refl, ap, sym, subst, true, false, ℕ, zero, suc, ◌+◌, ◌<◌, ◌≤◌, List, [], ◌∷◌, ◌++◌, length, map, take, drop, get_or, Option, Some, None, inl, inr, arith}
+use Rattle.std.specs.Prelude.{◌≢◌, ◌↔◌, ◌==◌, ◌&&◌, IsTrue, slice_get}
 use Rattle.std.specs.List.{All, Contains}
 use Rattle.std.proofs.lemmas.Bool.{and_parts, cases_Bool, eq-eqb, eqb-true}
 use Rattle.std.proofs.lemmas.List.{length-map, take-append-drop, take_all}
@@ -13,13 +13,12 @@ use Rattle.log_node.specs.declared.marks.Why.TheVariants.{Memory, StampEnd}
 use Rattle.log_node.specs.declared.marks.Mark.{Mark}
 use Rattle.log_node.specs.declared.marks.Mark.TheVariants as marks
 use Rattle.log_node.specs.declared.marks.ColourMark.{ColourMark}
-use Rattle.log_node.specs.declared.marks.Outcome.{Outcome}
 use Rattle.log_node.specs.declared.marks.Outcome.TheVariants.{Open}
 use Rattle.log_node.specs.Standings.{Standing, open_entry}
 use Rattle.log_node.specs.Sets.{members}
 use Rattle.log_node.proofs.CallerLemmas.{get_map, get_map_back, same_some}
 use Rattle.col_core.specs.declared.Entry.{Entry}
-use Rattle.col_core.specs.Appending.{IsClosedFor, IsDecided, IsMarked, IsStepWithin}
+use Rattle.col_core.specs.Appending.{IsClosedFor, IsDecided}
 use Rattle.col_core.specs.Computed.{dated}
 use Rattle.col_core.specs.History.{entries, has_entered}
 use Rattle.col_core.specs.Ids.{IsOver, Proposes, alone, settled}
@@ -48,7 +47,7 @@ use Rattle.run_rules.specs.Rules.{HasNode, HasOwnNodes, IsLawfulColumn, Rule1, R
 use Rattle.run_rules.specs.Nodes.{nodes_told}
 use Rattle.run_rules.proofs.CallerLemmas.{rule1, rule2, rule3, rule4, rule5}
 use Rattle.run_law.specs.Fifth.{Finding, next_id}
-use Rattle.run_law.specs.Seventh.{AsksToStop, FindsOpen, IsClosed, IsEarlyAt, Opening, SeventhIsStopping, StopsBeside, StopsBy, StopsIn, StopsOn, StopsOnRow, StopsSo}
+use Rattle.run_law.specs.Seventh.{FindsOpen, IsClosed, IsEarlyAt, Opening, SeventhIsStopping, StopsBeside, StopsBy, StopsOn, StopsOnRow}
 use Rattle.run_law.specs.Sixth.{FindsRows}
 use Rattle.run_law.proofs.NextRows.{begun_row, marks_fit, marks_low, row_begun, row_fits, steps_named}
 use Rattle.run_law.proofs.NodeRows.{full}
@@ -132,10 +131,10 @@ same_made : (kept : Kept) (own : ℕ) (one other : ℕ → List ℕ) → with_ma
     → one colour ≡ other colour
 same_made kept own one other e colour = append_left (kept.made own colour) (one colour) (other colour)
     (sym (here one) ∙ (ap (λ (k : Kept). k.made own colour) e ∙ here other)) where
-  here : (places : ℕ → List ℕ) → (with_made kept own places).made own colour ≡ kept.made own colour ++ places colour
-  here places =
-      ap (λ (f : ℕ → List ℕ). f colour)
-      (if_true (own == own) (λ (c : ℕ). kept.made own c ++ places c) (kept.made own) (eq-eqb own own refl))
+      here : (places : ℕ → List ℕ) → (with_made kept own places).made own colour ≡ kept.made own colour ++ places colour
+      here places =
+          ap (λ (f : ℕ → List ℕ). f colour)
+          (if_true (own == own) (λ (c : ℕ). kept.made own c ++ places c) (kept.made own) (eq-eqb own own refl))
 
 -- a stop after a step or more
 stopped_from : (log : Log) (caller : Caller) (kept : Kept) (node : Node) (k : ℕ) (places : ℕ → List ℕ)
@@ -201,9 +200,12 @@ module _ (script : Script) (report : Report) (nodes : ℕ → List Node) (third 
         sym (ap (λ (l : List ℕ). slice_get l k) its_colours) ∙ get_map (λ (x : ColourMark). x.colour) r.marks k m at
 
     has_mark : (k : ℕ) (m : ColourMark) → slice_get r.marks k ≡ Some m → (c : ℕ) → m.colour ≡ c → HasMark whole node c m.mark
-    has_mark k m at c is =
-        (b, begun, subst (λ (x : ℕ). let d : ColourMark = record { colour = x; mark = m.mark } in Contains r.marks d) is
-        (contains_in r.marks m (slice_in r.marks k m at)))
+    has_mark k m at c is = (
+      b,
+      begun,
+      subst (λ (x : ℕ). let d : ColourMark = record { colour = x; mark = m.mark } in Contains r.marks d) is
+          (contains_in r.marks m (slice_in r.marks k m at)),
+    )
 
     -- a mark that the row has for the colour of one is that one's
     same_mark : (k : ℕ) (m : ColourMark) → slice_get r.marks k ≡ Some m → (mark : Mark) → HasMark whole node m.colour mark

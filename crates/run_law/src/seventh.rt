@@ -38,8 +38,7 @@ use std::alloc::{AllocError, Global};
 /// Where a report keeps the first six rules, the seventh is what is looked at of each step.
 pub fn seventh_is_stopping()
     ensures { SeventhIsStopping }
-{
-}
+{}
 
 // WHAT COLUMNS LEAVE OPEN
 
@@ -114,13 +113,7 @@ impl Turn {
     }
 
     // Whether those at all places are.
-    fn are_early_at(
-        self,
-        subject: &Subject<'_>,
-        region: u8,
-        colour: u8,
-        places: &[u64],
-    ) -> bool
+    fn are_early_at(self, subject: &Subject<'_>, region: u8, colour: u8, places: &[u64]) -> bool
         ensures { Tells result (All (IsEarlyAt (journal_walked subject.now region colour) self.n self.k self.steps) places.now) }
     {
         for place in places {
@@ -135,11 +128,7 @@ impl Turn {
     fn has_marked(self, mark: Mark) -> bool
         ensures { Tells result (self.n + 1 < self.steps → mark ≢ marks.None) }
     {
-        if self.marks() {
-            is_marked(mark)
-        } else {
-            true
-        }
+        if self.marks() { is_marked(mark) } else { true }
     }
 
     // Whether a client took no later step of its next node.

@@ -1,4 +1,4 @@
-use Rattle.std.proofs.Common.{◌≡◌, ◌∙◌, subst, sym}
+use Rattle.std.proofs.Common.{◌∙◌, subst, sym}
 use Rattle.lawful_run.specs.Callers.{caller_of}
 use Rattle.column_track.specs.Tracks.{Tells}
 use Rattle.run_law.specs.Fifth.{next_id}

@@ -1,6 +1,4 @@
 use Rattle.std.proofs.Common.{length}
-use Rattle.std.specs.Prelude.{slice_index_or}
-use Rattle.log_node.proofs.CallerLemmas.{get_within}
 use Rattle.lawful_run.specs.Callers.{caller_of}
 use Rattle.run_law.specs.Behind.{steps_untold}
 use Rattle.run_law.specs.Seventh.{opening_in}

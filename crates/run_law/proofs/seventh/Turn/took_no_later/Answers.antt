@@ -1,4 +1,4 @@
-use Rattle.std.proofs.Common.{◌≡◌, ◌∙◌, ℕ, List, ap, subst}
+use Rattle.std.proofs.Common.{◌∙◌, ℕ, List, ap, subst}
 use Rattle.std.specs.List.{All}
 use Rattle.column_track.specs.Tracks.{Tells}
 use Rattle.run_law.specs.Behind.{steps_untold}
