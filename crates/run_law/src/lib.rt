@@ -22,6 +22,7 @@ mod object_colours;
 mod pieces;
 mod place_lists;
 mod played;
+mod points;
 mod printed;
 mod replies;
 mod row_places;
@@ -34,6 +35,7 @@ mod subject;
 mod synced;
 mod texts;
 mod third;
+mod turn;
 mod walking;
 
 pub use fifth::keeps_fifth;

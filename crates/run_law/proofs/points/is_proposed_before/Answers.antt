@@ -2,7 +2,7 @@ use Rattle.std.proofs.Common.{◌∙◌, ap, arith}
 use Rattle.lawful_run.specs.Callers.{caller_of}
 use Rattle.run_law.specs.Walking.{journal_walked, log_walked}
 use Rattle.run_law.proofs.SixthLemmas.{before_told, none_before, not_before, not_there, read_none, read_there}
-use Rattle.run_law.proofs.sixth.is_proposed_before.Goals as goal
+use Rattle.run_law.proofs.points.is_proposed_before.Goals as goal
 
 pub returns-in_default : goal.returns-in_default
 returns-in_default c = λ kept is.

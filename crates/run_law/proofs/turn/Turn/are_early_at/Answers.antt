@@ -1,7 +1,7 @@
 use Rattle.run_law.specs.Seventh.{IsEarlyAt}
 use Rattle.run_law.specs.Walking.{journal_walked}
 use Rattle.run_law.proofs.Lists.{all_end, all_step, all_stop}
-use Rattle.run_law.proofs.seventh.Turn.are_early_at.Goals as goal
+use Rattle.run_law.proofs.turn.Turn.are_early_at.Goals as goal
 
 pub returns-then-not-is_early_at : goal.returns-then-not-is_early_at
 returns-then-not-is_early_at c =

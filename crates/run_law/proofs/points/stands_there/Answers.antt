@@ -1,7 +1,7 @@
 use Rattle.lawful_run.specs.Callers.{caller_of}
 use Rattle.run_law.specs.Walking.{log_walked}
 use Rattle.run_law.proofs.SixthLemmas.{there_told}
-use Rattle.run_law.proofs.sixth.stands_there.Goals as goal
+use Rattle.run_law.proofs.points.stands_there.Goals as goal
 
 pub returns : goal.returns
 returns c = λ kept is.

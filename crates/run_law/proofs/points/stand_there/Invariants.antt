@@ -6,7 +6,7 @@ use Rattle.run_rules.specs.Telling.{replies_to}
 use Rattle.run_law.specs.Keepings.{IsCounted}
 use Rattle.run_law.specs.Sixth.{StandsThere}
 use Rattle.run_law.specs.Walking.{log_walked}
-use Rattle.run_law.proofs.sixth.stand_there.Given as goal
+use Rattle.run_law.proofs.points.stand_there.Given as goal
 
 -- at all points so far
 abbrev pub invariant-loop-point : goal.invariant-loop-point

@@ -4,7 +4,7 @@ use Rattle.column_track.specs.Tracks.{Tells}
 use Rattle.run_law.specs.Behind.{steps_untold}
 use Rattle.run_law.specs.Seventh.{IsEarlyAt}
 use Rattle.run_law.specs.Walking.{journal_walked}
-use Rattle.run_law.proofs.seventh.Turn.took_no_later.Goals as goal
+use Rattle.run_law.proofs.turn.Turn.took_no_later.Goals as goal
 
 pub returns : goal.returns
 returns c = λ kept is.

@@ -5,7 +5,7 @@ use Rattle.col_core.specs.Legal.{IsColumnHistory}
 use Rattle.column_track.specs.Tracks.{EntersAt}
 use Rattle.run_law.specs.Walking.{journal_walked}
 use Rattle.run_law.proofs.SixthLemmas.{enters_here, enters_nowhere}
-use Rattle.run_law.proofs.sixth.place_of.Goals as goal
+use Rattle.run_law.proofs.points.place_of.Goals as goal
 
 pub returns-then-not-has_column : goal.returns-then-not-has_column
 returns-then-not-has_column c =

@@ -2,7 +2,7 @@ use Rattle.lawful_run.specs.Callers.{caller_of}
 use Rattle.run_law.specs.Sixth.{StandsThere}
 use Rattle.run_law.specs.Walking.{log_walked}
 use Rattle.run_law.proofs.Lists.{all_end, all_step, all_stop}
-use Rattle.run_law.proofs.sixth.stand_there.Goals as goal
+use Rattle.run_law.proofs.points.stand_there.Goals as goal
 
 pub returns-then-not-stands_there : goal.returns-then-not-stands_there
 returns-then-not-stands_there c = λ kept is.

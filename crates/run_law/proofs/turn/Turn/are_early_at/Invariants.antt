@@ -2,7 +2,7 @@ use Rattle.std.proofs.Common.{take}
 use Rattle.std.specs.List.{All}
 use Rattle.run_law.specs.Seventh.{IsEarlyAt}
 use Rattle.run_law.specs.Walking.{journal_walked}
-use Rattle.run_law.proofs.seventh.Turn.are_early_at.Given as goal
+use Rattle.run_law.proofs.turn.Turn.are_early_at.Given as goal
 
 -- at all places so far
 abbrev pub invariant-loop-place : goal.invariant-loop-place
