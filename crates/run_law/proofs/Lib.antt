@@ -20,6 +20,7 @@ mod MadeLemmas
 mod Members
 mod NextNodes
 mod NinthLaws
+mod NextRows
 mod NodeRows
 mod Once
 mod OrderLemmas
@@ -35,8 +36,12 @@ mod RisingLemmas
 mod RowLemmas
 mod RowOrder
 mod RowPlaceLemmas
+mod SeventhLaws
+mod SeventhLemmas
 mod Shards
 mod ShownTextLemmas
+mod SixthLaws
+mod SixthLemmas
 mod SubjectLemmas
 mod TableLemmas
 mod ThirdLemmas

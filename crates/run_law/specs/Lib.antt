@@ -17,6 +17,8 @@ pub mod Replies
 pub mod RowPlaces
 pub mod RowsBeside
 pub mod ShownTexts
+pub mod Seventh
+pub mod Sixth
 pub mod Subjects
 pub mod Tables
 pub mod Third

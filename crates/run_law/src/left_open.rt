@@ -118,7 +118,7 @@ fn open_id(shown: QueueKey) -> Option<Id>
 }
 
 // Puts in the ids of open entries.
-fn put_open(ids: &mut RowTable, queue: &[QueueKey]) -> Result<(), AllocError>
+pub(crate) fn put_open(ids: &mut RowTable, queue: &[QueueKey]) -> Result<(), AllocError>
     ensures { (id : NodeId) → OnOk result (has_id ids.new id ≡ (has_id ids.old id || list_any (is_open_key id) queue.now)) }
 {
     for shown in queue {
