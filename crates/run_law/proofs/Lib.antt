@@ -8,6 +8,7 @@ mod CopyLemmas
 mod FifthLaws
 mod FinalLemmas
 mod FirstLemmas
+mod FrontLemmas
 mod HeadLemmas
 mod LeftLemmas
 mod ListedLaws
@@ -16,6 +17,7 @@ mod Lists
 mod Members
 mod NextNodes
 mod NodeRows
+mod NumeralLemmas
 mod Once
 mod OrderLemmas
 mod PastLemmas
@@ -27,6 +29,7 @@ mod RisingLemmas
 mod RowLemmas
 mod RowOrder
 mod RowPlaceLemmas
+mod SayingLemmas
 mod Shards
 mod ShownTextLemmas
 mod SubjectLemmas
@@ -35,3 +38,4 @@ mod ThirdLemmas
 mod ToldLemmas
 mod UsedIds
 mod WalkLemmas
+mod WriterLemmas

@@ -16,5 +16,6 @@ pub mod RowsBeside
 pub mod ShownTexts
 pub mod Subjects
 pub mod Tables
+pub mod TextsSaid
 pub mod Third
 pub mod Walking
