@@ -1,6 +1,6 @@
 -- What nodes could say: by the command, by the answer that tells of a node, and by the text that is shown of it.
 use Rattle.std.proofs.Common.{◌≡◌, ℕ, zero, suc, ◌+◌, ◌<◌, Bool, true, false, List, [], ◌∷◌, ◌++◌, length, map, Option, Some, None, refl, ap, sym, subst, ◌∙◌, arith, get_or}
-use Rattle.std.specs.Prelude.{IfSome, not, ◌==◌, if◌then◌else◌}
+use Rattle.std.specs.Prelude.{IfOk, IfSome, Result, Ok, Err, not, ◌==◌, if◌then◌else◌}
 use Rattle.std.specs.List.{All, fold}
 use Rattle.std.specs.Option.{option_map}
 use Rattle.std.proofs.lemmas.Bool.{ne_eqb, true≢false}
@@ -37,13 +37,15 @@ use Rattle.lawful_run.specs.Asks.{kind_asked, object_colours}
 use Rattle.lawful_run.specs.Callers.{Caller, node_of}
 use Rattle.lawful_run.specs.Deeds.{IsText, Saying, found_by, saying_of}
 use Rattle.lawful_run.specs.Reads.{kept_after_piece, kept_after_place}
-use Rattle.run_rules.specs.Told.{is_several, kept_after_raises, kept_after_read, kept_after_syncs, kept_deciding}
+use Rattle.run_rules.specs.Telling.{account_of, no_nodes}
+use Rattle.run_rules.specs.Told.{OfEachStep, is_several, kept_after_raises, kept_after_read, kept_after_syncs, kept_deciding}
 use Rattle.run_rules.specs.Nodes.{any_decision, node_asked, node_said, set_reached, text_told}
 use Rattle.run_rules.specs.Agreeing.{keys_found}
-use Rattle.run_rules.specs.Said.{CouldSay, SaysText, shown_text}
+use Rattle.run_rules.specs.Said.{CouldSay, CouldSayShown, SaysText, ShownCouldBeSaid, shown_text}
 use Rattle.column_track.specs.Tracks.{Tells}
 use Rattle.run_law.specs.Asking.{AreFoundOf, keys_shown}
 use Rattle.run_law.specs.TextsSaid.{CanSay, CommitsAs, IsTransactionOn, SaysIfAny, ShowsSayable, tells_node}
+use Rattle.run_law.specs.Walking.{DecidesEachStep, Walked, log_walked}
 use Rattle.run_law.proofs.Members.{told_as}
 
 -- BY THE COMMAND
@@ -292,3 +294,14 @@ pub may_be : (said wanted : Option Change) → said ≡ wanted → ((change : Ch
     → IfSome said IsChange
 may_be None wanted is fits = tt
 may_be (Some change) wanted is fits = fits change (sym is)
+
+-- OF ALL STEPS
+
+-- what is decided of each step is decided of all that a report shows
+pub said_by_steps : {E : Type 0} (walked : Walked) (report : Report) (r : Result Bool E) → report ≡ walked.report
+    → IfOk r (DecidesEachStep walked (CouldSayShown report (log_walked walked)))
+    → IfOk r (λ b. Tells b (ShownCouldBeSaid walked.script walked.report))
+said_by_steps walked report (Ok b) same told =
+    subst (λ (shown : Report). Tells b (OfEachStep walked.script walked.report (account_of walked.script walked.report no_nodes)
+    (CouldSayShown shown (log_walked walked)))) same (told no_nodes)
+said_by_steps walked report (Err e) same told = told
