@@ -1,9 +1,9 @@
 -- What is written of numbers, however great: the digits of each, and a number for such digits.
-use Rattle.std.proofs.Common.{◌≡◌, ◌≢◌, ◌⊎◌, ℕ, zero, suc, ◌+◌, ◌-◌, ◌*◌, ◌/◌, ◌%◌, ◌<◌, ◌≤◌, Bool, true, false, cond, ◌&&◌, ◌||◌, eqb, leb, ltb, List, [], ◌∷◌, ◌++◌, length, get_or, inl, inr, refl, ap, sym, subst, ◌∙◌, arith, append_assoc, append-nil}
+use Rattle.std.proofs.Common.{◌≡◌, ◌⊎◌, ℕ, zero, suc, ◌+◌, ◌-◌, ◌*◌, ◌/◌, ◌%◌, ◌<◌, ◌≤◌, Bool, true, false, cond, eqb, leb, ltb, List, [], ◌∷◌, ◌++◌, length, get_or, inl, inr, refl, ap, sym, subst, ◌∙◌, arith, append_assoc, append-nil}
 use Rattle.std.specs.List.{list_all}
 use Rattle.std.specs.Fmt.{decimal}
 use Rattle.std.specs.Fmt.{digit_glyph, digits, digits_onto}
-use Rattle.std.proofs.lemmas.Bool.{and_parts, and_from, or_cases, or_left, or_right, cases_Bool, cases_lt, leb-true, le-leb, ltb-true, lt-ltb, eqb-true, eq-eqb, ne_eqb, true≢false}
+use Rattle.std.proofs.lemmas.Bool.{and_parts, and_from, or_cases, or_left, or_right, cases_lt, leb-true, le-leb, ltb-true, lt-ltb, eqb-true, eq-eqb, ne_eqb, true≢false}
 use Rattle.std.proofs.lemmas.Fmt.{decimal_digit}
 use Rattle.std.proofs.lemmas.List.{length-append}
 use Rattle.object_form.specs.Readings.{is_digit}
@@ -150,12 +150,12 @@ spell_back (d ∷ ds) k v acc some all =
 -- digits of which there are 64
 full_back : (ds : List ℕ) → list_all is_digit ds ≡ true → length ds ≡ 64 → (n : ℕ) × (ds ≡ decimal n)
 full_back ds all full = (
-      onto 1 ds,
-      sym (spelled (onto 1 ds)
+  onto 1 ds,
+  sym (spelled (onto 1 ds)
       ∙ (ap (λ (j : ℕ). spell j (onto 1 ds) []) (sym full)
       ∙ (ap (λ (j : ℕ). spell j (onto 1 ds) []) (let e : length ds ≡ 0 + length ds = omega arith in e)
       ∙ (spell_back ds 0 1 [] (omega arith) all ∙ append-nil ds)))),
-    )
+)
 
 -- fewer, that do not begin with a zero
 few_back : (b : ℕ) (bs : List ℕ) → list_all is_digit (b ∷ bs) ≡ true → length bs < 63 → 49 ≤ b → (n : ℕ) × (b ∷ bs ≡ decimal n)
@@ -168,10 +168,10 @@ few_back b bs all few first =
     let same : 48 + (b - 48) ≡ b = omega (arith, first) in (
       onto (b - 48) bs,
       sym (spelled (onto (b - 48) bs)
-      ∙ (ap (λ (j : ℕ). spell j (onto (b - 48) bs) []) long
-      ∙ (spell_back bs (suc k) (b - 48) [] (omega (arith, first)) both.1
-      ∙ (spell_last k (b - 48) (bs ++ []) (omega (arith, high))
-      ∙ (ap (λ (x : ℕ). x ∷ (bs ++ [])) same ∙ ap (λ (l : List ℕ). b ∷ l) (append-nil bs)))))),
+          ∙ (ap (λ (j : ℕ). spell j (onto (b - 48) bs) []) long
+          ∙ (spell_back bs (suc k) (b - 48) [] (omega (arith, first)) both.1
+          ∙ (spell_last k (b - 48) (bs ++ []) (omega (arith, high))
+          ∙ (ap (λ (x : ℕ). x ∷ (bs ++ [])) same ∙ ap (λ (l : List ℕ). b ∷ l) (append-nil bs)))))),
     )
 
 -- just one

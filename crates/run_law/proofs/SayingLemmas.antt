@@ -1,8 +1,7 @@
 -- What nodes could say: by the command, by the answer that tells of a node, and by the text that is shown of it.
-use Rattle.std.proofs.Common.{◌≡◌, ℕ, zero, suc, ◌+◌, ◌<◌, Bool, true, false, List, [], ◌∷◌, ◌++◌, length, map, Option, Some, None, refl, ap, sym, subst, ◌∙◌, arith, get_or}
-use Rattle.std.specs.Prelude.{IfOk, IfSome, Result, Ok, Err, not, ◌==◌, if◌then◌else◌}
+use Rattle.std.proofs.Common.{◌≡◌, ℕ, zero, suc, ◌<◌, Bool, true, false, List, [], ◌∷◌, map, Option, Some, None, refl, ap, sym, subst, ◌∙◌, arith, get_or}
+use Rattle.std.specs.Prelude.{IfOk, IfSome, Result, Ok, Err, not, if◌then◌else◌}
 use Rattle.std.specs.List.{All, fold}
-use Rattle.std.specs.Option.{option_map}
 use Rattle.std.proofs.lemmas.Bool.{ne_eqb, true≢false}
 use Rattle.std.proofs.lemmas.List.Elements.{All-nil}
 use Rattle.log_node.specs.declared.ids.Id.{Id}
@@ -11,9 +10,7 @@ use Rattle.log_node.specs.declared.node.At.TheVariants as ats
 use Rattle.log_node.specs.declared.node.Node.{Node}
 use Rattle.log_node.specs.declared.forms.Pair.{Pair}
 use Rattle.log_node.specs.declared.forms.Version.{Version}
-use Rattle.log_node.specs.declared.forms.Form.TheVariants as forms
 use Rattle.log_node.proofs.CallerLemmas.{same_some}
-use Rattle.object_form.specs.Forms.{form_text}
 use Rattle.tree_fold.specs.declared.change.Change.{Change}
 use Rattle.tree_fold.specs.Changes.{IsChange}
 use Rattle.col_core.specs.Log.{Log}
@@ -27,7 +24,6 @@ use Rattle.script_text.specs.declared.uses.Use.TheVariants.{OfLog, OfObject}
 use Rattle.script_text.specs.Commands.{use_of}
 use Rattle.report_text.specs.declared.report.Answer.{Answer}
 use Rattle.report_text.specs.declared.report.Answer.TheVariants as answers
-use Rattle.report_text.specs.declared.report.Ended.{Ended}
 use Rattle.report_text.specs.declared.report.Ended.TheVariants as ends
 use Rattle.report_text.specs.declared.report.KeyAnswer.{KeyAnswer}
 use Rattle.report_text.specs.declared.report.RaisePiece.{RaisePiece}
@@ -35,10 +31,10 @@ use Rattle.report_text.specs.declared.report.SyncPiece.{SyncPiece}
 use Rattle.report_text.specs.declared.report.Report.{Report}
 use Rattle.lawful_run.specs.Asks.{kind_asked, object_colours}
 use Rattle.lawful_run.specs.Callers.{Caller, node_of}
-use Rattle.lawful_run.specs.Deeds.{IsText, Saying, found_by, saying_of}
+use Rattle.lawful_run.specs.Deeds.{Saying, found_by, saying_of}
 use Rattle.lawful_run.specs.Reads.{kept_after_piece, kept_after_place}
 use Rattle.run_rules.specs.Telling.{account_of, no_nodes}
-use Rattle.run_rules.specs.Told.{OfEachStep, is_several, kept_after_raises, kept_after_read, kept_after_syncs, kept_deciding}
+use Rattle.run_rules.specs.Told.{OfEachStep, is_several, kept_after_raises, kept_after_syncs, kept_deciding}
 use Rattle.run_rules.specs.Nodes.{any_decision, node_asked, node_said, set_reached, text_told}
 use Rattle.run_rules.specs.Agreeing.{keys_found}
 use Rattle.run_rules.specs.Said.{CouldSay, CouldSayShown, SaysText, ShownCouldBeSaid, shown_text}
@@ -79,8 +75,8 @@ module _ (says : Option (List Version) → Option Saying) (same : (found : Optio
       (told_as b _ _ (to_plain kept text (says None) refl) (from_plain kept text (says None) refl) told)
 
 -- a commit names the keys of its read
-commit_told : (kind : Option Kind) (object : ℕ) (pairs : List Pair) (kept : Option (List Version)) (shown : Option (List KeyAnswer))
-    (text : List ℕ) (b : Bool) → AreFoundOf kept shown → Tells b (CommitsAs shown pairs text)
+commit_told : (kind : Option Kind) (object : ℕ) (pairs : List Pair) (kept : Option (List Version))
+    (shown : Option (List KeyAnswer)) (text : List ℕ) (b : Bool) → AreFoundOf kept shown → Tells b (CommitsAs shown pairs text)
     → Tells b (IfSaid (saying_of kind kept (whats.Commit object pairs))
     ((found : Option (List Version)) × (keys_found found ≡ keys_found kept)
     × SaysText (saying_of kind found (whats.Commit object pairs)) text))
@@ -99,46 +95,55 @@ commit_told kind object pairs (Some versions) (Some shown) text b are told = tol
   from (Some found, same, says) = (found, same_some same ∙ are, says)
 
 -- what a command can say is what it could have its node say
-said_told : (kind : Option Kind) (kept : Option (List Version)) (shown : Option (List KeyAnswer)) (what : What) (text : List ℕ) (b : Bool)
-    → AreFoundOf kept shown → Tells b (CanSay kind shown what text)
+said_told : (kind : Option Kind) (kept : Option (List Version)) (shown : Option (List KeyAnswer)) (what : What)
+    (text : List ℕ) (b : Bool) → AreFoundOf kept shown → Tells b (CanSay kind shown what text)
     → Tells b (IfSaid (saying_of kind kept what)
     ((found : Option (List Version)) × (keys_found found ≡ keys_found kept) × SaysText (saying_of kind found what) text))
-said_told kind kept shown (whats.Commit object pairs) text b are told = commit_told kind object pairs kept shown text b are told
+said_told kind kept shown (whats.Commit object pairs) text b are told =
+    commit_told kind object pairs kept shown text b are told
 said_told kind kept shown what text b are told =
     plain_told (λ (found : Option (List Version)). saying_of kind found what) (λ found. refl) kept text b told
 
 -- BY THE NODE
 
--- what is shown of the next node could be said, if one is said
+-- the id of the client's next node
+abbrev next_id : Caller → Kept → Id
+next_id caller kept = record { client = caller.client; count = kept.ids }
+
+-- what is shown of it could be said
+abbrev IfShown : Report → Caller → Kept → What → Type 0
+IfShown report caller kept what =
+    (text : List ℕ) → shown_text report (next_id caller kept) ≡ Some text → CouldSay caller kept what text
+
+-- so it is if a node is said
 abbrev NextSayable : Report → Caller → Kept → What → Type 0
 NextSayable report caller kept what =
-    IfSaid (saying_of (kind_asked caller what) (found_by (use_of what) kept) what) ((text : List ℕ)
-    → shown_text report (record { client = caller.client; count = kept.ids }) ≡ Some text → CouldSay caller kept what text)
+    IfSaid (saying_of (kind_asked caller what) (found_by (use_of what) kept) what) (IfShown report caller kept what)
 
--- of each node
+-- what is shown of a node could be said
 abbrev Sayable : Report → Caller → Kept → What → Node → Type 0
 Sayable report caller kept what node = (text : List ℕ) → shown_text report node.id ≡ Some text → CouldSay caller kept what text
 
 module _ (report : Report) (caller : Caller) (kept now : Kept) (what : What) (same : now.ids ≡ kept.ids) where
   -- of the one that is said over what is kept then
-  to_said : (own : List ℕ) (o : Option Saying) → IfSaid o ((text : List ℕ)
-      → shown_text report (record { client = caller.client; count = kept.ids }) ≡ Some text → CouldSay caller kept what text)
+  to_said : (own : List ℕ) (o : Option Saying) → IfSaid o (IfShown report caller kept what)
       → All (Sayable report caller kept what) (node_said any_decision caller now own o)
   to_said own None next = All-nil (Sayable report caller kept what)
   to_said own (Some saying) next = λ k d lt. only k d lt where
-    only : (k : ℕ) (d : Node) → k < 1 → Sayable report caller kept what (get_or (node_said any_decision caller now own (Some saying)) k d)
-    only zero d lt = λ text shown. next text (ap (λ (n : ℕ). shown_text report (record { client = caller.client; count = n })) (sym same) ∙ shown)
+    only : (k : ℕ) (d : Node) → k < 1
+        → Sayable report caller kept what (get_or (node_said any_decision caller now own (Some saying)) k d)
+    only zero d lt = λ text shown.
+        next text (ap (λ (n : ℕ). shown_text report (record { client = caller.client; count = n })) (sym same) ∙ shown)
     only (suc k) d lt = absurd (let f : ⊥ = omega (arith, lt) in f)
 
   from_said : (own : List ℕ) (o : Option Saying) → All (Sayable report caller kept what) (node_said any_decision caller now own o)
-      → IfSaid o ((text : List ℕ)
-      → shown_text report (record { client = caller.client; count = kept.ids }) ≡ Some text → CouldSay caller kept what text)
+      → IfSaid o (IfShown report caller kept what)
   from_said own None all = tt
   from_said own (Some saying) all = λ text shown.
       all 0 (node_of caller now (set_reached own saying.reach) (text_told any_decision saying.text)) (omega arith) text
       (ap (λ (n : ℕ). shown_text report (record { client = caller.client; count = n })) same ∙ shown)
 
--- a function of what is kept that leaves ids and reads
+-- as many ids, and the same reads
 record SameUses (a b : Kept) : Type 0 where
   pub ids : b.ids ≡ a.ids
   pub reads : b.reads ≡ a.reads
@@ -184,15 +189,13 @@ module _ (report : Report) (log : Log) (caller : Caller) (kept : Kept) (what : W
       → All (Sayable report caller kept what) (node_asked any_decision caller now what)
   to_asked now s next =
       to_said report caller kept now what s.ids own (saying_of (kind_asked caller what) (found_by (use_of what) now) what)
-      (subst (λ (f : Option (List Version)). IfSaid (saying_of (kind_asked caller what) f what) ((text : List ℕ)
-      → shown_text report (record { client = caller.client; count = kept.ids }) ≡ Some text → CouldSay caller kept what text))
+      (subst (λ (f : Option (List Version)). IfSaid (saying_of (kind_asked caller what) f what) (IfShown report caller kept what))
       (sym (found_same (use_of what) kept now s.reads)) next)
 
   from_asked : (now : Kept) → SameUses kept now → All (Sayable report caller kept what) (node_asked any_decision caller now what)
       → NextSayable report caller kept what
   from_asked now s all =
-      subst (λ (f : Option (List Version)). IfSaid (saying_of (kind_asked caller what) f what) ((text : List ℕ)
-      → shown_text report (record { client = caller.client; count = kept.ids }) ≡ Some text → CouldSay caller kept what text))
+      subst (λ (f : Option (List Version)). IfSaid (saying_of (kind_asked caller what) f what) (IfShown report caller kept what))
       (found_same (use_of what) kept now s.reads)
       (from_said report caller kept now what s.ids own (saying_of (kind_asked caller what) (found_by (use_of what) now) what) all)
 
@@ -208,15 +211,18 @@ module _ (report : Report) (log : Log) (caller : Caller) (kept : Kept) (what : W
       → ShowsSayable report log caller kept what answer
   none_sayable (answers.Stood stamp row points) none = absurd (true≢false none)
   none_sayable (answers.StampEnd colour) none =
-      subst (λ (b : Bool). All (Sayable report caller kept what) (if b then node_asked any_decision caller kept what else [])) (sym none) (All-nil (Sayable report caller kept what))
+      subst (λ (b : Bool). All (Sayable report caller kept what) (if b then node_asked any_decision caller kept what else []))
+      (sym none) (All-nil (Sayable report caller kept what))
   none_sayable (answers.Stopped zero) none = All-nil (Sayable report caller kept what)
   none_sayable (answers.Stopped (suc steps)) none =
       absurd (true≢false (sym (ap not (ne_eqb (suc steps) 0 (λ e. omega (arith, e)))) ∙ none))
   none_sayable (answers.Ruled conflict stamp row points read_stamp raises syncs) none = absurd (true≢false none)
   none_sayable (answers.Changed failed stamp row points read_stamp raises syncs) none = absurd (true≢false none)
   none_sayable (answers.Took value point sync) none = absurd (true≢false none)
-  none_sayable (answers.Decided commits stamp sync read_stamp raises syncs (ends.Stood s point)) none = absurd (true≢false none)
-  none_sayable (answers.Decided commits stamp sync read_stamp raises syncs (ends.StampEnd colour)) none = All-nil (Sayable report caller kept what)
+  none_sayable (answers.Decided commits stamp sync read_stamp raises syncs (ends.Stood s point)) none =
+      absurd (true≢false none)
+  none_sayable (answers.Decided commits stamp sync read_stamp raises syncs (ends.StampEnd colour)) none =
+      All-nil (Sayable report caller kept what)
   none_sayable (answers.Decided commits stamp sync read_stamp raises syncs ends.NoMemory) none = All-nil (Sayable report caller kept what)
   none_sayable _ none = All-nil (Sayable report caller kept what)
 
@@ -225,8 +231,8 @@ module _ (report : Report) (log : Log) (caller : Caller) (kept : Kept) (what : W
       → Tells b (NextSayable report caller kept what) → Tells b (ShowsSayable report log caller kept what answer)
   some_sayable (answers.Stood stamp row points) b one told = asked_told b told
   some_sayable (answers.StampEnd colour) b one told =
-      subst (λ (t : Bool). Tells b (All (Sayable report caller kept what) (if t then node_asked any_decision caller kept what else []))) (sym one)
-      (asked_told b told)
+      subst (λ (t : Bool). Tells b (All (Sayable report caller kept what)
+      (if t then node_asked any_decision caller kept what else []))) (sym one) (asked_told b told)
   some_sayable (answers.Stopped zero) b one told = absurd (true≢false (sym one))
   some_sayable (answers.Stopped (suc steps)) b one told = asked_told b told
   some_sayable (answers.Ruled conflict stamp row points read_stamp raises syncs) b one told = asked_told b told
@@ -236,22 +242,23 @@ module _ (report : Report) (log : Log) (caller : Caller) (kept : Kept) (what : W
       let now = kept_deciding log caller kept sync read_stamp raises syncs in
       let uses = deciding_uses log caller kept sync read_stamp raises syncs in
       told_as b _ _ (to_asked now uses) (from_asked now uses) told
-  some_sayable (answers.Decided commits stamp sync read_stamp raises syncs (ends.StampEnd colour)) b one told = absurd (true≢false (sym one))
-  some_sayable (answers.Decided commits stamp sync read_stamp raises syncs ends.NoMemory) b one told = absurd (true≢false (sym one))
+  some_sayable (answers.Decided commits stamp sync read_stamp raises syncs (ends.StampEnd colour)) b one told =
+      absurd (true≢false (sym one))
+  some_sayable (answers.Decided commits stamp sync read_stamp raises syncs ends.NoMemory) b one told =
+      absurd (true≢false (sym one))
   some_sayable _ b one told = absurd (true≢false (sym one))
 
   -- BY THE TEXT THAT IS SHOWN
 
   -- nothing is shown
-  unshown : (o : Option Saying) → shown_text report (record { client = caller.client; count = kept.ids }) ≡ None
-      → IfSaid o ((text : List ℕ)
-      → shown_text report (record { client = caller.client; count = kept.ids }) ≡ Some text → CouldSay caller kept what text)
+  unshown : (o : Option Saying) → shown_text report (next_id caller kept) ≡ None
+      → IfSaid o (IfShown report caller kept what)
   unshown None none = tt
   unshown (Some saying) none = λ text shown. absurd (let f : ⊥ = no_text (sym none ∙ shown) in f) where
     no_text : {t : List ℕ} → None ≡ Some t → ⊥
     no_text e = cc
 
-  pub unshown_sayable : (answer : Answer) → shown_text report (record { client = caller.client; count = kept.ids }) ≡ None
+  pub unshown_sayable : (answer : Answer) → shown_text report (next_id caller kept) ≡ None
       → ShowsSayable report log caller kept what answer
   unshown_sayable answer none = by (tells_node (is_several caller kept what) answer) refl where
     next : NextSayable report caller kept what
@@ -261,16 +268,14 @@ module _ (report : Report) (log : Log) (caller : Caller) (kept : Kept) (what : W
     by true one = some_sayable answer true one next
     by false not = none_sayable answer not
 
-  to_shown : (o : Option Saying) (text : List ℕ) → shown_text report (record { client = caller.client; count = kept.ids }) ≡ Some text
-      → IfSaid o (CouldSay caller kept what text) → IfSaid o ((t : List ℕ)
-      → shown_text report (record { client = caller.client; count = kept.ids }) ≡ Some t → CouldSay caller kept what t)
+  to_shown : (o : Option Saying) (text : List ℕ) → shown_text report (next_id caller kept) ≡ Some text
+      → IfSaid o (CouldSay caller kept what text) → IfSaid o (IfShown report caller kept what)
   to_shown None text is could = tt
   to_shown (Some saying) text is could = λ t shown.
       subst (λ (l : List ℕ). CouldSay caller kept what l) (same_some (sym is ∙ shown)) could
 
-  from_shown : (o : Option Saying) (text : List ℕ) → shown_text report (record { client = caller.client; count = kept.ids }) ≡ Some text
-      → IfSaid o ((t : List ℕ)
-      → shown_text report (record { client = caller.client; count = kept.ids }) ≡ Some t → CouldSay caller kept what t)
+  from_shown : (o : Option Saying) (text : List ℕ) → shown_text report (next_id caller kept) ≡ Some text
+      → IfSaid o (IfShown report caller kept what)
       → IfSaid o (CouldSay caller kept what text)
   from_shown None text is all = tt
   from_shown (Some saying) text is all = all text is
@@ -278,7 +283,7 @@ module _ (report : Report) (log : Log) (caller : Caller) (kept : Kept) (what : W
   -- this is shown of a node that is told
   pub shown_sayable : (answer : Answer) (text : List ℕ) (shown : Option (List KeyAnswer)) (b : Bool)
       → tells_node (is_several caller kept what) answer ≡ true
-      → shown_text report (record { client = caller.client; count = kept.ids }) ≡ Some text
+      → shown_text report (next_id caller kept) ≡ Some text
       → AreFoundOf (found_by (use_of what) kept) shown → Tells b (CanSay (kind_asked caller what) shown what text)
       → Tells b (ShowsSayable report log caller kept what answer)
   shown_sayable answer text shown b one is are told =

@@ -1,23 +1,23 @@
 -- Writers and versions, whatever the numbers: what is read of them, and what stands behind them.
-use Rattle.std.proofs.Common.{◌≡◌, ◌⊎◌, ℕ, zero, suc, take, ◌+◌, ◌<◌, ◌≤◌, Bool, true, false, ◌&&◌, ◌||◌, eqb, List, [], ◌∷◌, ◌++◌, length, map, Option, Some, None, inl, inr, refl, ap, sym, subst, ◌∙◌, arith, append_assoc, length-append, add-one}
+use Rattle.std.proofs.Common.{◌≡◌, ℕ, zero, suc, take, ◌<◌, ◌≤◌, Bool, true, false, ◌&&◌, eqb, List, [], ◌∷◌, ◌++◌, length, map, Option, Some, None, inl, inr, refl, ap, sym, subst, ◌∙◌, arith, append_assoc, length-append, add-one}
 use Rattle.std.proofs.Math.Numerals.{one-add}
 use Rattle.std.specs.Prelude.{codes}
 use Rattle.std.specs.List.{position_or_len}
 use Rattle.std.specs.Fmt.{decimal}
 use Rattle.std.specs.Str.{bytes_eq}
-use Rattle.std.proofs.lemmas.Bool.{and_parts, and_from, or_cases, or_left, or_right, cases_Bool, cases_order, eqb-true, eq-eqb, true≢false}
+use Rattle.std.proofs.lemmas.Bool.{and_parts, or_cases, or_right, cases_Bool, cases_order, eqb-true, true≢false}
 use Rattle.std.proofs.lemmas.Slice.Eq.{bytes_eq-Decides}
 use Rattle.log_node.specs.declared.ids.Key.{Key}
 use Rattle.log_node.specs.declared.forms.Pair.{Pair}
 use Rattle.log_node.specs.declared.forms.Version.{Version}
-use Rattle.object_form.specs.Forms.{bar, comma, dash, dot, equals, pairs_text, version_text, versions_text, writer_text}
+use Rattle.object_form.specs.Forms.{bar, comma, dash, dot, equals, pairs_text, versions_text, writer_text}
 use Rattle.object_form.specs.Readings.{after, before, is_dash, is_digit}
 use Rattle.object_form.proofs.CallerLemmas.{Lacks, lacks_append, lacks_by, before_cut, after_cut, cut_back}
 use Rattle.part_fold.specs.declared.decision.Decision.{Decision}
-use Rattle.part_fold.specs.Decisions.{decision_text, outcome_text}
+use Rattle.part_fold.specs.Decisions.{outcome_text}
 use Rattle.lawful_run.specs.Deeds.{ADecision, IsText}
 use Rattle.column_track.specs.Tracks.{Tells}
-use Rattle.run_law.specs.TextsSaid.{AreOfKeys, AreVersionsThen, HaveBehind, IsApart, IsBehindOne, IsTransactionOn, IsVersionThen, IsWriterThen, is_numeral, is_outcome, names_key, names_writer, says_after, says_decision}
+use Rattle.run_law.specs.TextsSaid.{AreVersionsThen, HaveBehind, IsApart, IsBehindOne, IsTransactionOn, IsVersionThen, IsWriterThen, is_numeral, is_outcome, names_key, names_writer, says_after, says_decision}
 use Rattle.run_law.proofs.FrontLemmas.{Both, Just, one_as}
 use Rattle.run_law.proofs.NumeralLemmas.{all_digits, number_of, tells_by, written_is}
 
@@ -75,14 +75,14 @@ writer_back bs h = elim (or_cases (is_dash bs) (names_key bs) h) [
 key_lacks : (sign : ℕ) (key : Key) → IsApart sign → Lacks sign (writer_text (Some key))
 key_lacks sign key apart =
     lacks_append sign (decimal key.stamp) (dot ∷ (decimal key.id.client ++ dot ∷ decimal key.id.count))
-    (written_lacks sign key.stamp apart.digit) (
-      apart.dot,
-      lacks_append sign (decimal key.id.client) (dot ∷ decimal key.id.count) (written_lacks sign key.id.client apart.digit)
-          (apart.dot, written_lacks sign key.id.count apart.digit),
+    (written_lacks sign key.stamp apart.digits) (
+      apart.dots,
+      lacks_append sign (decimal key.id.client) (dot ∷ decimal key.id.count) (written_lacks sign key.id.client apart.digits)
+          (apart.dots, written_lacks sign key.id.count apart.digits),
     )
 
 writer_lacks : (sign : ℕ) (writer : Option Key) → IsApart sign → Lacks sign (writer_text writer)
-writer_lacks sign None apart = (apart.dash, tt)
+writer_lacks sign None apart = (apart.dashes, tt)
 writer_lacks sign (Some key) apart = key_lacks sign key apart
 
 -- WHAT STANDS BEHIND A SIGN
@@ -220,11 +220,11 @@ versions_more key (next ∷ keys) bytes o some = one_as _ _ bytes o to from wher
   to : (f : List ℕ) → Both (IsVersionThen key comma) (AreVersionsThen (next ∷ keys)) f → AreVersionsThen (key ∷ next ∷ keys) f
   to f (p, q, (w, first), ([], same, later), is) = absurd (let e : ⊥ = cc in e)
   to f (p, q, (w, first), (v ∷ vs, same, later), is) = (
-        record { key = key; writer = w } ∷ v ∷ vs,
-        ap (λ (l : List (List ℕ)). key ∷ l) same,
-        is ∙ (ap (λ (l : List ℕ). l ++ q) first
-            ∙ (ap (λ (l : List ℕ). ((key ++ 64 ∷ writer_text w) ++ comma ∷ []) ++ l) later ∙ so key w (versions_text (v ∷ vs)))),
-      )
+    record { key = key; writer = w } ∷ v ∷ vs,
+    ap (λ (l : List (List ℕ)). key ∷ l) same,
+    is ∙ (ap (λ (l : List ℕ). l ++ q) first
+        ∙ (ap (λ (l : List ℕ). ((key ++ 64 ∷ writer_text w) ++ comma ∷ []) ++ l) later ∙ so key w (versions_text (v ∷ vs)))),
+  )
 
   from : (f : List ℕ) → AreVersionsThen (key ∷ next ∷ keys) f → Both (IsVersionThen key comma) (AreVersionsThen (next ∷ keys)) f
   from f ([], same, is) = absurd (let e : ⊥ = cc in e)
@@ -251,21 +251,21 @@ transaction_as keys pairs bytes o = one_as _ _ bytes o to from where
 
   to : (f : List ℕ) → Both (Just (codes "t:")) (Both (AreVersionsThen keys) (Just (pairs_text pairs))) f → IsTransactionOn keys pairs f
   to f (p, q, first, (v, w, (vs, same, then), last, both), is) = (
-        vs,
-        same,
-        is ∙ (ap (λ (l : List ℕ). l ++ q) first
-            ∙ (ap (λ (l : List ℕ). codes "t:" ++ l) (both ∙ (ap (λ (l : List ℕ). l ++ w) then ∙ ap (λ (l : List ℕ). (versions_text vs ++ bar ∷ []) ++ l) last))
-            ∙ so vs)),
-      )
+    vs,
+    same,
+    is ∙ (ap (λ (l : List ℕ). l ++ q) first
+        ∙ (ap (λ (l : List ℕ). codes "t:" ++ l) (both ∙ (ap (λ (l : List ℕ). l ++ w) then ∙ ap (λ (l : List ℕ). (versions_text vs ++ bar ∷ []) ++ l) last))
+        ∙ so vs)),
+  )
 
   from : (f : List ℕ) → IsTransactionOn keys pairs f → Both (Just (codes "t:")) (Both (AreVersionsThen keys) (Just (pairs_text pairs))) f
   from f (vs, same, is) = (
-        codes "t:",
-        (versions_text vs ++ bar ∷ []) ++ pairs_text pairs,
-        refl,
-        (versions_text vs ++ bar ∷ [], pairs_text pairs, (vs, same, refl), refl, refl),
-        is ∙ sym (so vs),
-      )
+    codes "t:",
+    (versions_text vs ++ bar ∷ []) ++ pairs_text pairs,
+    refl,
+    (versions_text vs ++ bar ∷ [], pairs_text pairs, (vs, same, refl), refl, refl),
+    is ∙ sym (so vs),
+  )
 
 -- DECISIONS
 
@@ -286,7 +286,7 @@ outcome_some false = omega arith
 after_read : (decision : Decision) → says_after (writer_text (Some decision.key) ++ equals ∷ outcome_text decision.commits) ≡ true
 after_read decision =
     let text = writer_text (Some decision.key) in
-    let lacks = key_lacks equals decision.key (record { digit = refl; dot = refl; dash = refl }) in
+    let lacks = key_lacks equals decision.key (record { digits = refl; dots = refl; dashes = refl }) in
     let front = before_cut equals text (outcome_text decision.commits) lacks in
     let rest = after_cut equals text (outcome_text decision.commits) lacks in
     rw (front, rest) (rw (key_read decision.key, outcome_read decision.commits) refl)
@@ -312,9 +312,11 @@ decision_back (letter ∷ sign ∷ bs) h = elim (cases_Bool (eqb letter 122)) [
   | inl z ↦ elim (cases_Bool (eqb sign 58)) [
     | inr other ↦ absurd (true≢false (sym (let e : false ≡ true = rw (z, other) at h in e)))
     | inl colon ↦
-        let d = after_back bs (let e : says_after bs ≡ true = rw (z, colon) at h in e) in
-        (d.0, ap (λ (x : ℕ). x ∷ sign ∷ bs) (eqb-true letter 122 z)
-            ∙ (ap (λ (x : ℕ). 122 ∷ x ∷ bs) (eqb-true sign 58 colon) ∙ ap (λ (l : List ℕ). codes "z:" ++ l) d.1))
+        let d = after_back bs (let e : says_after bs ≡ true = rw (z, colon) at h in e) in (
+          d.0,
+          ap (λ (x : ℕ). x ∷ sign ∷ bs) (eqb-true letter 122 z)
+              ∙ (ap (λ (x : ℕ). 122 ∷ x ∷ bs) (eqb-true sign 58 colon) ∙ ap (λ (l : List ℕ). codes "z:" ++ l) d.1),
+        )
   ]
 ]
 

@@ -7,7 +7,7 @@ use Rattle.log_node.specs.declared.node.Node.{Node}
 use Rattle.log_node.specs.declared.forms.Pair.{Pair}
 use Rattle.log_node.specs.declared.forms.Version.{Version}
 use Rattle.log_node.specs.declared.forms.Form.TheVariants as forms
-use Rattle.object_form.specs.Forms.{bar, dot, equals, form_text, version_text, versions_text, writer_text}
+use Rattle.object_form.specs.Forms.{bar, dash, dot, equals, form_text, version_text, versions_text, writer_text}
 use Rattle.object_form.specs.Readings.{after, before, is_dash, is_digit}
 use Rattle.col_core.specs.Log.{Log}
 use Rattle.col_core.specs.Keeping.{Kept}
@@ -47,7 +47,7 @@ IsBehindOne IsFront bytes (Some rest) = HaveBehind IsFront bytes rest
 
 -- NUMBERS, WRITERS AND VERSIONS
 
--- The digits are what is written of some number: of its digits the last 64, and all where it has no more.
+-- These are what is written of some number: all its digits, or the last 64 where it has more (`decimal`).
 abbrev pub is_numeral : List ℕ → Bool
 is_numeral [] = false
 is_numeral (b ∷ bs) =
@@ -64,9 +64,9 @@ names_writer bytes = is_dash bytes || names_key bytes
 
 -- a sign that stands in no writer
 pub record IsApart (sign : ℕ) : Type 0 where
-  pub digit : is_digit sign ≡ false
-  pub dot : (46 == sign) ≡ false
-  pub dash : (45 == sign) ≡ false
+  pub digits : is_digit sign ≡ false
+  pub dots : (dot == sign) ≡ false
+  pub dashes : (dash == sign) ≡ false
 
 -- some writer with a sign behind it
 abbrev pub IsWriterThen : ℕ → List ℕ → Type 0

@@ -79,7 +79,7 @@ fn is_put(text: &[u8], kind: Option<&Kind>, key: &Text, value: &Text) -> bool
     }
 }
 
-// Whether a text is one that a commit could say, by the keys that its read showed; it says none where there is no read.
+// Whether a commit could say a text, by the keys that its read showed; it says none where there is no read.
 fn commits_as(text: &[u8], found: Option<&ListOf<KeyAnswer>>, pairs: &[Pair]) -> bool
     ensures { Tells result (CommitsAs (option_copied found.entry) pairs.now text.now) }
 {

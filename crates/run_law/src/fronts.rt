@@ -25,7 +25,10 @@ pub(crate) fn behind_signed<'t>(bytes: &'t [u8], word: &[u8], sign: u8) -> Optio
 pub(crate) fn behind_pair<'t>(bytes: &'t [u8], key: &Text, value: &Text) -> Option<&'t [u8]>
     ensures { IsBehind (key.now ++ equals ∷ value.now) bytes.now (option_copied result) }
 {
-    behind(behind_signed(bytes, key.as_bytes(), b'=')?, value.as_bytes())
+    behind(
+        behind_signed(bytes, key.as_bytes(), b'=')?,
+        value.as_bytes(),
+    )
 }
 
 // What stands behind a pair and a comma.

@@ -13,8 +13,8 @@ use log_node::Pair;
 use object_form::cut;
 use report_text::KeyAnswer;
 
-// How many digits are written of a number behind its first: of a greater number the last 64 digits stand.
-const MORE_DIGITS: usize = 63;
+// A number is written with 64 digits at most, the last ones of a greater number. So many stand behind the first.
+const LATER_DIGITS: usize = 63;
 
 // Digits alone.
 fn are_digits(bytes: &[u8]) -> bool
@@ -31,8 +31,8 @@ fn is_numeral(bytes: &[u8]) -> bool
         [] => false,
         [first, others @ ..] => {
             are_digits(bytes)
-                && (others.len() == MORE_DIGITS
-                    || (others.len() < MORE_DIGITS && (b'1' <= *first || others.is_empty())))
+                && (others.len() == LATER_DIGITS
+                    || (others.len() < LATER_DIGITS && (b'1' <= *first || others.is_empty())))
         }
     }
 }
@@ -62,7 +62,11 @@ fn behind_writer<'t>(bytes: &'t [u8], sign: u8) -> Option<&'t [u8]>
     if writer.len() == bytes.len() {
         return None;
     }
-    if names_writer(writer) { Some(rest) } else { None }
+    if names_writer(writer) {
+        Some(rest)
+    } else {
+        None
+    }
 }
 
 // What stands behind KEY@WRITER and a sign.
@@ -87,11 +91,7 @@ fn behind_versions<'t>(bytes: &'t [u8], shown: &[KeyAnswer]) -> Option<&'t [u8]>
 }
 
 // What stands behind a transaction on versions of these keys.
-fn behind_transaction<'t>(
-    bytes: &'t [u8],
-    shown: &[KeyAnswer],
-    pairs: &[Pair],
-) -> Option<&'t [u8]>
+fn behind_transaction<'t>(bytes: &'t [u8], shown: &[KeyAnswer], pairs: &[Pair]) -> Option<&'t [u8]>
     ensures { IsBehindOne (IsTransactionOn (keys_shown shown.now) pairs.now) bytes.now (option_copied result) }
 {
     behind_pairs(behind_versions(behind(bytes, b"t:")?, shown)?, pairs)

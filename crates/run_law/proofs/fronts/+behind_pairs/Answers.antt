@@ -1,4 +1,4 @@
-use Rattle.std.proofs.Common.{[], ◌∷◌, ◌++◌, ◌-◌, ◌<◌, List, ℕ, arith, drop, length, subst, sym, take}
+use Rattle.std.proofs.Common.{[], ◌∷◌, ◌++◌, ◌-◌, List, ℕ, arith, drop, length, subst, sym, take}
 use Rattle.std.specs.Option.{option_copied}
 use Rattle.object_form.specs.Forms.{comma, pair_text, pairs_text}
 use Rattle.run_law.specs.TextsSaid.{IsBehind}

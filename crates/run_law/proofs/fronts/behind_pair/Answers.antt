@@ -1,4 +1,4 @@
-use Rattle.std.proofs.Common.{[], ◌∷◌, ◌++◌, ◌∙◌, List, ℕ, Option, subst, sym, ap, append_assoc}
+use Rattle.std.proofs.Common.{[], ◌∷◌, ◌++◌, ◌∙◌, List, ℕ, subst, ap, append_assoc}
 use Rattle.std.specs.Option.{option_copied}
 use Rattle.object_form.specs.Forms.{equals}
 use Rattle.run_law.specs.TextsSaid.{IsBehind}

@@ -1,4 +1,4 @@
-use Rattle.std.proofs.Common.{[], ◌∷◌, ◌++◌, ◌-◌, ◌<◌, ◌≤◌, ◌≡◌, ◌∙◌, List, ℕ, Some, None, ap, arith, drop, length, subst, sym, take}
+use Rattle.std.proofs.Common.{[], ◌∷◌, ◌-◌, ◌∙◌, List, ℕ, ap, arith, drop, length, subst, sym, take}
 use Rattle.std.specs.Option.{option_copied}
 use Rattle.object_form.specs.Forms.{bar, comma}
 use Rattle.run_law.specs.Asking.{keys_shown}

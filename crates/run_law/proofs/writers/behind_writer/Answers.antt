@@ -1,4 +1,4 @@
-use Rattle.std.proofs.Common.{◌<◌, ◌≤◌, ◌≡◌, ◌∙◌, length, arith, sym}
+use Rattle.std.proofs.Common.{◌∙◌, arith, sym}
 use Rattle.run_law.proofs.WriterLemmas.{before_short, no_sign, no_writer, writer_there}
 use Rattle.run_law.proofs.writers.behind_writer.Goals as goal
 
