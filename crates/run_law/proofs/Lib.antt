@@ -10,6 +10,7 @@ mod EnteringLemmas
 mod FifthLaws
 mod FinalLemmas
 mod FirstLemmas
+mod FrontLemmas
 mod HeadLemmas
 mod LeftLemmas
 mod ListedLaws
@@ -22,6 +23,7 @@ mod NextNodes
 mod NinthLaws
 mod NextRows
 mod NodeRows
+mod NumeralLemmas
 mod Once
 mod OrderLemmas
 mod PastLemmas
@@ -38,6 +40,7 @@ mod RowOrder
 mod RowPlaceLemmas
 mod SeventhLaws
 mod SeventhLemmas
+mod SayingLemmas
 mod Shards
 mod ShownTextLemmas
 mod SixthLaws
@@ -48,3 +51,4 @@ mod ThirdLemmas
 mod ToldLemmas
 mod UsedIds
 mod WalkLemmas
+mod WriterLemmas

@@ -21,6 +21,7 @@ pub mod Seventh
 pub mod Sixth
 pub mod Subjects
 pub mod Tables
+pub mod TextsSaid
 pub mod Third
 pub mod NodeTables
 pub mod Playing
