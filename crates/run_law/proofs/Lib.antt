@@ -1,10 +1,12 @@
 mod AllReplies
 mod AskedIs
+mod AskedNodes
 mod CanTold
 mod ClosingLemmas
 mod ColumnPlaces
 mod CopiesLemmas
 mod CopyLemmas
+mod EleventhLaws
 mod FifthLaws
 mod FinalLemmas
 mod FirstLemmas
@@ -27,10 +29,14 @@ mod RisingLemmas
 mod RowLemmas
 mod RowOrder
 mod RowPlaceLemmas
+mod SameKeeping
+mod ShapeColours
 mod Shards
+mod ShownSteps
 mod SubjectLemmas
 mod TableLemmas
 mod ThirdLemmas
 mod ToldLemmas
+mod TwelfthLaws
 mod UsedIds
 mod WalkLemmas

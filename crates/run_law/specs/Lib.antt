@@ -1,6 +1,7 @@
 pub mod Answered
 pub mod Asking
 pub mod Columns
+pub mod Eleventh
 pub mod Fifth
 pub mod Journals
 pub mod Keepings
@@ -15,4 +16,5 @@ pub mod RowsBeside
 pub mod Subjects
 pub mod Tables
 pub mod Third
+pub mod Twelfth
 pub mod Walking

@@ -33,7 +33,7 @@ mod walking;
 pub use first::keeps_first;
 pub use journals::tracks_of;
 pub use keeping::Keeping;
-pub use laws::fifth_is_entering;
+pub use laws::{eleventh_is_causes, fifth_is_entering, twelfth_is_bare};
 pub use left_open::keeps_eighth;
 pub use subject::Subject;
 pub use third::keeps_third;
