@@ -7,6 +7,7 @@ mod ColumnPlaces
 mod CopiesLemmas
 mod CopyLemmas
 mod EleventhLaws
+mod EndedRows
 mod FifthLaws
 mod FinalLemmas
 mod FirstLemmas
