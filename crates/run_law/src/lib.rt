@@ -1,6 +1,7 @@
 //! Which rule of a lawful run a report is the first to break.
 #![tactic(auto)]
 
+mod appended;
 mod asked;
 mod behind;
 mod can_have;
@@ -20,6 +21,7 @@ mod made;
 mod object_colours;
 mod pieces;
 mod place_lists;
+mod played;
 mod printed;
 mod replies;
 mod row_places;
@@ -27,6 +29,7 @@ mod row_table;
 mod rows;
 mod step_table;
 mod subject;
+mod synced;
 mod texts;
 mod third;
 mod walking;

@@ -4,6 +4,7 @@ ghost use Rattle.lawful_run.specs.Callers.{caller_of, commands_of};
 ghost use Rattle.run_rules.specs.Told.{stamp_of};
 ghost use Rattle.run_rules.specs.Telling.{replies_to};
 ghost use Rattle.run_law.specs.PlaceTables.{final_of, row_with};
+ghost use Rattle.run_law.specs.Behind.{HasColumn, steps_untold};
 ghost use Rattle.run_law.specs.Subjects.{AtColumn};
 ghost use Rattle.run_law.specs.Walking.{IsStepOf, MayWalk, journal_walked};
 ghost use Rattle.col_core.specs.Log.{places_of};
@@ -16,7 +17,7 @@ use crate::place_lists::{PlaceLists, commands_by_client};
 use crate::printed::Printed;
 use col_core::Entry;
 use column_track::Track;
-use log_node::Id;
+use log_node::{Id, ListOf};
 use report_text::{ReplyLine, Report};
 use script_text::{Command, Script};
 use std::alloc::{AllocError, Global};
@@ -181,6 +182,14 @@ impl<'r> Subject<'r> {
         }
     }
 
+    /// Whether the column is one of the shape.
+    pub(crate) fn has_column(&self, region: u8, colour: u8) -> bool
+        ensures { HasColumn self.now region colour result }
+    {
+        let _may = &self.finals;
+        self.column(region, colour).is_some()
+    }
+
     /// The track of a column.
     pub fn track(&self, region: u8, colour: u8) -> &'r Track
         requires region { region < self.now.script.shape.regions }
@@ -202,6 +211,29 @@ impl<'r> Subject<'r> {
             Some(at) => self.places[at].own.places(client),
             None => &[],
         }
+    }
+
+    /// The places, in a column of a client's region, of its own steps of the id of this count that no reply to it prints.
+    pub(crate) fn steps(
+        &self,
+        alloc: Global,
+        client: u8,
+        colour: u8,
+        count: u64,
+    ) -> Result<ListOf<u64>, AllocError>
+        requires { client < length self.now.report.clients }
+        ensures { IfOk result (λ places. places ≡ steps_untold self.now client count colour) }
+    {
+        let own = self.own(client);
+        let mut places = ListOf::new(alloc);
+        if let Some(at) = self.column(own, colour) {
+            for place in self.places[at].steps.steps(Id { client, count }) {
+                if !self.printed.has(client, own, colour, *place) {
+                    places.push(*place)?;
+                }
+            }
+        }
+        Ok(places)
     }
 
     /// The final number of a region's row with this id; 0 where there is none, or it is not final.
