@@ -35,7 +35,7 @@ use Rattle.lawful_run.specs.Asks.{home_asked}
 use Rattle.lawful_run.specs.Deeds.{colours_synced}
 use Rattle.lawful_run.specs.Refusals.{IsAway, IsHomeRefusal, kept_before, kept_behind}
 use Rattle.lawful_run.specs.Shapes.{AppendsBy}
-use Rattle.run_rules.specs.Told.{Account, OfEachStep, Step, Untold, colours_asked, is_several, kept_after_row, kept_at, kept_deciding, kept_past, kept_told, kept_where}
+use Rattle.run_rules.specs.Told.{Account, OfEachStep, Step, Untold, colours_asked, is_several, kept_after_row, kept_appending, kept_at, kept_deciding, kept_past, kept_told, kept_where}
 use Rattle.run_rules.specs.Telling.{IsWellFormed, account_of, log_of, no_nodes}
 use Rattle.run_rules.specs.Agreeing.{AreStepsAlike, KeepSame, began_row}
 use Rattle.run_rules.specs.Answering.{CanHave}
@@ -47,11 +47,11 @@ use Rattle.run_rules.specs.Rules.{HasNode, IsReplyTo, Rule1, Rule2, Rule3, Rule4
 use Rattle.run_rules.specs.Shown.{EndHasCause, HasCause, Rule11, begins_row}
 use Rattle.run_rules.proofs.CallerLemmas.{rule1, rule2, rule3, rule4, rule5}
 use Rattle.run_law.specs.Columns.{AreAllColumns}
-use Rattle.run_law.specs.Eleventh.{EleventhIsCauses, HasEnd, HasEndedRow, HasItsCause, HasLateEnd, IsCaused, IsEndedRow}
+use Rattle.run_law.specs.Eleventh.{EleventhIsCauses, HasEnd, HasEndedRow, HasItsCause, HasLateEnd, IsCaused, Lookups, lookups_of}
 use Rattle.run_law.specs.Fifth.{next_id}
 use Rattle.run_law.specs.PlaceTables.{row_with}
 use Rattle.run_law.specs.Third.{rows_in}
-use Rattle.run_law.specs.Walking.{Walked}
+use Rattle.run_law.specs.Walking.{Walked, log_walked}
 use Rattle.run_law.proofs.AskedNodes.{node_asked}
 use Rattle.run_law.proofs.EndedRows.{ended_row, ends_there, begun, settled_there}
 use Rattle.run_law.proofs.FifthLaws.{node_colours}
@@ -89,6 +89,9 @@ module _ (script : Script) (report : Report) (fits : IsFitting script) (well : I
   abbrev both_of : Walked
   both_of = record { script = script; report = report }
 
+  abbrev looks : Lookups
+  looks = lookups_of report
+
   abbrev g : RowReport → BegunRow
   g = full script report nodes
 
@@ -112,15 +115,15 @@ module _ (script : Script) (report : Report) (fits : IsFitting script) (well : I
 
     -- by the row that is found
     module _ (colour : ℕ) where
-      several_end : (cs : List ℕ) → 2 ≤ length cs → HasEndedRow report.columns colour (find (next_id who b))
-          → HasEnd both_of who b colour cs
+      several_end : (cs : List ℕ) → 2 ≤ length cs → HasEndedRow looks.is_open colour (find (next_id who b))
+          → HasEnd looks both_of who b colour cs
       several_end [] two has = absurd (let f : ⊥ = omega (arith, two) in f)
       several_end (one ∷ []) two has = absurd (let f : ⊥ = omega (arith, two) in f)
       several_end (one ∷ other ∷ more) two has = has
 
       row_end : (x : Colours) (t : List ℕ) (places : ℕ → List ℕ)
           → IsGoneAtEnd whole_log (with_room who a) a (node_of who a x t) colour places
-          → HasEndedRow report.columns colour (find (next_id who b))
+          → HasEndedRow looks.is_open colour (find (next_id who b))
       row_end x t places gone =
           let node = node_of who a x t in
           let back = in_map g (rows_in own report.rows) gone.begins.row
@@ -129,7 +132,7 @@ module _ (script : Script) (report : Report) (fits : IsFitting script) (well : I
           let same : back.0.id ≡ next_id who b =
           sym (full_id script report nodes back.0)
           ∙ (ap (λ (k : Node). k.id) is ∙ ap (λ (k : ℕ). let i : Id = record { client = n; count = k } in i) s.ids) in
-          subst (HasEndedRow report.columns colour)
+          subst (HasEndedRow looks.is_open colour)
           (sym (row_found report.rows own (ids_apart script report nodes third own home) (next_id who b) back.0 back.1 same))
           (ended_row script report well columns second nodes third (with_room who a) home back.0 back.1 node is refl colour gone.ends
           gone.settled)
@@ -137,7 +140,7 @@ module _ (script : Script) (report : Report) (fits : IsFitting script) (well : I
     end_onto : (colour : ℕ) → AppendsBy who a what (λ colours text.
         HasNoStamp whole_log (with_room who a) a (node_of who a colours text) colour
         (kept_where (is_several who a what) (kept_after_row u who a) a))
-        → HasEnd both_of who b colour (colours_asked who b what)
+        → HasEnd looks both_of who b colour (colours_asked who b what)
     end_onto colour x =
         turn (no_stamp_of whole_log (with_room who a) a (node_of who a x.0 x.1) colour
         (kept_where (is_several who a what) (kept_after_row u who a) a) x.3) where
@@ -146,25 +149,25 @@ module _ (script : Script) (report : Report) (fits : IsFitting script) (well : I
 
           turn : ((members x.0 ≡ colour ∷ []) × HadNoStamp whole_log (with_room who a) a colour)
               ⊎ ((places : ℕ → List ℕ) × IsGoneAtEnd whole_log (with_room who a) a (node_of who a x.0 x.1) colour places)
-              → HasEnd both_of who b colour (colours_asked who b what)
+              → HasEnd looks both_of who b colour (colours_asked who b what)
           turn (inl y) =
-              subst (HasEnd both_of who b colour) (sym y.0 ∙ (its ∙ asked))
+              subst (HasEnd looks both_of who b colour) (sym y.0 ∙ (its ∙ asked))
               (refl, had_same script n whole_log bare_log (λ c. refl) home s colour
               (low colour (subst (In colour) (sym y.0 ∙ its) (inl refl))) (unroomy y.1))
           turn (inr y) =
-              subst (HasEnd both_of who b colour) (its ∙ asked)
+              subst (HasEnd looks both_of who b colour) (its ∙ asked)
               (several_end colour (members x.0) y.1.begins.several (row_end colour x.0 x.1 y.0 y.1))
 
     end_back : (colour : ℕ) → In colour (colours_asked who a what)
         → (IsTrue (is_several who a what) → NamesSteps whole_log who a u.places)
-        → (IsTrue (is_several who a what) → HasNode whole_log who a what) → HasEnd both_of who b colour (colours_asked who b what)
+        → (IsTrue (is_several who a what) → HasNode whole_log who a what) → HasEnd looks both_of who b colour (colours_asked who b what)
         → AppendsBy who a what (λ colours text. HasNoStamp whole_log (with_room who a) a (node_of who a colours text) colour
         (kept_where (is_several who a what) (kept_after_row u who a) a))
-    end_back colour of_it named node x = by (colours_asked who a what) refl (subst (HasEnd both_of who b colour) (sym asked) x) where
+    end_back colour of_it named node x = by (colours_asked who a what) refl (subst (HasEnd looks both_of who b colour) (sym asked) x) where
       after : Bool → Kept
       after t = kept_where t (kept_after_row u who a) a
 
-      by : (cs : List ℕ) → colours_asked who a what ≡ cs → HasEnd both_of who b colour cs
+      by : (cs : List ℕ) → colours_asked who a what ≡ cs → HasEnd looks both_of who b colour cs
           → AppendsBy who a what (λ colours text. HasNoStamp whole_log (with_room who a) a (node_of who a colours text) colour
           (kept_where (is_several who a what) (kept_after_row u who a) a))
       by [] e h = absurd h
@@ -194,7 +197,7 @@ module _ (script : Script) (report : Report) (fits : IsFitting script) (well : I
                 (none_for_several u.places (gone m (named (sym many)) (find (next_id who b)) refl h)),
           ) where
             gone : (m : HasNode whole_log who a what) → NamesSteps whole_log who a u.places → (o : Option RowReport)
-                → find (next_id who b) ≡ o → HasEndedRow report.columns colour o
+                → find (next_id who b) ≡ o → HasEndedRow looks.is_open colour o
                 → IsGoneAtEnd whole_log (with_room who a) a (node_of who a m.0 m.1) colour u.places
             gone m steps None found ended = absurd ended
             gone m steps (Some r) found ended = record {
@@ -300,7 +303,7 @@ module _ (script : Script) (report : Report) (fits : IsFitting script) (well : I
           (kept_behind w (kept_told bare_log v who b w (decided (ends.StampEnd colour))))) can.2.2 past
 
       decided_onto : (ended : Ended) → CanHave who a what shown (decided ended) → Past (decided ended)
-          → HasCause whole_log u who a what (decided ended) → IsCaused both_of who b what (decided ended)
+          → HasCause whole_log u who a what (decided ended) → IsCaused looks both_of who (kept_appending bare_log who b (decided ended)) what (decided ended)
       decided_onto (ends.StampEnd colour) can past x =
           late_onto what within uses (kept_deciding whole_log who a sync read_stamp raises syncs)
           (kept_deciding bare_log who b sync read_stamp raises syncs) (late_same colour can past) (ends.StampEnd colour) x
@@ -308,7 +311,7 @@ module _ (script : Script) (report : Report) (fits : IsFitting script) (well : I
       decided_onto ends.NoMemory can past x = tt
 
       decided_back : (ended : Ended) → CanHave who a what shown (decided ended) → Past (decided ended)
-          → IsCaused both_of who b what (decided ended) → HasCause whole_log u who a what (decided ended)
+          → IsCaused looks both_of who (kept_appending bare_log who b (decided ended)) what (decided ended) → HasCause whole_log u who a what (decided ended)
       decided_back (ends.StampEnd colour) can past x =
           late_back what within uses (kept_deciding whole_log who a sync read_stamp raises syncs)
           (kept_deciding bare_log who b sync read_stamp raises syncs) (late_same colour can past) (ends.StampEnd colour) x
@@ -316,7 +319,7 @@ module _ (script : Script) (report : Report) (fits : IsFitting script) (well : I
       decided_back ends.NoMemory can past x = tt
 
     caused_onto : (answer : Answer) → CanHave who a what shown answer → Past answer → HasCause whole_log u who a what answer
-        → IsCaused both_of who b what answer
+        → IsCaused looks both_of who (kept_appending bare_log who b answer) what answer
     caused_onto (answers.StampEnd colour) can past x = (x.0, end_onto what within uses u a b s colour x.1)
     caused_onto (answers.Full used) can past x = (x.0, x.1.3.shown ∙ s.rows, sym s.rows ∙ x.1.3.all)
     caused_onto answers.SameRegion can past x = x
@@ -330,7 +333,7 @@ module _ (script : Script) (report : Report) (fits : IsFitting script) (well : I
     caused_onto _ can past x = tt
 
     caused_back : (answer : Answer) → CanHave who a what shown answer → Past answer → Names whole_log u who a what answer
-        → UsesNode whole_log who a what answer → IsCaused both_of who b what answer → HasCause whole_log u who a what answer
+        → UsesNode whole_log who a what answer → IsCaused looks both_of who (kept_appending bare_log who b answer) what answer → HasCause whole_log u who a what answer
     caused_back (answers.StampEnd colour) can past named used x =
         (x.0, end_back what within uses u a b s colour (in_contains (colours_asked who a what) colour can.1) named used x.1)
     caused_back (answers.Full begun) can past named used x = (x.0, full_back what within uses u a b s begun can.1 x.1 x.2)
@@ -390,22 +393,22 @@ module _ (tell : FindsTell) (agrees : ComputedAccountAgrees) (script : Script) (
       pub away : IsAway it (home_asked it x.command.what) → IsHomeRefusal x.reply.answer
 
     -- what it looks at, where the command and the answer are these
-    record Looks (kept : Kept) (command : Command) (reply : ReplyLine) : Type 0 where
-      pub caused : IsCaused walked it (kept_before command.what kept) command.what reply.answer
+    record LooksAt (kept : Kept) (command : Command) (reply : ReplyLine) : Type 0 where
+      pub caused : IsCaused (lookups_of report) walked it (kept_appending (log_walked walked) it (kept_before command.what kept) reply.answer) command.what reply.answer
       pub room : IsTrue (begins_row (is_several it (kept_before command.what kept) command.what) reply.answer)
           → (kept_before command.what kept).rows < it.rows
       pub away : IsAway it (home_asked it command.what) → IsHomeRefusal reply.answer
 
-    looked : (x y : Step) → AreStepsAlike script it x y → Looks y.kept x.command x.reply → HasItsCause walked it y
+    looked : (x y : Step) → AreStepsAlike script it x y → LooksAt y.kept x.command x.reply → HasItsCause (lookups_of report) walked it y
     looked x y s h =
-        let m : Looks y.kept y.command y.reply =
-        subst (λ (d : Command). Looks y.kept d y.reply) s.command (subst (λ (r : ReplyLine). Looks y.kept x.command r) s.reply h) in
+        let m : LooksAt y.kept y.command y.reply =
+        subst (λ (d : Command). LooksAt y.kept d y.reply) s.command (subst (λ (r : ReplyLine). LooksAt y.kept x.command r) s.reply h) in
         record { caused = m.caused; room = m.room; away = m.away }
 
-    looks : (x y : Step) → AreStepsAlike script it x y → HasItsCause walked it y → Looks y.kept x.command x.reply
-    looks x y s h =
-        subst (λ (r : ReplyLine). Looks y.kept x.command r) (sym s.reply)
-        (subst (λ (d : Command). Looks y.kept d y.reply) (sym s.command)
+    unlooked : (x y : Step) → AreStepsAlike script it x y → HasItsCause (lookups_of report) walked it y → LooksAt y.kept x.command x.reply
+    unlooked x y s h =
+        subst (λ (r : ReplyLine). LooksAt y.kept x.command r) (sym s.reply)
+        (subst (λ (d : Command). LooksAt y.kept d y.reply) (sym s.command)
         (record { caused = h.caused; room = h.room; away = h.away }))
 
     -- what is kept behind the step by the other account, where its command and reply are those of this one
@@ -438,8 +441,8 @@ module _ (tell : FindsTell) (agrees : ComputedAccountAgrees) (script : Script) (
     several x y s =
         ap (λ (cs : List ℕ). nat_lt 1 (length cs)) (asked_same it x.command.what (before_same s.kept x.command.what))
 
-    onto : All Keeps (shown.steps n) → All (HasItsCause walked it) (bare.steps n)
-    onto = to_bare tell agrees script report fits well rules.0 n c there Keeps (HasItsCause walked it) (λ x y i r h.
+    onto : All Keeps (shown.steps n) → All (HasItsCause (lookups_of report) walked it) (bare.steps n)
+    onto = to_bare tell agrees script report fits well rules.0 n c there Keeps (HasItsCause (lookups_of report) walked it) (λ x y i r h.
         let s = before_same r.alike.kept x.command.what in
         looked x y r.alike (record {
           caused = caused_onto script report fits well first.columns second nodes third n home (fifth.own n c there).row_nodes
@@ -451,10 +454,10 @@ module _ (tell : FindsTell) (agrees : ComputedAccountAgrees) (script : Script) (
           away = h.away;
         }))
 
-    back : All (HasItsCause walked it) (bare.steps n) → All Keeps (shown.steps n)
-    back = to_shown tell agrees script report fits well rules.0 n c there Keeps (HasItsCause walked it) (λ x y i r q.
+    back : All (HasItsCause (lookups_of report) walked it) (bare.steps n) → All Keeps (shown.steps n)
+    back = to_shown tell agrees script report fits well rules.0 n c there Keeps (HasItsCause (lookups_of report) walked it) (λ x y i r q.
         let s = before_same r.alike.kept x.command.what in
-        let h = looks x y r.alike q in
+        let h = unlooked x y r.alike q in
         record {
           caused = caused_back script report fits well first.columns second nodes third n home (fifth.own n c there).row_nodes
               x.command.what (its_within tell agrees script report fits well rules.0 n c there x i)
@@ -484,6 +487,6 @@ eleventh_is_causes tell agrees script report fits well rules = (
 
   kept_of : (n : ℕ) (c : ClientReport) (there : slice_get report.clients n ≡ Some c)
       → OfEachStep script report (account_of script report no_nodes)
-      (HasItsCause (record { script = script; report = report }))
+      (HasItsCause (lookups_of report) (record { script = script; report = report }))
       → All (Keeps tell agrees script report fits well five n c there) ((account_showing script report).steps n)
   kept_of n c there causes = back tell agrees script report fits well five n c there (causes n c there)

@@ -40,7 +40,7 @@ use Rattle.lawful_run.proofs.CallerLemmas.{settled_by_now}
 use Rattle.run_rules.specs.Rules.{IsLawfulColumn, Rule2, Rule3}
 use Rattle.run_rules.specs.Telling.{IsWellFormed, account_of, journal_among, log_of}
 use Rattle.run_law.specs.Columns.{AreAllColumns}
-use Rattle.run_law.specs.Eleventh.{IsEndMark, IsEndedRow}
+use Rattle.run_law.specs.Eleventh.{IsEndMark, IsEndedRow, lookups_of}
 use Rattle.run_law.specs.LeftOpen.{is_open_among}
 use Rattle.run_law.specs.Third.{rows_in}
 use Rattle.run_law.proofs.LeftLemmas.{by_place, closed_among, closed_in, journal_is}
@@ -271,7 +271,7 @@ module _ (script : Script) (report : Report) (well : IsWellFormed script report)
             subst (λ (d : Id). open_entry d (entries (H c)) ≡ None) id_is
             (closed_member c (subst (λ (y : Node). In c (members y.colours)) is told.among))
 
-      pub ended_row : IsEndedRow report.columns colour r
+      pub ended_row : IsEndedRow (lookups_of report).is_open colour r
       ended_row = record {
         gone = ap (λ (q : BegunRow). q.last) (row_is ends.outcome.0 ends.outcome.1) ∙ ends.outcome.2;
         marks = all_in (IsEndMark colour) r.marks end_mark;
@@ -281,7 +281,7 @@ module _ (script : Script) (report : Report) (well : IsWellFormed script report)
 
     -- AND TO IT
 
-    module _ (colour : ℕ) (one : In colour (members node.colours)) (ended : IsEndedRow report.columns colour r) where
+    module _ (colour : ℕ) (one : In colour (members node.colours)) (ended : IsEndedRow (lookups_of report).is_open colour r) where
       all_set : (m : ColourMark) → In m r.marks → m.mark ≢ marks.None
       all_set m j e =
           let fits = of_row script report nodes third own lt

@@ -1,6 +1,7 @@
 -- The eleventh rule, at the account with what reads found and node lines show: what is looked at of each step.
 use Rattle.std.specs.Prelude.{◌≡◌, ◌≢◌, ◌↔◌, Bool, false, IsTrue, ℕ, ◌==◌, ◌<◌, ◌≤◌, List, [], ◌∷◌, Option, Some, None}
 use Rattle.std.specs.List.{All}
+use Rattle.log_node.specs.declared.ids.Id.{Id}
 use Rattle.log_node.specs.Outcomes.{is_stamp_end_fence}
 use Rattle.log_node.specs.declared.marks.ColourMark.{ColourMark}
 use Rattle.log_node.specs.declared.marks.Outcome.TheVariants.{Gone}
@@ -12,7 +13,6 @@ use Rattle.script_text.specs.declared.commands.What.TheVariants as whats
 use Rattle.script_text.specs.declared.script.Script.{Script}
 use Rattle.report_text.specs.declared.report.Answer.{Answer}
 use Rattle.report_text.specs.declared.report.Answer.TheVariants as answers
-use Rattle.report_text.specs.declared.report.ColumnReport.{ColumnReport}
 use Rattle.report_text.specs.declared.report.Ended.{Ended}
 use Rattle.report_text.specs.declared.report.Ended.TheVariants as ends
 use Rattle.report_text.specs.declared.report.Report.{Report}
@@ -24,16 +24,28 @@ use Rattle.lawful_run.specs.Deeds.{manner_of}
 use Rattle.lawful_run.specs.Explains.{IsNoStopAtOnce}
 use Rattle.lawful_run.specs.Reads.{IsTrimmed}
 use Rattle.lawful_run.specs.Refusals.{IsAway, IsHomeRefusal}
-use Rattle.run_rules.specs.Told.{OfEachStep, Step, colours_asked, kept_at, kept_deciding}
+use Rattle.run_rules.specs.Told.{OfEachStep, Step, colours_asked, kept_appending, kept_at}
 use Rattle.run_rules.specs.Telling.{IsWellFormed, account_of, no_nodes}
 use Rattle.run_rules.specs.Agreeing.{began_row}
 use Rattle.run_rules.specs.Deciding.{account_showing}
 use Rattle.run_rules.specs.Keeping.{RulesTo}
 use Rattle.run_rules.specs.Shown.{Rule11}
-use Rattle.run_law.specs.Fifth.{next_id}
+use Rattle.run_law.specs.Fifth.{Finding, next_id}
 use Rattle.run_law.specs.LeftOpen.{is_open_among}
 use Rattle.run_law.specs.PlaceTables.{row_with}
 use Rattle.run_law.specs.Walking.{Walked, log_walked}
+
+-- what is looked up: a region's row with an id, and whether columns of a region leave an id open
+pub record Lookups : Type 0 where
+  pub row : Finding
+  pub is_open : ℕ → Id → Bool
+
+-- by rows and closing lines of a report
+abbrev pub lookups_of : Report → Lookups
+lookups_of report = record {
+  row = λ region id. row_with region id report.rows;
+  is_open = λ region id. is_open_among region report.columns id;
+}
 
 -- THE ROW OF A REFUSED APPEND
 
@@ -42,24 +54,24 @@ abbrev pub IsEndMark : ℕ → ColourMark → Type 0
 IsEndMark colour m = m.colour ≤ colour → is_stamp_end_fence m.mark ≡ (m.colour == colour)
 
 -- The row is gone, since this colour had no stamp left, which is the least such colour; and its id is left open nowhere.
-pub record IsEndedRow (columns : List ColumnReport) (colour : ℕ) (r : RowReport) : Type 0 where
+pub record IsEndedRow (is_open : ℕ → Id → Bool) (colour : ℕ) (r : RowReport) : Type 0 where
   pub gone : r.last ≡ Gone StampEnd
   pub marks : All (IsEndMark colour) r.marks
-  pub closed : is_open_among r.region columns r.id ≡ false
+  pub closed : is_open r.region r.id ≡ false
 
 -- such a row is found
-abbrev pub HasEndedRow : List ColumnReport → ℕ → Option RowReport → Type 0
-HasEndedRow columns colour None = ⊥
-HasEndedRow columns colour (Some r) = IsEndedRow columns colour r
+abbrev pub HasEndedRow : (ℕ → Id → Bool) → ℕ → Option RowReport → Type 0
+HasEndedRow is_open colour None = ⊥
+HasEndedRow is_open colour (Some r) = IsEndedRow is_open colour r
 
 -- STEPS
 
 -- no stamp was left in the colour for a node of these ones
-abbrev pub HasEnd : Walked → Caller → Kept → ℕ → List ℕ → Type 0
-HasEnd walked caller kept colour [] = ⊥
-HasEnd walked caller kept colour (one ∷ []) = (one ≡ colour) × HadNoStamp (log_walked walked) caller kept colour
-HasEnd walked caller kept colour (one ∷ other ∷ more) =
-    HasEndedRow walked.report.columns colour (row_with caller.own (next_id caller kept) walked.report.rows)
+abbrev pub HasEnd : Lookups → Walked → Caller → Kept → ℕ → List ℕ → Type 0
+HasEnd looks walked caller kept colour [] = ⊥
+HasEnd looks walked caller kept colour (one ∷ []) = (one ≡ colour) × HadNoStamp (log_walked walked) caller kept colour
+HasEnd looks walked caller kept colour (one ∷ other ∷ more) =
+    HasEndedRow looks.is_open colour (looks.row caller.own (next_id caller kept))
 
 -- none was left for a decision's node, which has one colour
 abbrev pub HasLateEnd : Walked → Caller → Kept → What → Ended → Type 0
@@ -67,25 +79,27 @@ HasLateEnd walked caller kept what (ends.StampEnd colour) =
     (colours_asked caller kept what ≡ colour ∷ []) × HadNoStamp (log_walked walked) caller kept colour
 HasLateEnd walked caller kept what _ = Unit {0}
 
--- an answer that refuses a command has its cause
-abbrev pub IsCaused : Walked → Caller → Kept → What → Answer → Type 0
-IsCaused walked caller kept what (answers.StampEnd colour) =
-    IsTrue (tells_stamp_end (manner_of what)) × HasEnd walked caller kept colour (colours_asked caller kept what)
-IsCaused walked caller kept what (answers.Full used) =
+-- An answer that refuses a command has its cause, by what the client keeps when the command's node is appended, or else when
+-- the command is answered.
+abbrev pub IsCaused : Lookups → Walked → Caller → Kept → What → Answer → Type 0
+IsCaused looks walked caller kept what (answers.StampEnd colour) =
+    IsTrue (tells_stamp_end (manner_of what)) × HasEnd looks walked caller kept colour (colours_asked caller kept what)
+IsCaused looks walked caller kept what (answers.Full used) =
     IsNoStopAtOnce what × (used ≡ kept.rows) × (kept.rows ≡ caller.rows)
-IsCaused walked caller kept what answers.SameRegion = (colour : ℕ) × (what ≡ whats.Pull caller.own colour)
-IsCaused walked caller kept what (answers.Decided commits stamp sync read_stamp raises syncs ended) =
-    HasLateEnd walked caller (kept_deciding (log_walked walked) caller kept sync read_stamp raises syncs) what ended
-IsCaused walked caller kept what answers.NoTx =
+IsCaused looks walked caller kept what answers.SameRegion = (colour : ℕ) × (what ≡ whats.Pull caller.own colour)
+IsCaused looks walked caller kept what (answers.Decided commits stamp sync read_stamp raises syncs ended) =
+    HasLateEnd walked caller kept what ended
+IsCaused looks walked caller kept what answers.NoTx =
     (object : ℕ) × (pairs : _) × (what ≡ whats.Commit object pairs)
     × (home_of_object caller object ≡ Some caller.own) × (kept.reads object ≡ None)
-IsCaused walked caller kept what (answers.Trimmed colour base) = IsTrimmed (log_walked walked) caller kept colour base
-IsCaused walked caller kept what (answers.NotHome home) = (home_asked caller what ≡ Some home) × (caller.own ≢ home)
-IsCaused walked caller kept what _ = Unit {0}
+IsCaused looks walked caller kept what (answers.Trimmed colour base) = IsTrimmed (log_walked walked) caller kept colour base
+IsCaused looks walked caller kept what (answers.NotHome home) = (home_asked caller what ≡ Some home) × (caller.own ≢ home)
+IsCaused looks walked caller kept what _ = Unit {0}
 
 -- what is asked of a step
-pub record HasItsCause (walked : Walked) (caller : Caller) (step : Step) : Type 0 where
-  pub caused : IsCaused walked caller (kept_at step) step.command.what step.reply.answer
+pub record HasItsCause (looks : Lookups) (walked : Walked) (caller : Caller) (step : Step) : Type 0 where
+  pub caused : IsCaused looks walked caller (kept_appending (log_walked walked) caller (kept_at step) step.reply.answer)
+      step.command.what step.reply.answer
   pub room : IsTrue (began_row caller step) → (kept_at step).rows < caller.rows
   pub away : IsAway caller (home_asked caller step.command.what) → IsHomeRefusal step.reply.answer
 
@@ -96,5 +110,6 @@ pub record HasItsCause (walked : Walked) (caller : Caller) (step : Step) : Type 
 abbrev pub EleventhIsCauses : Type 0
 EleventhIsCauses = (script : Script) (report : Report) → IsFitting script → IsWellFormed script report
     → RulesTo script report (account_showing script report) 10
-    → OfEachStep script report (account_of script report no_nodes) (HasItsCause (record { script = script; report = report }))
+    → OfEachStep script report (account_of script report no_nodes)
+    (HasItsCause (lookups_of report) (record { script = script; report = report }))
     ↔ Rule11 script report (account_showing script report)
