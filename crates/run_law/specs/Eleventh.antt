@@ -1,5 +1,5 @@
 -- The eleventh rule, at the account with what reads found and node lines show: what is looked at of each step.
-use Rattle.std.specs.Prelude.{◌≡◌, ◌≢◌, ◌↔◌, Bool, false, IsTrue, ℕ, ◌==◌, ◌<◌, ◌≤◌, List, [], ◌∷◌, Option, Some, None}
+use Rattle.std.specs.Prelude.{◌≡◌, ◌≢◌, ◌↔◌, Bool, false, IsTrue, ℕ, ◌==◌, ◌<◌, ◌≤◌, List, [], ◌∷◌, length, Option, Some, None, slice_get}
 use Rattle.std.specs.List.{All}
 use Rattle.log_node.specs.declared.ids.Id.{Id}
 use Rattle.log_node.specs.Outcomes.{is_stamp_end_fence}
@@ -13,6 +13,7 @@ use Rattle.script_text.specs.declared.commands.What.TheVariants as whats
 use Rattle.script_text.specs.declared.script.Script.{Script}
 use Rattle.report_text.specs.declared.report.Answer.{Answer}
 use Rattle.report_text.specs.declared.report.Answer.TheVariants as answers
+use Rattle.report_text.specs.declared.report.ColumnReport.{ColumnReport}
 use Rattle.report_text.specs.declared.report.Ended.{Ended}
 use Rattle.report_text.specs.declared.report.Ended.TheVariants as ends
 use Rattle.report_text.specs.declared.report.Report.{Report}
@@ -30,8 +31,10 @@ use Rattle.run_rules.specs.Agreeing.{began_row}
 use Rattle.run_rules.specs.Deciding.{account_showing}
 use Rattle.run_rules.specs.Keeping.{RulesTo}
 use Rattle.run_rules.specs.Shown.{Rule11}
-use Rattle.run_law.specs.Fifth.{Finding, next_id}
-use Rattle.run_law.specs.LeftOpen.{is_open_among}
+use Rattle.run_law.specs.declared.eleventh.Causes.{Causes}
+use Rattle.run_law.specs.declared.row_table.RowTable.{RowTable}
+use Rattle.run_law.specs.Fifth.{Finding, finding_in, next_id}
+use Rattle.run_law.specs.LeftOpen.{has_id, is_open_among}
 use Rattle.run_law.specs.PlaceTables.{row_with}
 use Rattle.run_law.specs.Walking.{Walked, log_walked}
 
@@ -46,6 +49,27 @@ lookups_of report = record {
   row = λ region id. row_with region id report.rows;
   is_open = λ region id. is_open_among region report.columns id;
 }
+
+-- IN TABLES
+
+-- the id was put into a table, if there is one
+abbrev pub is_put : Option RowTable → Id → Bool
+is_put None id = false
+is_put (Some table) id = has_id table id
+
+-- columns of a region leave the id open, as tables say
+abbrev pub is_left : Causes → ℕ → Id → Bool
+is_left causes region id = is_put (slice_get causes.open.items region) id
+
+-- what is looked up in tables, and among rows
+abbrev pub looks_in : Causes → List RowReport → Lookups
+looks_in causes rows = record { row = finding_in causes.places rows; is_open = is_left causes }
+
+-- there is a table for each region, of the ids that its columns leave open
+pub record AreOpenIds (regions : ℕ) (columns : List ColumnReport) (tables : List RowTable) : Type 0 where
+  pub many : length tables ≡ regions
+  pub each : (region : ℕ) (table : RowTable) → slice_get tables region ≡ Some table
+      → (id : Id) → has_id table id ≡ is_open_among region columns id
 
 -- THE ROW OF A REFUSED APPEND
 
@@ -79,6 +103,12 @@ HasLateEnd walked caller kept what (ends.StampEnd colour) =
     (colours_asked caller kept what ≡ colour ∷ []) × HadNoStamp (log_walked walked) caller kept colour
 HasLateEnd walked caller kept what _ = Unit {0}
 
+-- the command commits at its object's home, of which no read is kept
+abbrev pub HasNoTx : Caller → Kept → What → Type 0
+HasNoTx caller kept what =
+    (object : ℕ) × (pairs : _) × (what ≡ whats.Commit object pairs)
+    × (home_of_object caller object ≡ Some caller.own) × (kept.reads object ≡ None)
+
 -- An answer that refuses a command has its cause, by what the client keeps when the command's node is appended, or else when
 -- the command is answered.
 abbrev pub IsCaused : Lookups → Walked → Caller → Kept → What → Answer → Type 0
@@ -89,9 +119,7 @@ IsCaused looks walked caller kept what (answers.Full used) =
 IsCaused looks walked caller kept what answers.SameRegion = (colour : ℕ) × (what ≡ whats.Pull caller.own colour)
 IsCaused looks walked caller kept what (answers.Decided commits stamp sync read_stamp raises syncs ended) =
     HasLateEnd walked caller kept what ended
-IsCaused looks walked caller kept what answers.NoTx =
-    (object : ℕ) × (pairs : _) × (what ≡ whats.Commit object pairs)
-    × (home_of_object caller object ≡ Some caller.own) × (kept.reads object ≡ None)
+IsCaused looks walked caller kept what answers.NoTx = HasNoTx caller kept what
 IsCaused looks walked caller kept what (answers.Trimmed colour base) = IsTrimmed (log_walked walked) caller kept colour base
 IsCaused looks walked caller kept what (answers.NotHome home) = (home_asked caller what ≡ Some home) × (caller.own ≢ home)
 IsCaused looks walked caller kept what _ = Unit {0}
@@ -102,6 +130,18 @@ pub record HasItsCause (looks : Lookups) (walked : Walked) (caller : Caller) (st
       step.command.what step.reply.answer
   pub room : IsTrue (began_row caller step) → (kept_at step).rows < caller.rows
   pub away : IsAway caller (home_asked caller step.command.what) → IsHomeRefusal step.reply.answer
+
+-- the colour that the end of a decision names is one of so many
+abbrev pub HasLowEnd : ℕ → Ended → Type 0
+HasLowEnd colours (ends.StampEnd colour) = colour < colours
+HasLowEnd colours _ = Unit {0}
+
+-- and so is the one that a refusal names
+abbrev pub HasLowColour : ℕ → Answer → Type 0
+HasLowColour colours (answers.StampEnd colour) = colour < colours
+HasLowColour colours (answers.Decided commits stamp sync read_stamp raises syncs ended) = HasLowEnd colours ended
+HasLowColour colours (answers.Trimmed colour base) = colour < colours
+HasLowColour colours _ = Unit {0}
 
 -- THE RULE
 

@@ -1,5 +1,6 @@
 pub mod Answered
 pub mod Asking
+pub mod Bases
 pub mod Behind
 pub mod Columns
 pub mod Eleventh

@@ -3,10 +3,12 @@
 
 mod appended;
 mod asked;
+mod bases;
 mod behind;
 mod can_have;
 mod column_places;
 mod copies;
+mod eleventh;
 mod entering;
 mod fifth;
 mod finals;
@@ -34,6 +36,7 @@ mod texts;
 mod third;
 mod walking;
 
+pub use eleventh::keeps_eleventh;
 pub use fifth::keeps_fifth;
 pub use first::keeps_first;
 pub use journals::tracks_of;
