@@ -1,7 +1,9 @@
 mod AllReplies
 mod AskedIs
 mod AskedNodes
+mod BaseLemmas
 mod CanTold
+mod CauseLemmas
 mod ClosingLemmas
 mod ColumnPlaces
 mod CopiesLemmas

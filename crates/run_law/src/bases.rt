@@ -20,6 +20,8 @@ fn first_base(track: &Track, from: u64, to: u64, base: Counts) -> u64
     requires within { to ≤ length track.now.journal }
     ensures { IsFirstBase track.now from to base result }
 {
+    cuts_grow();
+    track.agrees();
     let mut low = from;
     let mut high = to;
     while low < high {

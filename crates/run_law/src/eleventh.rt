@@ -1,5 +1,5 @@
 // The eleventh rule: each refusal has its cause.
-ghost use Rattle.std.specs.Prelude.{◌≡◌, ◌∷◌, [], ◌<◌, ◌≢◌, ℕ, Some, IfOk, IsTrue, length};
+ghost use Rattle.std.specs.Prelude.{◌≡◌, ◌∷◌, [], ◌<◌, ◌≢◌, ℕ, List, None, Some, IfOk, IsTrue, length};
 ghost use Rattle.std.specs.List.{All};
 ghost use Rattle.log_node.specs.declared.ids.Id.{Id as NodeId};
 ghost use Rattle.log_node.specs.declared.marks.Why.TheVariants as whys;
@@ -7,6 +7,7 @@ ghost use Rattle.log_node.specs.declared.marks.Outcome.TheVariants as outcomes;
 ghost use Rattle.log_node.specs.Outcomes.{is_stamp_end_fence};
 ghost use Rattle.col_core.specs.Keeping.{Kept};
 ghost use Rattle.script_text.specs.declared.commands.What.TheVariants as whats;
+ghost use Rattle.report_text.specs.declared.report.ReplyLine.{ReplyLine};
 ghost use Rattle.lawful_run.specs.Callers.{caller_of};
 ghost use Rattle.lawful_run.specs.Appends.{HadNoStamp};
 ghost use Rattle.lawful_run.specs.Asks.{home_asked, tells_stamp_end};
@@ -264,6 +265,14 @@ fn is_home(home: Option<u8>, region: u8) -> bool
     }
 }
 
+// Whether a client keeps no read of an object.
+fn is_unread(keeping: &Keeping, object: u8) -> bool
+    ensures { (replies : List ReplyLine) (kept : Kept) → IsCounted replies kept keeping.now
+        → Tells result (kept.reads object ≡ None) }
+{
+    keeping.read(object).is_none()
+}
+
 // Whether a command commits at its object's home, of which no read is kept.
 fn has_no_tx(subject: &Subject<'_>, client: u8, keeping: &Keeping, what: &What) -> bool
     requires { client < length subject.now.report.clients }
@@ -275,7 +284,7 @@ fn has_no_tx(subject: &Subject<'_>, client: u8, keeping: &Keeping, what: &What) 
             if !is_home(home_asked(subject, what), subject.own(client)) {
                 return false;
             }
-            keeping.read(*object).is_none()
+            is_unread(keeping, *object)
         }
         _ => false,
     }
