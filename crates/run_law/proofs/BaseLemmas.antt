@@ -3,7 +3,7 @@ use Rattle.std.proofs.Common.{◌≡◌, ◌⊎◌, ◌∙◌, refl, ap, sym, su
 use Rattle.std.proofs.lemmas.Bool.{cases_lt}
 use Rattle.std.proofs.lemmas.List.{take-append-drop, take-take}
 use Rattle.log_node.specs.declared.ids.Counts.{Counts}
-use Rattle.log_node.specs.Vectors.{IsWithin}
+use Rattle.log_node.specs.Vectors.{IsWithin, is_within}
 use Rattle.log_node.proofs.CallerLemmas.{at-vector, same_vectors, within-at, within-refl, within-trans}
 use Rattle.col_core.specs.declared.Entry.{Entry}
 use Rattle.col_core.specs.Computed.{dated}
@@ -11,7 +11,8 @@ use Rattle.col_core.specs.Cuts.{Dated, base, base_from}
 use Rattle.col_core.specs.Laws.{CutsGrow}
 use Rattle.col_core.specs.Legal.{IsColumnHistory}
 use Rattle.col_core.proofs.CallerLemmas.{dates_longer, later, lawful_beginning}
-use Rattle.column_track.specs.Tracks.{Tells, Tracked}
+use Rattle.column_track.specs.Tracks.{Tells, Tracked, mark_after}
+use Rattle.column_track.specs.declared.marks.Mark.{Mark}
 use Rattle.run_law.specs.Bases.{IsFirstBase, WasBase, base_after}
 
 -- bases that are within one another are one
@@ -25,6 +26,12 @@ base_is track m n one other =
     let x = at-vector (f m) r lt in
     let y = at-vector (f n) r lt in
     omega (arith, a, b, x, y))
+
+-- what a mark tells
+pub mark_within : (track : Tracked) (events : ℕ) (mark : Mark) (shown : Counts)
+    → mark ≡ mark_after track.region track.regions (take events track.journal) → is_within shown mark.base ≡ true
+    → IsWithin shown (base_after track events)
+mark_within track events mark shown is t = sym (ap (λ (m : Mark). is_within shown m.base) is) ∙ t
 
 module _ (grow : CutsGrow) (track : Tracked)
     (lawful : IsColumnHistory track.region track.regions (dated track.region track.journal)) where

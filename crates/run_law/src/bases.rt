@@ -1,5 +1,5 @@
 // Whether the base of a column was this one after some number of its events.
-ghost use Rattle.std.specs.Prelude.{◌≡◌, ◌≤◌, length};
+ghost use Rattle.std.specs.Prelude.{◌≡◌, ◌<◌, ◌≤◌, length};
 ghost use Rattle.column_track.specs.Tracks.{Tells};
 ghost use Rattle.run_law.specs.Bases.{IsFirstBase, WasBase};
 
@@ -14,6 +14,15 @@ fn same_vector(one: Counts, other: Counts) -> bool
     one == other
 }
 
+// A number from one to below another one, halfway between them.
+fn halfway(low: u64, high: u64) -> u64
+    requires { low < high }
+    ensures from_on { low ≤ result }
+    ensures below { result < high }
+{
+    low + (high - low) / 2
+}
+
 // The first number of events from one on, but not behind another one, after which the base is not below this one.
 fn first_base(track: &Track, from: u64, to: u64, base: Counts) -> u64
     requires order { from ≤ to }
@@ -25,7 +34,7 @@ fn first_base(track: &Track, from: u64, to: u64, base: Counts) -> u64
     let mut low = from;
     let mut high = to;
     while low < high {
-        let middle = low + (high - low) / 2;
+        let middle = halfway(low, high);
         if base.is_within(track.mark(middle).base) {
             high = middle;
         } else {
