@@ -2,6 +2,7 @@ mod AllReplies
 mod AskedIs
 mod AskedNodes
 mod BaseLemmas
+mod BehindLemmas
 mod CanTold
 mod CauseLemmas
 mod ClosingLemmas
@@ -10,6 +11,7 @@ mod CopiesLemmas
 mod CopyLemmas
 mod EleventhLaws
 mod EndedRows
+mod EnteringLemmas
 mod FifthLaws
 mod FinalLemmas
 mod FirstLemmas
@@ -18,6 +20,7 @@ mod LeftLemmas
 mod ListedLaws
 mod ListedLemmas
 mod Lists
+mod MadeLemmas
 mod Members
 mod NextNodes
 mod NodeRows
@@ -25,6 +28,7 @@ mod Once
 mod OrderLemmas
 mod PastLemmas
 mod PlaceLemmas
+mod PlayedLemmas
 mod PrintLemmas
 mod ProposalLemmas
 mod RepliesLemmas

@@ -8,7 +8,7 @@ ghost use Rattle.run_rules.specs.Told.{Step as StepTold, kept_appending, kept_at
 ghost use Rattle.run_rules.specs.Telling.{replies_to};
 ghost use Rattle.run_law.specs.Fifth.{EntersNode, EntersSo, HasNextRow, OfAppended, OfEnd, finding_in, next_id};
 ghost use Rattle.run_law.specs.Keepings.{Counted, IsCounted, KeepsCount};
-ghost use Rattle.run_law.specs.Walking.{CountsBehind, GoesOn, HasFew, IsSeen, IsStepOf, log_walked};
+ghost use Rattle.run_law.specs.Walking.{CountsBehind, HasFew, IsSeen, IsStepOf, log_walked};
 
 use crate::fifth::{enters_as_node, is_next_row};
 use crate::keeping::Keeping;
