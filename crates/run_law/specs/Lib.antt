@@ -1,7 +1,9 @@
 pub mod Answered
 pub mod Asking
+pub mod Bases
 pub mod Behind
 pub mod Columns
+pub mod Eleventh
 pub mod Fifth
 pub mod Journals
 pub mod Keepings
@@ -25,4 +27,5 @@ pub mod TextsSaid
 pub mod Third
 pub mod NodeTables
 pub mod Playing
+pub mod Twelfth
 pub mod Walking

@@ -3,10 +3,12 @@
 
 mod appended;
 mod asked;
+mod bases;
 mod behind;
 mod can_have;
 mod column_places;
 mod copies;
+mod eleventh;
 mod entering;
 mod could_say;
 mod fifth;
@@ -46,11 +48,13 @@ mod turn;
 mod walking;
 mod writers;
 
+pub use eleventh::keeps_eleventh;
 pub use fifth::keeps_fifth;
 pub use first::keeps_first;
 pub use journals::tracks_of;
 pub use keeping::Keeping;
 pub use laws::{fifth_is_entering, ninth_is_shown};
+pub use laws::{eleventh_is_causes, fifth_is_entering, twelfth_is_bare};
 pub use left_open::keeps_eighth;
 pub use seventh::{keeps_seventh, seventh_is_stopping};
 pub use sixth::{keeps_sixth, sixth_is_standing};
