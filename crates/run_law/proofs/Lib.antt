@@ -1,6 +1,7 @@
 mod AllReplies
 mod AskedIs
 mod CanTold
+mod ChainBeginnings
 mod ClosingLemmas
 mod ColumnPlaces
 mod CopiesLemmas
@@ -21,13 +22,16 @@ mod Once
 mod OrderLemmas
 mod PastLemmas
 mod PlaceLemmas
+mod PlayOrders
 mod PrintLemmas
 mod ProposalLemmas
+mod ReadingLemmas
 mod RepliesLemmas
 mod RisingLemmas
 mod RowLemmas
 mod RowOrder
 mod RowPlaceLemmas
+mod ScanLemmas
 mod Shards
 mod ShownTextLemmas
 mod SubjectLemmas

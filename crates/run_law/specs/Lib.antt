@@ -8,9 +8,12 @@ pub mod Keepings
 pub mod LeftOpen
 pub mod Listed
 pub mod Lists
+pub mod Looks
 pub mod Ninth
 pub mod PlaceTables
+pub mod Playing
 pub mod Proposals
+pub mod Reading
 pub mod Replies
 pub mod RowPlaces
 pub mod RowsBeside
