@@ -1,5 +1,6 @@
 mod AllReplies
 mod AskedIs
+mod BehindLemmas
 mod CanTold
 mod ChainBeginnings
 mod ClosingLemmas
@@ -14,6 +15,7 @@ mod LeftLemmas
 mod ListedLaws
 mod ListedLemmas
 mod Lists
+mod MadeLemmas
 mod Members
 mod NextNodes
 mod NinthLaws
@@ -23,6 +25,8 @@ mod OrderLemmas
 mod PastLemmas
 mod PlaceLemmas
 mod PlayOrders
+mod PlayedLemmas
+mod PlayedShown
 mod PrintLemmas
 mod ProposalLemmas
 mod ReadingLemmas

@@ -1,17 +1,19 @@
 -- The order of play, line by line: what a loop compares, and what it is of chains that begin others.
 use Rattle.std.proofs.Common.{◌≡◌, ◌∙◌, refl, ap, sym, subst, ℕ, zero, suc, ◌+◌, ◌<◌, ◌≤◌, min, Bool, true, false, List, [], ◌∷◌, length, drop, Option, Some, None, ◌⊎◌, inl, inr, arith, lit<}
-use Rattle.std.specs.Prelude.{slice_get, sum, map, nat_lt, nat_le, ◌&&◌, ◌==◌, if◌then◌else◌}
+use Rattle.std.specs.Prelude.{slice_get, sum, map, is_none, nat_eq, nat_lt, nat_le, ◌&&◌, ◌==◌, if◌then◌else◌}
 use Rattle.std.specs.List.{AllZip}
 use Rattle.std.specs.Option.{option_map_or}
-use Rattle.std.proofs.lemmas.Bool.{and_parts, cases_eq, eqb-true, ltb-true}
+use Rattle.std.proofs.lemmas.Bool.{and_from, and_parts, cases_eq, eq-eqb, eqb-true, ltb-true, true≢false}
 use Rattle.std.proofs.lemmas.Option.{slice_get_within}
 use mathlib.Core.List.{IsPrefix}
 use Rattle.log_node.specs.declared.ids.Counts.{Counts}
+use Rattle.log_node.specs.declared.ids.Key.{Key}
 use Rattle.log_node.specs.declared.node.Head.{Head}
+use Rattle.log_node.specs.Order.{same_id, same_key}
 use Rattle.log_node.specs.Reach.{Chains, Reachable, is_covered}
 use Rattle.log_node.specs.Seen.{PlacedNode}
 use Rattle.log_node.specs.Vectors.{IsWithin, all_regions, at, least, one_more}
-use Rattle.log_node.proofs.CallerLemmas.{at-one_more, at-vector, each_region, get_longer, get_within, reached_within, same_some, same_tests}
+use Rattle.log_node.proofs.CallerLemmas.{at-one_more, at-vector, each_region, get_longer, get_within, reached_within, same_id-refl, same_some, same_tests}
 use Rattle.col_core.specs.Laws.{PlayOrderIsUnique}
 use Rattle.col_core.specs.PlayOrder.{IsPlayOrder, Place, Stands, WaitsFor, goes_first, is_between}
 use Rattle.col_core.proofs.CallerLemmas.{Between, In, between_is, by_test, if_false, if_true, in_order-between, is_in_between, reachable_grows, within, within-at}
@@ -19,8 +21,13 @@ use Rattle.lawful_run.proofs.CallerLemmas.{regions_in}
 use Rattle.playback.specs.Laws.{PlayOrderIsLawful}
 use Rattle.playback.specs.Orders.{first_region, is_before, is_free, next_place, next_region, order_of, play_order}
 use Rattle.run_law.specs.Ninth.{PlaysKeys, ShowsPlace, key_shown}
+use Rattle.run_law.specs.declared.playing.Next.{Next}
+use Rattle.run_law.specs.Playing.{IsNextOf}
 use Rattle.run_law.proofs.Members.{told_as}
 use Rattle.column_track.specs.Tracks.{Tells}
+
+same_key-refl : (a : Key) → same_key a a ≡ true
+same_key-refl a = and_from (nat_eq a.stamp a.stamp) (same_id a.id a.id) (eq-eqb a.stamp a.stamp refl) (same_id-refl a.id)
 
 -- THE NEXT NODE
 
@@ -29,22 +36,24 @@ next_free : (chains : Chains) (played to : Counts) (regions : List ℕ) (r : ℕ
     → is_free chains played to r ≡ true
 next_free chains played to [] r e = absurd (let f : ⊥ = cc (e) in f)
 next_free chains played to (x ∷ xs) r e =
-    turn (next_region chains played to xs) refl where
-      turn : (o : Option ℕ) → next_region chains played to xs ≡ o → is_free chains played to r ≡ true
-      turn o is =
+    turn (λ k n. next_free chains played to xs k n) (next_region chains played to xs) refl where
+      turn : ((k : ℕ) → next_region chains played to xs ≡ Some k → is_free chains played to k ≡ true) → (o : Option ℕ)
+          → next_region chains played to xs ≡ o → is_free chains played to r ≡ true
+      turn more o is =
           by_test (is_free chains played to r ≡ true) (is_free chains played to x)
-          (λ t. first o is t (same_some (sym (if_true (is_free chains played to x)
+          (λ t. first more o is t (same_some (sym (if_true (is_free chains played to x)
           (Some (first_region chains played x (next_region chains played to xs))) (next_region chains played to xs) t) ∙ e)))
-          (λ f. next_free chains played to xs r (sym (if_false (is_free chains played to x)
+          (λ f. more r (sym (if_false (is_free chains played to x)
           (Some (first_region chains played x (next_region chains played to xs))) (next_region chains played to xs) f) ∙ e)) where
-            first : (o : Option ℕ) → next_region chains played to xs ≡ o → is_free chains played to x ≡ true
+            first : ((k : ℕ) → next_region chains played to xs ≡ Some k → is_free chains played to k ≡ true) → (o : Option ℕ)
+                → next_region chains played to xs ≡ o → is_free chains played to x ≡ true
                 → first_region chains played x (next_region chains played to xs) ≡ r → is_free chains played to r ≡ true
-            first None n t same =
+            first more None n t same =
                 subst (λ (k : ℕ). is_free chains played to k ≡ true) (sym (ap (first_region chains played x) n) ∙ same) t
-            first (Some other) n t same =
+            first more (Some other) n t same =
                 let chosen = sym (ap (first_region chains played x) n) ∙ same in
                 by_test (is_free chains played to r ≡ true) (is_before chains played other x)
-                (λ b. next_free chains played to xs r
+                (λ b. more r
                 (n ∙ ap (λ (k : ℕ). Some k) (sym (if_true (is_before chains played other x) other x b) ∙ chosen)))
                 (λ b. subst (λ (k : ℕ). is_free chains played to k ≡ true)
                 (sym (if_false (is_before chains played other x) other x b) ∙ chosen) t)
@@ -59,21 +68,22 @@ next_short chains played to regions r e =
 next_among : (chains : Chains) (played to : Counts) (regions : List ℕ) (r : ℕ) → next_region chains played to regions ≡ Some r → In r regions
 next_among chains played to [] r e = absurd (let f : ⊥ = cc (e) in f)
 next_among chains played to (x ∷ xs) r e =
-    turn (next_region chains played to xs) refl where
-      turn : (o : Option ℕ) → next_region chains played to xs ≡ o → In r (x ∷ xs)
-      turn o is =
+    turn (λ k n. next_among chains played to xs k n) (next_region chains played to xs) refl where
+      turn : ((k : ℕ) → next_region chains played to xs ≡ Some k → In k xs) → (o : Option ℕ) → next_region chains played to xs ≡ o
+          → In r (x ∷ xs)
+      turn more o is =
           by_test (In r (x ∷ xs)) (is_free chains played to x)
-          (λ t. first o is (same_some (sym (if_true (is_free chains played to x)
+          (λ t. first more o is (same_some (sym (if_true (is_free chains played to x)
           (Some (first_region chains played x (next_region chains played to xs))) (next_region chains played to xs) t) ∙ e)))
-          (λ f. inr (next_among chains played to xs r (sym (if_false (is_free chains played to x)
+          (λ f. inr (more r (sym (if_false (is_free chains played to x)
           (Some (first_region chains played x (next_region chains played to xs))) (next_region chains played to xs) f) ∙ e))) where
-            first : (o : Option ℕ) → next_region chains played to xs ≡ o
-                → first_region chains played x (next_region chains played to xs) ≡ r → In r (x ∷ xs)
-            first None n same = inl (sym (ap (first_region chains played x) n) ∙ same)
-            first (Some other) n same =
+            first : ((k : ℕ) → next_region chains played to xs ≡ Some k → In k xs) → (o : Option ℕ)
+                → next_region chains played to xs ≡ o → first_region chains played x (next_region chains played to xs) ≡ r → In r (x ∷ xs)
+            first more None n same = inl (sym (ap (first_region chains played x) n) ∙ same)
+            first more (Some other) n same =
                 let chosen = sym (ap (first_region chains played x) n) ∙ same in
                 by_test (In r (x ∷ xs)) (is_before chains played other x)
-                (λ b. inr (next_among chains played to xs r
+                (λ b. inr (more r
                 (n ∙ ap (λ (k : ℕ). Some k) (sym (if_true (is_before chains played other x) other x b) ∙ chosen))))
                 (λ b. inl (sym (if_false (is_before chains played other x) other x b) ∙ chosen))
 
@@ -196,6 +206,13 @@ module _ (chains : Chains) (from to : Counts) (nodes : List PlacedNode) where
             let same : here.0 ≡ head = same_some (sym here.1 ∙ there) in
             differs (sym (here.2 ∙ ap (λ (h : Head). h.key) same))
 
+        -- by the test of keys
+        pub plays_unlike : (head : Head) → slice_get (chains r) (at played r) ≡ Some head
+            → same_key head.key (key_shown item) ≡ false → Shown (play_order chains from to) nodes → ⊥
+        plays_unlike head there f =
+            plays_other head there (λ e. true≢false (sym (ap (λ (k : Key). same_key k (key_shown item)) e
+            ∙ same_key-refl (key_shown item)) ∙ f))
+
         pub plays_next : (head : Head) → slice_get (chains r) (at played r) ≡ Some head → head.key ≡ key_shown item
             → PlaysOn (one_more played r) (i + 1)
         plays_next head there same = record {
@@ -224,6 +241,19 @@ module _ (chains : Chains) (from to : Counts) (nodes : List PlacedNode) where
               (λ f.
               let here : at (one_more played r) k ≡ at played k = is ∙ if_false (k == r) (at played k + 1) (at played k) f in
               omega (arith, here, before))
+
+    -- what the next node tells when all lines are compared
+    pub plays_told : length nodes ≤ i → (o : Option Next) → IsNextOf chains played to all_regions o → (b : Bool) → b ≡ is_none o
+        → Tells b (Shown (play_order chains from to) nodes)
+    plays_told ge None none true e = plays_end none ge
+    plays_told ge None none false e = absurd (true≢false (sym e))
+    plays_told ge (Some next) is true e = absurd (true≢false e)
+    plays_told ge (Some next) is false e =
+        plays_more next.region (next_low chains played to next.region is.0) is.0 ge
+
+pub least_short : (from to : Counts) → IsWithin (least from to) to
+least_short from to = within (least from to) to (λ r lt.
+    let is = at-vector (λ (k : ℕ). min (at from k) (at to k)) r lt in omega (arith, is))
 
 -- CHAINS THAT BEGIN OTHERS
 
@@ -281,10 +311,10 @@ module _ (chains longer : Chains) (from to : Counts) (reached : Reachable chains
   forth_order order o = record {
     each_once = λ place. o.each_once place ∙ ap (λ (b : Bool). if b then 1 else 0) (same_between place);
     after_needed = λ i j p q b at_i at_j stands waits.
-        o.after_needed i j p q b at_i at_j (back_stands q from to (in_order-between chains from to order o j q at_j) b stands) waits;
+        o.after_needed i j p q b at_i at_j (back_stands q from to (in_order-between chains from to reached order o j q at_j) b stands) waits;
     least_first = λ i j p q a b lt at_i at_j stands_a stands_b goes.
-        o.least_first i j p q a b lt at_i at_j (back_stands p from to (in_order-between chains from to order o i p at_i) a stands_a)
-        (back_stands q from to (in_order-between chains from to order o j q at_j) b stands_b) goes;
+        o.least_first i j p q a b lt at_i at_j (back_stands p from to (in_order-between chains from to reached order o i p at_i) a stands_a)
+        (back_stands q from to (in_order-between chains from to reached order o j q at_j) b stands_b) goes;
   }
 
   back_order : (order : List Place) → IsPlayOrder longer (least from to) to order → IsPlayOrder chains from to order
@@ -314,10 +344,6 @@ module _ (chains longer : Chains) (from to : Counts) (reached : Reachable chains
   zip_forth (p ∷ ps) [] z = absurd z
   zip_forth (p ∷ ps) (x ∷ xs) z = ((z.0.0, forth_stands p z.0.0 z.0.1, z.0.2), zip_forth ps xs z.1)
 
-  least_within : IsWithin (least from to) to
-  least_within = within (least from to) to (λ r lt.
-      let is = at-vector (λ (k : ℕ). min (at from k) (at to k)) r lt in omega (arith, is))
-
   -- the keys are in the order of play over the chains where they are in the one that is computed over the others
   pub keys_told : PlayOrderIsUnique → PlayOrderIsLawful → (nodes : List PlacedNode) (b : Bool)
       → Tells b (AllZip (ShowsPlace longer) (play_order longer (least from to) to) nodes) → Tells b (PlaysKeys chains from to nodes)
@@ -327,7 +353,7 @@ module _ (chains longer : Chains) (from to : Counts) (reached : Reachable chains
         play_order longer (least from to) to,
         back_order (play_order longer (least from to) to) is_order,
         zip_back (play_order longer (least from to) to) nodes
-            (in_order-between chains from to (play_order longer (least from to) to)
+            (in_order-between chains from to reached (play_order longer (least from to) to)
             (back_order (play_order longer (least from to) to) is_order)) z,
       ))
       (λ x.
@@ -337,4 +363,4 @@ module _ (chains longer : Chains) (from to : Counts) (reached : Reachable chains
         far = reachable_grows chains longer begins to reached
 
         is_order : IsPlayOrder longer (least from to) to (play_order longer (least from to) to)
-        is_order = lawful longer (least from to) to far least_within
+        is_order = lawful longer (least from to) to far (least_short from to)

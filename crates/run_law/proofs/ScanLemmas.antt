@@ -1,7 +1,7 @@
 -- Keys beside node lines, and lines of which a scan is merged.
-use Rattle.std.proofs.Common.{◌≡◌, ◌∙◌, refl, ap, sym, subst, ℕ, zero, suc, ◌+◌, ◌<◌, ◌≤◌, min, Bool, true, false, List, [], ◌∷◌, ◌++◌, length, map, take, get_or, Some, None, arith}
+use Rattle.std.proofs.Common.{◌≡◌, ◌∙◌, refl, ap, sym, subst, ℕ, zero, suc, ◌+◌, ◌<◌, ◌≤◌, min, Bool, true, false, List, [], ◌∷◌, ◌++◌, length, map, take, get_or, Some, None, ◌⊎◌, inl, inr, arith}
 use Rattle.std.specs.Prelude.{nat_eq, slice_get}
-use Rattle.std.proofs.lemmas.Bool.{and_from, eq-eqb, true≢false}
+use Rattle.std.proofs.lemmas.Bool.{and_from, cases_lt, eq-eqb, true≢false}
 use Rattle.std.proofs.lemmas.List.{take_all, take_more}
 use Rattle.std.proofs.lemmas.List.Elements.{All-contains}
 use Rattle.std.proofs.lemmas.Option.{slice_get-get_or}
@@ -29,6 +29,7 @@ use Rattle.lawful_run.specs.Reads.{AreKeysRead, lines_read}
 use Rattle.col_core.specs.Log.{Log}
 use Rattle.run_law.specs.Ninth.{key_shown}
 use Rattle.run_law.specs.Proposals.{line_heads}
+use Rattle.run_law.proofs.ChainBeginnings.{beginning_legal, line_first, line_rising}
 use Rattle.run_law.proofs.Members.{told_as}
 
 -- KEYS BESIDE LINES
@@ -89,3 +90,24 @@ module _ (log : Log) (caller : Caller) (stamp : ℕ) where
       told_as b (keys ≡ map key_shown nodes) (AreKeysRead log caller stamp syncs (map key_shown nodes))
       (λ e. subst (IsRegionOrder (lines_read log caller syncs) stamp) (sym is ∙ e) order)
       (λ o. is ∙ unique (lines_read log caller syncs) stamp (region_order stamp (lines_read log caller syncs)) (map key_shown nodes) order o)
+
+-- A LINE CUT
+
+module _ (own regions : ℕ) (h : List Entry) (legal : IsColumnHistory own regions (dated own h)) (events n : ℕ)
+    (n_is : n ≡ min events (length h)) (count : ℕ) (count_is : count ≡ length (line (take n h))) (keys : List Key)
+    (keys_are : keys ≡ line h) where
+  same_take : take n h ≡ take events h
+  same_take = elim (cases_lt events (length h)) [
+    | inl lt ↦ ap (λ (k : ℕ). take k h) (omega (arith, n_is, lt))
+    | inr ge ↦ take_all n h (omega (arith, n_is, ge)) ∙ sym (take_all events h ge)
+  ]
+
+  pub line_cut : take count keys ≡ line (take events h)
+  line_cut = ap (take count) keys_are ∙ (line_first own regions h legal n count count_is ∙ ap line same_take)
+
+  pub line_cut_short : count ≡ length (take count keys)
+  line_cut_short = count_is ∙ ap length (sym (ap (take count) keys_are ∙ line_first own regions h legal n count count_is))
+
+  pub line_cut_rises : AreRising (take count keys)
+  line_cut_rises =
+      subst AreRising (sym line_cut) (line_rising own regions (take events h) (beginning_legal own regions h events legal))
