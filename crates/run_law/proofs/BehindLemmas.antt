@@ -7,6 +7,7 @@ use Rattle.std.proofs.lemmas.Bool.{and_left, cases_Bool, cases_lt, eq-eqb, eqb-t
 use Rattle.std.proofs.lemmas.List.Elements.{filter_more}
 use Rattle.std.proofs.lemmas.List.{get_or-take, length-append, length-take-le}
 use Rattle.std.proofs.lemmas.Option.{slice_get_read, slice_get_within}
+use Rattle.log_node.specs.declared.forms.Version.{Version}
 use Rattle.log_node.specs.declared.ids.Id.{Id}
 use Rattle.log_node.specs.declared.node.Node.{Node}
 use Rattle.log_node.specs.Order.{same_id}
@@ -17,14 +18,21 @@ use Rattle.col_core.specs.declared.Event.TheVariants.{Single, Propose, Settle, R
 use Rattle.col_core.specs.declared.Entry.{Entry}
 use Rattle.col_core.specs.Log.{is_own, places_from, places_of}
 use Rattle.col_core.specs.Rows.{BegunRow}
+use Rattle.report_text.specs.declared.report.Answer.{Answer}
+use Rattle.report_text.specs.declared.report.Answer.TheVariants as answers
 use Rattle.report_text.specs.declared.report.ColumnReport.{ColumnReport}
+use Rattle.report_text.specs.declared.report.KeyAnswer.{KeyAnswer}
+use Rattle.report_text.specs.declared.report.RaisePiece.{RaisePiece}
+use Rattle.report_text.specs.declared.report.ReplyLine.{ReplyLine}
+use Rattle.report_text.specs.declared.report.SyncPiece.{SyncPiece}
 use Rattle.report_text.specs.declared.report.RowReport.{RowReport}
 use Rattle.run_rules.specs.Told.{last_of}
-use Rattle.run_rules.specs.Telling.{is_among, is_in, is_step_at, is_step_of, no_nodes, row_of, step_places}
+use Rattle.run_rules.specs.Telling.{is_among, is_in, is_step_at, is_step_of, no_nodes, row_of, step_places, unnamed}
 use Rattle.run_law.specs.declared.column_places.ColumnPlaces.{ColumnPlaces}
 use Rattle.run_law.specs.PlaceTables.{final_of, is_own_step, numbers_where, row_with, same_row, steps_in}
 use Rattle.lawful_run.specs.Callers.{caller_of}
 use Rattle.run_law.specs.Behind.{steps_untold}
+use Rattle.run_law.specs.Keepings.{IsFoundAt, ShowsKeys}
 use Rattle.run_law.specs.Subjects.{AreAllPlaces}
 use Rattle.run_law.specs.Walking.{Walked, journal_walked, places_printed}
 use Rattle.run_law.proofs.PlaceLemmas.{is_made_by}
@@ -276,3 +284,23 @@ between_is xs past place to from below above few before behind less =
     (λ k d le lt. le-leb past (get_or (take to xs) k d) (ltb-false _ past (behind k d le lt))) less)
     ∙ (ap (filter (λ p. nat_le past p)) (sym (front_is (λ p. nat_lt p place) xs to below above few))
     ∙ filter_both (λ p. nat_lt p place) (λ p. nat_le past p) xs)
+
+-- WHAT A READ FOUND
+
+keys_same : (shown : List KeyAnswer)
+    → map (λ (v : Version). v.key) (map (λ (k : KeyAnswer). let v : Version = record { key = k.key; writer = None } in v) shown)
+    ≡ map (λ (k : KeyAnswer). k.key) shown
+keys_same [] = refl
+keys_same (k ∷ ks) = ap (λ (l : List (List ℕ)). k.key ∷ l) (keys_same ks)
+
+-- what is found is of the keys that the reply shows
+pub found_at : (replies : List ReplyLine) (place : ℕ) (found : List Version) (answer : Answer) (stamp : ℕ) (shown : List KeyAnswer)
+    (raises : List RaisePiece) (syncs : List SyncPiece)
+    → (r : ReplyLine) × (slice_get replies place ≡ Some r) × (r.answer ≡ answer) → found ≡ unnamed answer
+    → answer ≡ answers.GotKeys stamp shown raises syncs → IsFoundAt replies (Some found) (Some place)
+found_at replies place found answer stamp shown raises syncs reply told is = (
+  reply.0,
+  reply.1,
+  subst (ShowsKeys (map (λ (v : Version). v.key) found)) (sym (reply.2 ∙ is))
+      (ap (map (λ (v : Version). v.key)) (told ∙ ap unnamed is) ∙ keys_same shown),
+)
