@@ -17,6 +17,7 @@ mod ListedLemmas
 mod Lists
 mod MadeLemmas
 mod Members
+mod MovingLemmas
 mod NextNodes
 mod NinthLaws
 mod NodeRows

@@ -1,6 +1,6 @@
 -- The order of play, line by line: what a loop compares, and what it is of chains that begin others.
 use Rattle.std.proofs.Common.{◌≡◌, ◌∙◌, refl, ap, sym, subst, ℕ, zero, suc, ◌+◌, ◌<◌, ◌≤◌, min, Bool, true, false, List, [], ◌∷◌, length, drop, Option, Some, None, ◌⊎◌, inl, inr, arith, lit<}
-use Rattle.std.specs.Prelude.{slice_get, sum, map, is_none, nat_eq, nat_lt, nat_le, ◌&&◌, ◌==◌, if◌then◌else◌}
+use Rattle.std.specs.Prelude.{slice_get, sum, map, is_some, not, nat_eq, nat_lt, nat_le, ◌&&◌, ◌==◌, if◌then◌else◌}
 use Rattle.std.specs.List.{AllZip}
 use Rattle.std.specs.Option.{option_map_or}
 use Rattle.std.proofs.lemmas.Bool.{and_from, and_parts, cases_eq, eq-eqb, eqb-true, ltb-true, true≢false}
@@ -243,7 +243,7 @@ module _ (chains : Chains) (from to : Counts) (nodes : List PlacedNode) where
               omega (arith, here, before))
 
     -- what the next node tells when all lines are compared
-    pub plays_told : length nodes ≤ i → (o : Option Next) → IsNextOf chains played to all_regions o → (b : Bool) → b ≡ is_none o
+    pub plays_told : length nodes ≤ i → (o : Option Next) → IsNextOf chains played to all_regions o → (b : Bool) → is_some o ≡ not b
         → Tells b (Shown (play_order chains from to) nodes)
     plays_told ge None none true e = plays_end none ge
     plays_told ge None none false e = absurd (true≢false (sym e))

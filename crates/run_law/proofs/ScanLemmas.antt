@@ -1,5 +1,5 @@
 -- Keys beside node lines, and lines of which a scan is merged.
-use Rattle.std.proofs.Common.{◌≡◌, ◌∙◌, refl, ap, sym, subst, ℕ, zero, suc, ◌+◌, ◌<◌, ◌≤◌, min, Bool, true, false, List, [], ◌∷◌, ◌++◌, length, map, take, get_or, Some, None, ◌⊎◌, inl, inr, arith}
+use Rattle.std.proofs.Common.{◌≡◌, ◌∙◌, refl, ap, sym, subst, ℕ, zero, suc, ◌+◌, ◌*◌, ◌<◌, ◌≤◌, min, Bool, true, false, List, [], ◌∷◌, ◌++◌, length, map, take, get_or, Some, None, ◌⊎◌, inl, inr, arith}
 use Rattle.std.specs.Prelude.{nat_eq, slice_get}
 use Rattle.std.proofs.lemmas.Bool.{and_from, cases_lt, eq-eqb, true≢false}
 use Rattle.std.proofs.lemmas.List.{take_all, take_more}
@@ -19,8 +19,8 @@ use Rattle.col_core.specs.History.{line}
 use Rattle.col_core.specs.Laws.{RegionOrderIsUnique}
 use Rattle.col_core.specs.Legal.{IsColumnHistory}
 use Rattle.col_core.specs.RegionOrder.{IsRegionOrder}
-use Rattle.col_core.proofs.CallerLemmas.{In, in_contains, in_map}
-use Rattle.column_track.specs.Tracks.{Tells}
+use Rattle.col_core.proofs.CallerLemmas.{In, contains_in, in_contains, in_map, slice_in}
+use Rattle.column_track.specs.Tracks.{Tells, Tracked}
 use Rattle.playback.specs.Laws.{RegionOrderIsLawful}
 use Rattle.playback.specs.Merging.{AreRising, merged, region_order, up_to}
 use Rattle.report_text.specs.declared.report.SyncPiece.{SyncPiece}
@@ -29,6 +29,11 @@ use Rattle.lawful_run.specs.Reads.{AreKeysRead, lines_read}
 use Rattle.col_core.specs.Log.{Log}
 use Rattle.run_law.specs.Ninth.{key_shown}
 use Rattle.run_law.specs.Proposals.{line_heads}
+use Rattle.report_text.specs.declared.report.ColumnReport.{ColumnReport}
+use Rattle.run_rules.specs.Rules.{IsLawfulColumn}
+use Rattle.run_law.specs.Walking.{MayWalk, Walked, journal_walked}
+use Rattle.run_law.proofs.ColumnPlaces.{column_there}
+use Rattle.run_law.proofs.SubjectLemmas.{column_at, column_none}
 use Rattle.run_law.proofs.ChainBeginnings.{beginning_legal, line_first, line_rising}
 use Rattle.run_law.proofs.Members.{told_as}
 
@@ -111,3 +116,38 @@ module _ (own regions : ℕ) (h : List Entry) (legal : IsColumnHistory own regio
   pub line_cut_rises : AreRising (take count keys)
   line_cut_rises =
       subst AreRising (sym line_cut) (line_rising own regions (take events h) (beginning_legal own regions h events legal))
+
+-- ALL LINES
+
+module _ (walked : Walked) (tracks : List Tracked) (may : MayWalk walked.script walked.report tracks) (region colour : ℕ) where
+  pub journal_legal : region < walked.script.shape.regions → colour < walked.script.shape.colours
+      → IsColumnHistory region walked.script.shape.regions (dated region (journal_walked walked region colour))
+  journal_legal lt low =
+      let script = walked.script in
+      let columns = walked.report.columns in
+      let place = region * script.shape.colours + colour in
+      let at = column_at script walked.report tracks may region colour place lt low refl in
+      let there = column_there script.shape.regions script.shape.colours columns may.first.columns region colour lt low in
+      let same : there.0 ≡ at.0 = same_some (sym there.1 ∙ at.1) in
+      let of_region : at.0.region ≡ region = ap (λ (c : ColumnReport). c.region) (sym same) ∙ there.2 in
+      let law = All-contains (IsLawfulColumn script) columns at.0 may.second.each (contains_in columns at.0 (slice_in columns place at.0 at.1)) in
+      subst (λ (h : List Entry). IsColumnHistory region script.shape.regions (dated region h)) at.2
+      (subst (λ (r : ℕ). IsColumnHistory r script.shape.regions (dated r at.0.journal)) of_region law.legal)
+
+  pub lines_rise : (events : ℕ) → AreRising (line (take events (journal_walked walked region colour)))
+  lines_rise events = elim (cases_lt region walked.script.shape.regions) [
+    | inr ge ↦ none (inl ge)
+    | inl lt ↦ elim (cases_lt colour walked.script.shape.colours) [
+        | inr ge ↦ none (inr ge)
+        | inl low ↦ line_rising region walked.script.shape.regions (take events (journal_walked walked region colour))
+            (beginning_legal region walked.script.shape.regions (journal_walked walked region colour) events (journal_legal lt low))
+      ]
+  ] where
+    none : (walked.script.shape.regions ≤ region) ⊎ (walked.script.shape.colours ≤ colour)
+        → AreRising (line (take events (journal_walked walked region colour)))
+    none beyond =
+        subst (λ (h : List Entry). AreRising (line (take events h)))
+        (sym (column_none walked.script walked.report tracks may region colour beyond)) (empty events) where
+          empty : (n : ℕ) → AreRising (line (take n []))
+          empty zero = λ i j d lt low. absurd (let f : ⊥ = omega (arith, low) in f)
+          empty (suc n) = λ i j d lt low. absurd (let f : ⊥ = omega (arith, low) in f)

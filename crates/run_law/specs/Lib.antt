@@ -9,6 +9,7 @@ pub mod LeftOpen
 pub mod Listed
 pub mod Lists
 pub mod Looks
+pub mod Moving
 pub mod Ninth
 pub mod PlaceTables
 pub mod Playing

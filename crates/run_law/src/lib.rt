@@ -18,6 +18,7 @@ mod left_open;
 mod listing;
 mod looks;
 mod made;
+mod moving;
 mod object_colours;
 mod pieces;
 mod place_lists;

@@ -109,6 +109,7 @@ impl Subject<'_> {
     {
         region_order_is_unique();
         region_order_is_lawful();
+        self.agrees();
         let keys = self.keys_read(alloc, client, stamp, syncs)?;
         Ok(show_keys(keys.as_slice(), nodes))
     }

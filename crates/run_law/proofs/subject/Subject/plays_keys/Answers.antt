@@ -1,5 +1,7 @@
-use Rattle.std.proofs.Common.{◌≡◌, ◌∙◌, ap, sym, subst, ◌+◌}
-use Rattle.std.proofs.lemmas.Option.{slice_get-get_or}
+use Rattle.std.proofs.Common.{◌≡◌, ◌∙◌, ap, sym, subst, ◌+◌, length, refl}
+use Rattle.std.proofs.lemmas.Option.{slice_get_read}
+use Rattle.log_node.specs.Order.{same_key}
+use Rattle.log_node.specs.Seen.{PlacedNode}
 use Rattle.log_node.specs.declared.ids.Counts.{Counts}
 use Rattle.log_node.proofs.CallerLemmas.{same_key-is}
 use Rattle.log_node.specs.Vectors.{all_regions}
@@ -14,16 +16,19 @@ loop-item-init c =
 pub returns-in_default : goal.returns-in_default
 returns-in_default c =
     plays_none (lines_of c.args.self.now c.args.colour) c.args.from c.args.to c.args.nodes.now c.loop-item.played
-    c.loop-item.item-index c.loop-item.invariant c.in_default.ensures _
-    (slice_get-get_or c.args.nodes.now c.loop-item.item-index _ c.loop-item-test.true)
+    c.loop-item.item-index c.loop-item.invariant c.in_default.ensures c.item-item.result
+    (slice_get_read c.args.nodes.now (length c.args.nodes.now) c.loop-item.item-index c.item-item.result refl c.loop-item-test.true c.item-item.is)
 
 pub returns-then-not-is_same : goal.returns-then-not-is_same
 returns-then-not-is_same c =
     plays_unlike (lines_of c.args.self.now c.args.colour) c.args.from c.args.to c.args.nodes.now c.loop-item.played
     c.loop-item.item-index c.loop-item.invariant c.in-Some.next.region
     (next_low (lines_of c.args.self.now c.args.colour) c.loop-item.played c.args.to c.in-Some.next.region c.in-Some.ensures.0)
-    c.in-Some.ensures.0 _ (slice_get-get_or c.args.nodes.now c.loop-item.item-index _ c.loop-item-test.true) c.in-Some.next.head
-    c.in-Some.ensures.1 (sym c.is_same.ensures ∙ c.if-not-is_same.true)
+    c.in-Some.ensures.0 c.item-item.result
+    (slice_get_read c.args.nodes.now (length c.args.nodes.now) c.loop-item.item-index c.item-item.result refl c.loop-item-test.true c.item-item.is)
+    c.in-Some.next.head
+    c.in-Some.ensures.1 (sym (c.is_same.ensures
+    ∙ ap (λ (p : PlacedNode). same_key c.in-Some.next.head.key p.head.key) c.item.view_is) ∙ c.if-not-is_same.true)
 
 pub one_more-played-requires-clause-region : goal.one_more-played-requires-clause-region
 one_more-played-requires-clause-region c =
@@ -41,8 +46,11 @@ loop-item-preserved c =
     (plays_next (lines_of c.args.self.now c.args.colour) c.args.from c.args.to c.args.nodes.now c.loop-item.played
     c.loop-item.item-index c.loop-item.invariant c.in-Some.next.region
     (next_low (lines_of c.args.self.now c.args.colour) c.loop-item.played c.args.to c.in-Some.next.region c.in-Some.ensures.0)
-    c.in-Some.ensures.0 _ (slice_get-get_or c.args.nodes.now c.loop-item.item-index _ c.loop-item-test.true) c.in-Some.next.head
-    c.in-Some.ensures.1 (same_key-is _ _ (sym c.is_same.ensures ∙ c.if-not-is_same.false)))
+    c.in-Some.ensures.0 c.item-item.result
+    (slice_get_read c.args.nodes.now (length c.args.nodes.now) c.loop-item.item-index c.item-item.result refl c.loop-item-test.true c.item-item.is)
+    c.in-Some.next.head
+    c.in-Some.ensures.1 (same_key-is c.in-Some.next.head.key c.item-item.result.head.key (sym (c.is_same.ensures
+    ∙ ap (λ (p : PlacedNode). same_key c.in-Some.next.head.key p.head.key) c.item.view_is) ∙ c.if-not-is_same.false)))
 
 pub returns : goal.returns
 returns c =
