@@ -5,6 +5,7 @@ mod BaseLemmas
 mod BehindLemmas
 mod CanTold
 mod CauseLemmas
+mod ChainBeginnings
 mod ClosingLemmas
 mod ColumnPlaces
 mod CopiesLemmas
@@ -24,6 +25,7 @@ mod LineOrder
 mod Lists
 mod MadeLemmas
 mod Members
+mod MovingLemmas
 mod NextNodes
 mod NinthLaws
 mod NextRows
@@ -33,11 +35,14 @@ mod Once
 mod OrderLemmas
 mod PastLemmas
 mod PlaceLemmas
+mod PlayOrders
 mod PlayedLemmas
+mod PlayedShown
 mod PrintLemmas
 mod ProposalLemmas
 mod ReadDecides
 mod ReadsWhole
+mod ReadingLemmas
 mod RepliesLemmas
 mod RisingLemmas
 mod RowLemmas
@@ -46,6 +51,7 @@ mod RowPlaceLemmas
 mod SeventhLaws
 mod SeventhLemmas
 mod SayingLemmas
+mod ScanLemmas
 mod Shards
 mod ShownTextLemmas
 mod SixthLaws

@@ -11,10 +11,14 @@ pub mod KeysRead
 pub mod LeftOpen
 pub mod Listed
 pub mod Lists
+pub mod Looks
+pub mod Moving
 pub mod Ninth
 pub mod PlaceTables
+pub mod Playing
 pub mod Proposals
 pub mod ReadNodes
+pub mod Reading
 pub mod Replies
 pub mod RowPlaces
 pub mod RowsBeside
@@ -26,6 +30,7 @@ pub mod Tables
 pub mod TextsSaid
 pub mod Third
 pub mod NodeTables
+pub mod ObjectPlays
 pub mod Playing
 pub mod Twelfth
 pub mod Walking
