@@ -14,6 +14,8 @@ pub mod Lists
 pub mod Looks
 pub mod Moving
 pub mod Ninth
+pub mod NodeTables
+pub mod ObjectPlays
 pub mod PlaceTables
 pub mod Playing
 pub mod Proposals
@@ -22,15 +24,12 @@ pub mod Reading
 pub mod Replies
 pub mod RowPlaces
 pub mod RowsBeside
-pub mod ShownTexts
 pub mod Seventh
+pub mod ShownTexts
 pub mod Sixth
 pub mod Subjects
 pub mod Tables
 pub mod TextsSaid
 pub mod Third
-pub mod NodeTables
-pub mod ObjectPlays
-pub mod Playing
 pub mod Twelfth
 pub mod Walking
