@@ -5,6 +5,7 @@ mod BaseLemmas
 mod BehindLemmas
 mod CanTold
 mod CauseLemmas
+mod CauseSteps
 mod ClosingLemmas
 mod ColumnPlaces
 mod CopiesLemmas

@@ -510,6 +510,7 @@ impl Check for Causes {
         place: usize,
         keeping: &mut Keeping,
     ) -> Result<bool, AllocError> {
+        subject.agrees();
         let what = &subject.command(client, place).what;
         let answer = &subject.reply(client, place).answer;
         if !has_room(alloc, subject, client, keeping, what, answer)? {
