@@ -181,7 +181,10 @@ impl Causes {
             (caller_of subject.now.script client).own (next_id (caller_of subject.now.script client) kept))) }
     {
         let rows = subject.report().rows.as_slice();
-        match self.places.row(rows, subject.own(client), keeping.next_id(client)) {
+        match self
+            .places
+            .row(rows, subject.own(client), keeping.next_id(client))
+        {
             Some(row) => self.is_ended_row(row, colour),
             None => false,
         }
