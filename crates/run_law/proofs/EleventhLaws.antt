@@ -151,9 +151,11 @@ module _ (script : Script) (report : Report) (fits : IsFitting script) (well : I
               ⊎ ((places : ℕ → List ℕ) × IsGoneAtEnd whole_log (with_room who a) a (node_of who a x.0 x.1) colour places)
               → HasEnd looks both_of who b colour (colours_asked who b what)
           turn (inl y) =
-              subst (HasEnd looks both_of who b colour) (sym y.0 ∙ (its ∙ asked))
-              (refl, had_same script n whole_log bare_log (λ c. refl) home s colour
-              (low colour (subst (In colour) (sym y.0 ∙ its) (inl refl))) (unroomy y.1))
+              subst (HasEnd looks both_of who b colour) (sym y.0 ∙ (its ∙ asked)) (
+                refl,
+                had_same script n whole_log bare_log (λ c. refl) home s colour
+                    (low colour (subst (In colour) (sym y.0 ∙ its) (inl refl))) (unroomy y.1),
+              )
           turn (inr y) =
               subst (HasEnd looks both_of who b colour) (its ∙ asked)
               (several_end colour (members x.0) y.1.begins.several (row_end colour x.0 x.1 y.0 y.1))

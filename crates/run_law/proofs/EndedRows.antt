@@ -345,5 +345,8 @@ module _ (script : Script) (report : Report) (well : IsWellFormed script report)
                   (subst (λ (k : ℕ). Proposes (H k) node.id s) m.2
                   (subst (λ (k : Mark). IsMarkOf (H m.0.colour) node k) e (is_mark m.0 m.1))))
               by (marks.Fenced why) e =
-                  inl (why, subst (λ (k : Mark). HasMark log node c k) e
-                  (subst (λ (k : ℕ). HasMark log node k m.0.mark) m.2 (mark_has m.0 m.1)))
+                  inl (
+                    why,
+                    subst (λ (k : Mark). HasMark log node c k) e
+                        (subst (λ (k : ℕ). HasMark log node k m.0.mark) m.2 (mark_has m.0 m.1)),
+                  )

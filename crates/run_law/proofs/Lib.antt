@@ -6,6 +6,7 @@ mod BehindLemmas
 mod CanTold
 mod CauseLemmas
 mod ChainBeginnings
+mod CauseSteps
 mod ClosingLemmas
 mod ColumnPlaces
 mod CopiesLemmas
