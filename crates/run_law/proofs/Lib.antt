@@ -8,12 +8,14 @@ mod CopyLemmas
 mod FifthLaws
 mod FinalLemmas
 mod FirstLemmas
+mod FourthLemmas
 mod HeadLemmas
 mod LeftLemmas
 mod ListedLaws
 mod ListedLemmas
 mod Lists
 mod Members
+mod NamedColours
 mod NextNodes
 mod NodeRows
 mod Once

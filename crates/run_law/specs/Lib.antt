@@ -3,6 +3,7 @@ pub mod Asking
 pub mod Behind
 pub mod Columns
 pub mod Fifth
+pub mod Fourth
 pub mod Journals
 pub mod Keepings
 pub mod LeftOpen
