@@ -18,6 +18,7 @@ mod FifthLaws
 mod FinalLemmas
 mod FirstLemmas
 mod FrontLemmas
+mod FourthLemmas
 mod HeadLemmas
 mod LeftLemmas
 mod LineOrder
@@ -27,6 +28,7 @@ mod Lists
 mod MadeLemmas
 mod Members
 mod MovingLemmas
+mod NamedColours
 mod NextNodes
 mod NextRows
 mod NinthLaws
