@@ -1,7 +1,7 @@
 -- What answers name, by parts.
 use Rattle.std.proofs.Common.{◌≡◌, ◌≢◌, ◌⊎◌, ◌∙◌, refl, ap, sym, subst, inl, inr, ℕ, zero, suc, ◌+◌, ◌<◌, ◌≤◌, Bool, true, false, ◌&&◌, ◌==◌, cond, List, [], ◌∷◌, ◌++◌, length, map, take, get_or, Option, Some, None, arith, flat_map}
 use Rattle.std.specs.Prelude.{IsTrue, is_some, not, slice_get, slice_index, Result, Ok, Err, IfOk, nat_le}
-use Rattle.std.specs.List.{All, filter, fold}
+use Rattle.std.specs.List.{All, fold}
 use Rattle.std.proofs.lemmas.Bool.{and_parts, cases_lt, eq-eqb, eqb-true, leb-true, leb-false, true≢false}
 use Rattle.std.proofs.lemmas.List.{length-map}
 use Rattle.std.proofs.lemmas.List.Elements.{All-cons, All-contains, All-head, All-nil, All-weaker}
@@ -9,7 +9,6 @@ use Rattle.log_node.specs.declared.ids.Id.{Id}
 use Rattle.log_node.specs.declared.node.At.{At}
 use Rattle.log_node.specs.declared.node.At.TheVariants as ats
 use Rattle.log_node.specs.declared.limits.TheConstants.{MAX_COLOURS, MAX_REGIONS}
-use Rattle.log_node.specs.Order.{same_id}
 use Rattle.log_node.specs.Vectors.{at}
 use Rattle.log_node.specs.declared.ids.Key.{Key}
 use Rattle.log_node.specs.declared.node.Head.{Head}
@@ -33,7 +32,7 @@ use Rattle.lawful_run.specs.Appends.{kept_after_points}
 use Rattle.lawful_run.specs.Callers.{Caller, caller_of}
 use Rattle.lawful_run.specs.Reads.{events_until, kept_after_piece, kept_after_place}
 use Rattle.column_track.specs.Tracks.{Tells}
-use Rattle.run_rules.specs.Told.{Untold, kept_after_append, kept_after_raises, kept_after_syncs}
+use Rattle.run_rules.specs.Told.{Untold, kept_after_append}
 use Rattle.run_rules.specs.Telling.{is_among, is_step_at, is_step_of, step_places}
 use Rattle.run_rules.specs.Naming.{Has, IsRaise, NamesAppend, NamesEnd, NamesPlace, NamesPoint, NamesRaises, NamesSteps, NamesSync, NamesSyncs}
 use Rattle.run_law.specs.Behind.{HasColumn, LeavesOutSteps, steps_untold}

@@ -1,10 +1,10 @@
 -- An answer that a command of a script can have names colours that a log can have.
-use Rattle.std.proofs.Common.{◌≡◌, ◌⊎◌, ◌∙◌, refl, ap, sym, subst, inl, inr, ℕ, ◌+◌, ◌<◌, ◌≤◌, Bool, true, false, List, [], ◌∷◌, length, map, Option, Some, None, arith}
+use Rattle.std.proofs.Common.{◌≡◌, refl, sym, subst, inl, inr, ℕ, ◌<◌, Bool, List, [], ◌∷◌, map, Option, Some, None, arith}
 use Rattle.std.specs.Prelude.{slice_get, ◌==◌}
-use Rattle.std.specs.List.{All, filter, list_any, range_with_len}
+use Rattle.std.specs.List.{All, list_any, range_with_len}
 use Rattle.std.specs.Option.{option_map}
 use Rattle.std.proofs.lemmas.List.{get_or-map, length-map}
-use Rattle.std.proofs.lemmas.List.Elements.{All-contains, All-nil, All-cons, All-head}
+use Rattle.std.proofs.lemmas.List.Elements.{All-nil, All-cons, All-head}
 use Rattle.std.proofs.lemmas.Option.{get_or_from_slice_get, slice_get_within}
 use Rattle.log_node.specs.declared.forms.Version.{Version}
 use Rattle.log_node.specs.declared.limits.TheConstants.{MAX_COLOURS}
@@ -12,7 +12,7 @@ use Rattle.log_node.specs.Seen.{PlacedNode}
 use Rattle.log_node.specs.Sets.{members}
 use Rattle.log_node.proofs.CallerLemmas.{members_low}
 use Rattle.col_core.specs.Keeping.{Kept}
-use Rattle.col_core.proofs.CallerLemmas.{In, all_in, in_filter, in_range}
+use Rattle.col_core.proofs.CallerLemmas.{all_in, in_filter, in_range}
 use Rattle.object_fold.specs.Maps.{Value}
 use Rattle.object_fold.specs.Nodes.{shard_of}
 use Rattle.tree_fold.specs.declared.change.Change.{Change}
@@ -40,7 +40,7 @@ use Rattle.lawful_run.specs.Deeds.{NoColours, Named, One, ShardsOf, Whole, Liste
 use Rattle.lawful_run.specs.Parts.{AsksToDecide}
 use Rattle.run_rules.specs.Told.{colours_asked, colours_said}
 use Rattle.run_rules.specs.Answering.{CanEnd, CanGet, CanHave, HasPoints, HasReads}
-use Rattle.run_law.specs.Asking.{AreLow, HaveLowColours}
+use Rattle.run_law.specs.Asking.{AreLow}
 use Rattle.run_law.specs.Fourth.{ArePointsLow, AreRaisesLow, AreSyncsLow, IsEndLow, NamesLow}
 use Rattle.run_law.proofs.FirstLemmas.{low_objects}
 use Rattle.run_law.proofs.Shards.{shard_low}
