@@ -16,6 +16,7 @@ mod EnteringLemmas
 mod FifthLaws
 mod FinalLemmas
 mod FirstLemmas
+mod GuardLemmas
 mod HeadLemmas
 mod LeftLemmas
 mod ListedLaws
@@ -26,6 +27,7 @@ mod Members
 mod NextNodes
 mod NodeRows
 mod Once
+mod OpenLemmas
 mod OrderLemmas
 mod PastLemmas
 mod PlaceLemmas

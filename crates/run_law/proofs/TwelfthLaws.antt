@@ -39,7 +39,7 @@ use Rattle.run_law.proofs.ShapeColours.{appended_within}
 use Rattle.run_law.proofs.ShownSteps.{home_low, its_within, to_bare, to_shown}
 
 -- a point's colour is one of those on which a command appends
-point_asked : (colours : List ℕ) (row : Option ℕ) (points : List PointPiece) → HasPoints colours row points → (p : PointPiece)
+pub point_asked : (colours : List ℕ) (row : Option ℕ) (points : List PointPiece) → HasPoints colours row points → (p : PointPiece)
     → In p points → In p.colour colours
 point_asked colours row points h p i =
     subst (In p.colour) (by row h) (in_map-back (λ (k : PointPiece). k.colour) points p i) where
