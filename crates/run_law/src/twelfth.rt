@@ -126,7 +126,15 @@ impl Guards {
         let At::Event(place) = point.at else {
             return false;
         };
-        if !self.is_so_long(subject, client, keeping, point.colour, place, point.position, 0) {
+        if !self.is_so_long(
+            subject,
+            client,
+            keeping,
+            point.colour,
+            place,
+            point.position,
+            0,
+        ) {
             return false;
         }
         has_played(subject, client, keeping, point.colour, point.position)
