@@ -1,14 +1,11 @@
 -- Appends that may only stand next, by what is looked up of open entries.
-use Rattle.std.proofs.Common.{◌≡◌, ◌⊎◌, ◌∙◌, refl, ap, sym, subst, Bool, true, false, ℕ, ◌+◌, ◌*◌, ◌<◌, ◌≤◌, List, [], length, map, take, drop, Option, Some, None, inl, inr, arith}
+use Rattle.std.proofs.Common.{◌≡◌, ◌∙◌, refl, ap, sym, subst, Bool, true, false, ℕ, ◌+◌, ◌*◌, ◌<◌, ◌≤◌, List, length, take, drop, Some, inl, inr, arith}
 use Rattle.std.specs.Prelude.{◌==◌, slice_get}
 use Rattle.std.specs.List.{All}
 use Rattle.std.proofs.lemmas.Bool.{cases_Bool, eq-eqb, eqb-true, true≢false}
 use Rattle.std.proofs.lemmas.List.{length-map, take-append-drop}
 use Rattle.std.proofs.lemmas.List.Elements.{All-contains}
-use Rattle.log_node.specs.declared.ids.Counts.{Counts}
-use Rattle.log_node.specs.declared.node.At.{At}
 use Rattle.log_node.specs.declared.node.At.TheVariants.{Event}
-use Rattle.log_node.specs.declared.node.Node.{Node}
 use Rattle.log_node.specs.Seen.{PlacedNode}
 use Rattle.log_node.specs.Vectors.{at}
 use Rattle.log_node.proofs.CallerLemmas.{get_map_back, same_some}
@@ -21,7 +18,6 @@ use Rattle.col_core.specs.Log.{Log}
 use Rattle.col_core.specs.Keeping.{Kept}
 use Rattle.col_core.proofs.CallerLemmas.{In, all_in, contains_in, in_filter, in_map-back, lawful_beginning, slice_in}
 use Rattle.script_text.specs.declared.commands.What.{What}
-use Rattle.script_text.specs.declared.commands.What.TheVariants as whats
 use Rattle.script_text.specs.declared.script.Command.{Command}
 use Rattle.script_text.specs.declared.script.Script.{Script}
 use Rattle.script_text.specs.Fitting.{IsFitting, IsWithin}
@@ -42,11 +38,11 @@ use Rattle.run_rules.specs.Telling.{account_of, no_nodes, replies_to}
 use Rattle.run_rules.specs.Answering.{CanHave}
 use Rattle.run_rules.specs.Deciding.{account_showing}
 use Rattle.run_rules.specs.Keeping.{RulesTo}
-use Rattle.run_rules.specs.Rules.{IsReplyTo, Rule1}
+use Rattle.run_rules.specs.Rules.{IsReplyTo}
 use Rattle.run_rules.specs.Shown.{Rule12, StandsNext}
 use Rattle.run_law.specs.Journals.{track_shown}
 use Rattle.run_law.specs.Keepings.{Counted, IsCell, IsCounted, seen_at}
-use Rattle.run_law.specs.Twelfth.{AreOfColumns, HasLowPoints, HasMoved, IsGuarded, IsLong, Opening, StandsFirst, TwelfthIsBare, WasFirst, open_in, opens_in}
+use Rattle.run_law.specs.Twelfth.{AreOfColumns, HasLowPoints, IsGuarded, IsLong, Opening, StandsFirst, TwelfthIsBare, WasFirst, open_in, opens_in}
 use Rattle.run_law.specs.Walking.{DecidesEachStep, IsSeen, MayWalk, Walked, journal_walked, log_walked}
 use Rattle.run_law.proofs.Members.{told_as}
 use Rattle.run_law.proofs.OpenLemmas.{opens_at}

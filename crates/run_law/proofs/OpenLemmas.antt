@@ -1,14 +1,12 @@
 -- How many entries of a lawful history are open after each number of its events.
-use Rattle.std.proofs.Common.{◌≡◌, ◌⊎◌, ◌∙◌, refl, ap, sym, subst, Bool, true, false, cond, ℕ, zero, suc, ◌+◌, ◌-◌, ◌<◌, ◌≤◌, List, [], ◌∷◌, ◌++◌, length, map, take, drop, get_or, Option, Some, None, inl, inr, arith}
+use Rattle.std.proofs.Common.{◌≡◌, ◌⊎◌, ◌∙◌, refl, ap, sym, subst, Bool, true, false, cond, ℕ, ◌+◌, ◌<◌, ◌≤◌, List, [], ◌∷◌, ◌++◌, length, map, take, drop, get_or, Option, Some, inl, inr, arith}
 use Rattle.std.specs.Prelude.{not, reverse, slice_get, slice_index}
-use Rattle.std.specs.List.{filter, range_with_len}
-use Rattle.std.proofs.lemmas.Bool.{and_parts, cases_Bool, true≢false}
-use Rattle.std.proofs.lemmas.List.{length-map, map-append, take-append-drop, take_more}
+use Rattle.std.specs.List.{range_with_len}
+use Rattle.std.proofs.lemmas.Bool.{true≢false}
+use Rattle.std.proofs.lemmas.List.{map-append, take-append-drop, take_more}
 use Rattle.std.proofs.lemmas.List.FromFn.{length-range_with_len}
 use Rattle.std.proofs.lemmas.Option.{get_or_from_slice_get}
 use Rattle.log_node.specs.declared.ids.Id.{Id}
-use Rattle.log_node.specs.declared.ids.Counts.{Counts}
-use Rattle.log_node.specs.declared.marks.Outcome.{Outcome}
 use Rattle.log_node.specs.declared.marks.Outcome.TheVariants.{Open, Gone, Final}
 use Rattle.log_node.specs.Order.{key_below, same_id}
 use Rattle.log_node.specs.Standings.{Standing, with_entry, without_id}
@@ -20,7 +18,7 @@ use Rattle.col_core.specs.Computed.{dated}
 use Rattle.col_core.specs.History as History
 use Rattle.col_core.specs.History.{entry_key, open_count}
 use Rattle.col_core.specs.Legal.{IsColumnHistory}
-use Rattle.col_core.proofs.CallerLemmas.{In, IsLawfulPast, Rises, Status, Waits, by_test, choice, entries, entries-of, if_false, if_true, lawful_beginning, past_is_lawful, reverse-push, rises, shown, standing_of, stands, status}
+use Rattle.col_core.proofs.CallerLemmas.{In, IsLawfulPast, Rises, Waits, by_test, choice, entries, entries-of, if_false, if_true, lawful_beginning, past_is_lawful, reverse-push, rises, shown, standing_of, stands, status}
 use Rattle.report_text.specs.declared.report.ColumnReport.{ColumnReport}
 use Rattle.lawful_run.proofs.CallerLemmas.{range_more}
 use Rattle.run_law.specs.PlaceTables.{places_at}

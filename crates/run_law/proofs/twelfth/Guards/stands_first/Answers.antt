@@ -1,4 +1,4 @@
-use Rattle.std.proofs.Common.{◌∙◌, ◌<◌, List, sym, subst}
+use Rattle.std.proofs.Common.{◌<◌, List, sym, subst}
 use Rattle.std.specs.List.{All}
 use Rattle.report_text.specs.declared.report.PointPiece.{PointPiece}
 use Rattle.column_track.specs.Tracks.{Tells}
