@@ -19,6 +19,7 @@ mod FinalLemmas
 mod FirstLemmas
 mod FrontLemmas
 mod FourthLemmas
+mod GuardLemmas
 mod HeadLemmas
 mod LeftLemmas
 mod LineOrder
@@ -35,6 +36,7 @@ mod NinthLaws
 mod NodeRows
 mod NumeralLemmas
 mod Once
+mod OpenLemmas
 mod OrderLemmas
 mod PastLemmas
 mod PlaceLemmas
