@@ -61,6 +61,7 @@ mod SeventhLemmas
 mod ShapeColours
 mod Shards
 mod ShowingLaws
+mod ShowingLemmas
 mod ShownSteps
 mod ShownTextLemmas
 mod SixthLaws

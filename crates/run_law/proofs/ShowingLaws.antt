@@ -1,6 +1,6 @@
 -- The account that shows what reads found keeps the first nine rules where the nodes by these finds have the texts that are shown;
 -- and the last rule is decided by the decisions that are computed, where these are shown.
-use Rattle.std.proofs.Common.{◌≡◌, ◌⊎◌, ◌∙◌, refl, ap, sym, subst, Bool, ℕ, zero, suc, ◌<◌, ◌≤◌, List, [], ◌∷◌, map, Option, Some, None, inl, inr, arith}
+use Rattle.std.proofs.Common.{◌≡◌, ◌⊎◌, ◌∙◌, refl, ap, sym, subst, true, false, ℕ, zero, suc, ◌<◌, ◌≤◌, List, [], ◌∷◌, map, Option, Some, None, inl, inr, arith}
 use Rattle.std.specs.Prelude.{◌↔◌, IsTrue, slice_get, slice_index_or}
 use Rattle.std.specs.List.{All, AllZip}
 use Rattle.std.proofs.lemmas.List.{length-map}
@@ -41,7 +41,7 @@ use Rattle.run_rules.specs.Deciding.{account_deciding, account_showing, decision
 use Rattle.run_rules.specs.Keeping.{Keeps, RulesTo, nine, fourteen}
 use Rattle.run_rules.specs.Laws.{ComputedDecisionsDecide, ComputedFindsDecide, FindsDecide, FindsKeep, FindsTell, FoundAccountDecides}
 use Rattle.run_rules.proofs.CallerLemmas.{FoundBelow, LinesAlike, NodeBelow, SameFound, Uses, all_at, all_at_places, before_same, finding_one, found_keys_of, keeps_fewer, keys_above, lines_have, nodes_below, nodes_from, ninth_forth, obeys, one_text, over, read_ids, rule1, rule4, rule5, rule9, rule14, rules_fewer, several_same, shows_text, slice_mapped, step_with, text_shown, told_accounts_agree, told_nodes_agree, zip_at, zip_each, zip_onto}
-use Rattle.run_law.specs.Showing.{FourteenthIsDecided, SaysAsShown, SaysOrDecides, ShowingIsFound, ShownAreDecided, ShownAreFound}
+use Rattle.run_law.specs.Showing.{FourteenthIsDecided, SaysShown, ShowingIsFound, ShownAreDecided, ShownAreFound}
 
 -- TEXTS
 
@@ -73,9 +73,9 @@ same_id_shown (Some text) node = refl
 
 -- where nodes have the texts that are shown of them, or both are decisions', so it is of each
 as_shown : (report : Report) (xs : List Node) → AllZip HaveText (map (λ (node : Node). with_text (shown_text report node.id) node) xs) xs
-    → All (SaysOrDecides report) xs
-as_shown report [] z = All-nil (SaysOrDecides report)
-as_shown report (x ∷ xs) z = All-cons (SaysOrDecides report) x xs (λ text e. by text e z.0) (as_shown report xs z.1) where
+    → All (SaysShown false report) xs
+as_shown report [] z = All-nil (SaysShown false report)
+as_shown report (x ∷ xs) z = All-cons (SaysShown false report) x xs (λ text e. by text e z.0) (as_shown report xs z.1) where
   by : (text : List ℕ) → shown_text report x.id ≡ Some text → HaveText (with_text (shown_text report x.id) x) x
       → (x.text ≡ text) ⊎ (IsText ADecision x.text × IsText ADecision text)
   by text e h = turn (subst (λ (o : Option (List ℕ)). HaveText (with_text o x) x) e h) where
@@ -213,7 +213,7 @@ module _ (found_account_decides : FoundAccountDecides) (finds_tell : FindsTell) 
           q.0,
           text,
           with_said own (says l) q.0 q.1 text q.2 (said text e
-              (all_at (SaysOrDecides report) (bare.log.nodes n) l.ids node q.3 (are n c there) text e)),
+              (all_at (SaysShown false report) (bare.log.nodes n) l.ids node q.3 (are n c there) text e)),
           is_there ∙ ap (λ (o : Option (List ℕ)). Some (with_text o node)) e,
         )
 
@@ -333,7 +333,7 @@ module _ (script : Script) (report : Report) (a : Account) (fits : IsFitting scr
 
   -- where the ninth rule holds its nodes say what is shown of them
   pub say_as_shown : Rule9 script report a → (n : ℕ) (c : ClientReport) → slice_get report.clients n ≡ Some c
-      → All (SaysAsShown report) (a.log.nodes n)
+      → All (SaysShown true report) (a.log.nodes n)
   say_as_shown ninth n c there k d lt text e =
       let node = slice_index_or (a.log.nodes n) k d in
       let l = text_shown report node.id text e in

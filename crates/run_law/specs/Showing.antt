@@ -1,5 +1,5 @@
 -- When nodes have the texts that node lines show of them: at the accounts by which reports are judged from the tenth rule on.
-use Rattle.std.specs.Prelude.{◌≡◌, ◌⊎◌, ◌↔◌, ℕ, List, Some, slice_get}
+use Rattle.std.specs.Prelude.{◌≡◌, ◌⊎◌, ◌↔◌, Bool, true, false, ℕ, List, Some, slice_get}
 use Rattle.std.specs.List.{All}
 use Rattle.log_node.specs.declared.node.Node.{Node}
 use Rattle.script_text.specs.Fitting.{IsFitting}
@@ -14,14 +14,15 @@ use Rattle.run_rules.specs.Nodes.{nodes_with}
 use Rattle.run_rules.specs.Said.{shown_text}
 use Rattle.run_rules.specs.Shown.{Rule14}
 
--- the node has the text that is shown of it, where one is
-abbrev pub SaysAsShown : Report → Node → Type 0
-SaysAsShown report node = (text : List ℕ) → shown_text report node.id ≡ Some text → node.text ≡ text
+-- A text that is said is the one that is shown. Where decisions are not known, both may be decisions.
+abbrev pub IsShown : Bool → List ℕ → List ℕ → Type 0
+IsShown true said shown = said ≡ shown
+IsShown false said shown = (said ≡ shown) ⊎ (IsText ADecision said × IsText ADecision shown)
 
--- it has, or it says one decision and another one is shown of it
-abbrev pub SaysOrDecides : Report → Node → Type 0
-SaysOrDecides report node = (text : List ℕ) → shown_text report node.id ≡ Some text
-    → (node.text ≡ text) ⊎ (IsText ADecision node.text × IsText ADecision text)
+-- the node says what is shown of it, if anything is, as decisions are known or not
+abbrev pub SaysShown : Bool → Report → Node → Type 0
+SaysShown decided report node =
+    (text : List ℕ) → shown_text report node.id ≡ Some text → IsShown decided node.text text
 
 -- so it is of each node of the clients that a report shows
 abbrev pub OfEachNode : (Node → Type 0) → Report → (ℕ → List Node) → Type 0
@@ -30,12 +31,12 @@ OfEachNode P report nodes = (n : ℕ) (c : ClientReport) → slice_get report.cl
 -- By what reads found the nodes of commands have the texts that are shown of them, but for those of decisions.
 abbrev pub ShownAreFound : Script → Report → Type 0
 ShownAreFound script report =
-    OfEachNode (SaysOrDecides report) report (nodes_with script report (finds_of script report) any_decisions)
+    OfEachNode (SaysShown false report) report (nodes_with script report (finds_of script report) any_decisions)
 
 -- By the decisions that are computed they all have.
 abbrev pub ShownAreDecided : Script → Report → Type 0
 ShownAreDecided script report =
-    OfEachNode (SaysAsShown report) report (nodes_with script report (finds_of script report) (decisions_of script report))
+    OfEachNode (SaysShown true report) report (nodes_with script report (finds_of script report) (decisions_of script report))
 
 -- A report that keeps the first nine rules keeps them at the account that shows what reads found where that is what is shown.
 abbrev pub ShowingIsFound : Type 0
