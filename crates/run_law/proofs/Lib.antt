@@ -38,6 +38,7 @@ mod RowOrder
 mod RowPlaceLemmas
 mod ScanLemmas
 mod Shards
+mod ShownSteps
 mod ShownTextLemmas
 mod SubjectLemmas
 mod TableLemmas

@@ -210,6 +210,11 @@ pub passes_not : {Asked : Type 0} (replies : List ReplyLine) (after : Kept) (cou
     → PassesTo replies Asked after counted b → b ≡ false → Asked → ⊥
 passes_not {Asked} replies after counted b passes is = subst (PassesTo replies Asked after counted) is passes
 
+pub passes_as : {Asked Other : Type 0} (replies : List ReplyLine) (after : Kept) (counted : Counted) → (Asked → Other) → (Other → Asked)
+    → (b : Bool) → PassesTo replies Asked after counted b → PassesTo replies Other after counted b
+passes_as replies after counted to back true passes = (to passes.0, passes.1)
+passes_as replies after counted to back false passes = λ other. passes (back other)
+
 pub synced_more : (log : Log) (caller : Caller) (kept : Kept) (xs : List SyncPiece) (i : ℕ) (d : SyncPiece) → i < length xs
     → kept_after_syncs log caller kept (take (i + 1) xs)
     ≡ kept_after_piece log caller (kept_after_syncs log caller kept (take i xs)) (get_or xs i d)

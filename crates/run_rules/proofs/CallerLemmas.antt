@@ -13,4 +13,4 @@ pub use Rattle.run_rules.proofs.LinesShown.{shows_text, zip_before}
 pub use Rattle.run_rules.proofs.LeftOut.{Obeys}
 pub use Rattle.run_rules.proofs.NodesTold.{stamp_one}
 pub use Rattle.run_rules.proofs.TextsAlike.{zip_mapped}
-pub use Rattle.run_rules.proofs.Reached.{Below, home_within, synced_within}
+pub use Rattle.run_rules.proofs.Reached.{Below, appended_within, home_within, kind_within, synced_within}
