@@ -30,6 +30,7 @@ mod PlayedLemmas
 mod PlayedShown
 mod PrintLemmas
 mod ProposalLemmas
+mod PullLemmas
 mod ReadingLemmas
 mod RepliesLemmas
 mod RisingLemmas

@@ -19,6 +19,7 @@ mod listing;
 mod looks;
 mod made;
 mod moving;
+mod ninth;
 mod object_colours;
 mod pieces;
 mod place_lists;

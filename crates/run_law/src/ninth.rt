@@ -169,6 +169,7 @@ impl Keeping {
 }
 
 // What the ninth rule asks of each step, where these texts are first shown.
+#[derive(Clone, Copy)]
 struct ShownCheck<'t, 'r> {
     texts: &'t ShownTexts<'r>,
 }

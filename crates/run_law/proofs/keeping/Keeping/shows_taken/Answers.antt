@@ -24,5 +24,5 @@ returns c = λ told kept untold low leaves is.
     let behind : List PointPiece → Kept = λ points.
     kept_after_append untold caller kept (stamp_told (log_walked c.args.subject.now) caller kept None points) None points in
     subst (λ (points : List PointPiece). PassesTo replies (SyncsAsTold log caller (behind points) c.args.sync)
-    (kept_after_piece log caller (behind points) c.args.sync) c.shows_sync.new.self c.shows_sync.result) c.from_ref.ensures
+    (kept_after_piece log caller (behind points) c.args.sync) c.shows_sync.new.self c.shows_sync.result) c.from_ref.ensures.value
     (c.shows_sync.ensures.kept told (behind c.from_ref.result.now) low (c.in_ok-append_told.ensures.kept replies kept untold leaves is))

@@ -1,5 +1,6 @@
 use Rattle.std.proofs.Common.{◌≡◌, ◌∙◌, ap, sym, subst, ℕ, ◌+◌, ◌<◌, ◌^◌, ◌∷◌, [], List, None, map, length, arith, rules}
 use Rattle.std.specs.List.{All}
+use Rattle.log_node.specs.declared.node.At.{At}
 use Rattle.log_node.proofs.CallerLemmas.{ok_then}
 use Rattle.col_core.specs.Keeping.{Kept}
 use Rattle.script_text.specs.Fitting.{IsWithin}
@@ -7,7 +8,7 @@ use Rattle.report_text.specs.declared.report.PointPiece.{PointPiece}
 use Rattle.lawful_run.specs.Callers.{caller_of}
 use Rattle.lawful_run.specs.Reads.{AreKeysRead, kept_after_piece}
 use Rattle.run_rules.specs.Shown.{ReadsColours, SyncsAsTold}
-use Rattle.run_rules.specs.Told.{kept_after_append, kept_after_end, kept_after_read, kept_deciding, stamp_told}
+use Rattle.run_rules.specs.Told.{kept_after_append, kept_after_end, kept_after_read, kept_deciding, kept_trimmed, stamp_told}
 use Rattle.run_rules.specs.Telling.{log_of, replies_to}
 use Rattle.run_law.specs.Keepings.{IsCounted}
 use Rattle.run_law.specs.Ninth.{IsTextFirst, PassesTo, key_shown}
@@ -29,5 +30,6 @@ returns c = λ told kept untold within is.
         c.in-Event.is,
         told_so c.is_trim.result (c.is_trim.ensures told kept low is) c.if-not-is_trim.false,
       ),
-      c.in_ok-trimmed.ensures.kept replies caller kept (sym c.own.ensures.own) is,
+      subst (λ (a : At). IsCounted replies (kept_trimmed caller kept c.args.what.now a) c.trimmed.new.self) (sym c.in-Event.is)
+          (c.in_ok-trimmed.ensures.kept replies caller kept (sym c.own.ensures.own) is),
     )
