@@ -39,6 +39,7 @@ mod RowOrder
 mod RowPlaceLemmas
 mod ScanLemmas
 mod Shards
+mod ShownAnswers
 mod ShownSteps
 mod ShownTextLemmas
 mod SubjectLemmas

@@ -20,7 +20,7 @@ use Rattle.report_text.specs.declared.report.Report.{Report}
 use Rattle.report_text.specs.declared.report.PointPiece.{PointPiece}
 use Rattle.report_text.specs.declared.report.RaisePiece.{RaisePiece}
 use Rattle.report_text.specs.declared.report.SyncPiece.{SyncPiece}
-use Rattle.lawful_run.specs.Asks.{kind_asked, object_colours, rising}
+use Rattle.lawful_run.specs.Asks.{kind_asked, kind_of_object, object_colours, rising}
 use Rattle.lawful_run.specs.Callers.{Caller, caller_of, commands_of}
 use Rattle.lawful_run.specs.Deeds.{colours_synced}
 use Rattle.lawful_run.specs.Parts.{AsksToDecide}
@@ -32,7 +32,7 @@ use Rattle.run_law.specs.Behind.{IsAnswered}
 use Rattle.run_law.specs.Keepings.{Counted, IsCounted}
 use Rattle.run_law.specs.Ninth.{PassesTo, ShowsFirst, StepShows, log_shown}
 use Rattle.run_law.specs.Walking.{CountsBehind, IsSeen, Walked, log_walked, places_printed}
-use Rattle.run_rules.proofs.CallerLemmas.{appended_within, synced_within}
+use Rattle.run_rules.proofs.CallerLemmas.{appended_within, kind_within, synced_within}
 
 module _ (script : Script) (fits : IsFitting script) (n : ℕ) (what : What)
     (within : IsWithin script.shape.regions script.shape.colours what) where
@@ -87,6 +87,11 @@ module _ (script : Script) (fits : IsFitting script) (n : ℕ) (what : What)
       subst (λ c. c < script.shape.colours) (sym is)
       (appended_within script fits n kept what within point.colour (subst (In point.colour) has.0 (inl refl)))
 
+-- the colour of a causal map is of the shape
+pub kind_low : (script : Script) (fits : IsFitting script) (n object colour : ℕ)
+    → kind_of_object (caller_of script n) object ≡ Some (kinds.Causal colour) → colour < script.shape.colours
+kind_low script fits n object colour e = kind_within script fits n object (kinds.Causal colour) e
+
 -- A STEP THAT IS SEEN
 
 module _ (walked : Walked) (fits : IsFitting walked.script) (client place : ℕ) (old : Counted) (step : Step)
@@ -123,7 +128,7 @@ module _ (walked : Walked) (fits : IsFitting walked.script) (client place : ℕ)
       let i = in_filter (λ (c : Command). c.client == client) command walked.script.commands
       (slice_in (commands_of walked.script client) place command at_command) in
       All-contains (λ (c : Command). IsWithin walked.script.shape.regions walked.script.shape.colours c.what) walked.script.commands
-      command fits.commands (contains_in walked.script.commands command i.1)
+      command fits.commands (contains_in walked.script.commands command i.0)
 
   pub step_passes : (texts : Report) (new : Counted) (b : Bool)
       → PassesTo (replies_to walked.report client)

@@ -27,19 +27,19 @@ returns-then-not-is_clear_sync-clause-kept c = λ nodes kept below is all.
 pub loop-sync-preserved : goal.loop-sync-preserved
 loop-sync-preserved c = record {
   kept = λ nodes kept below is.
-    let caller = caller_of c.args.subject.now.script c.args.client in
-    let log = log_of c.args.subject.now.report nodes in
-    let replies = replies_to c.args.subject.now.report c.args.client in
-    let before = kept_after_syncs log caller kept (take c.loop-sync.sync-index c.args.syncs.now) in
-    let so = c.loop-sync.invariant.kept nodes kept below is in (
-      syncs_more log caller c.args.stamp kept c.args.syncs.now c.loop-sync.sync-index _ c.loop-sync-test.true so.0
-          (told_so c.is_clear_sync.result
-          (c.is_clear_sync.ensures nodes before (below c.loop-sync.sync-index _ c.loop-sync-test.true) so.1)
-          c.if-not-is_clear_sync.false),
-      subst (λ (k : Kept). IsCounted replies k c.sync.new.self)
-          (sym (synced_more log caller kept c.args.syncs.now c.loop-sync.sync-index _ c.loop-sync-test.true))
-          (c.sync.ensures.kept replies before so.1),
-    );
+      let caller = caller_of c.args.subject.now.script c.args.client in
+      let log = log_of c.args.subject.now.report nodes in
+      let replies = replies_to c.args.subject.now.report c.args.client in
+      let before = kept_after_syncs log caller kept (take c.loop-sync.sync-index c.args.syncs.now) in
+      let so = c.loop-sync.invariant.kept nodes kept below is in (
+        syncs_more log caller c.args.stamp kept c.args.syncs.now c.loop-sync.sync-index _ c.loop-sync-test.true so.0
+            (told_so c.is_clear_sync.result
+            (c.is_clear_sync.ensures nodes before (below c.loop-sync.sync-index _ c.loop-sync-test.true) so.1)
+            c.if-not-is_clear_sync.false),
+        subst (λ (k : Kept). IsCounted replies k c.sync.new.self)
+            (sym (synced_more log caller kept c.args.syncs.now c.loop-sync.sync-index _ c.loop-sync-test.true))
+            (c.sync.ensures.kept replies before so.1),
+      );
   count = search rules;
 }
 

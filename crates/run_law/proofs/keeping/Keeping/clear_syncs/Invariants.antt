@@ -16,10 +16,10 @@ use Rattle.run_law.proofs.keeping.Keeping.clear_syncs.Given as goal
 abbrev pub invariant-loop-sync : goal.invariant-loop-sync
 invariant-loop-sync l = record {
   kept : (nodes : ℕ → List Node) (kept : Kept) → AreBelow l.subject.script (λ (s : SyncPiece). s.colour) l.syncs
-    → IsCounted (replies_to l.subject.report l.client) kept l.initial.self
-    → ClearSyncs (log_of l.subject.report nodes) (caller_of l.subject.script l.client) l.stamp kept (take l.sync-index l.syncs)
-    (kept_after_syncs (log_of l.subject.report nodes) (caller_of l.subject.script l.client) kept (take l.sync-index l.syncs))
-    × IsCounted (replies_to l.subject.report l.client)
-    (kept_after_syncs (log_of l.subject.report nodes) (caller_of l.subject.script l.client) kept (take l.sync-index l.syncs)) l.self;
+      → IsCounted (replies_to l.subject.report l.client) kept l.initial.self
+      → ClearSyncs (log_of l.subject.report nodes) (caller_of l.subject.script l.client) l.stamp kept (take l.sync-index l.syncs)
+      (kept_after_syncs (log_of l.subject.report nodes) (caller_of l.subject.script l.client) kept (take l.sync-index l.syncs))
+      × IsCounted (replies_to l.subject.report l.client)
+      (kept_after_syncs (log_of l.subject.report nodes) (caller_of l.subject.script l.client) kept (take l.sync-index l.syncs)) l.self;
   count : KeepsCount l.initial.self l.self;
 }

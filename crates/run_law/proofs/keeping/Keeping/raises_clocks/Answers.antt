@@ -27,17 +27,17 @@ returns-then-not-is_raise-clause-kept c = λ nodes kept below is all.
 pub loop-raise-preserved : goal.loop-raise-preserved
 loop-raise-preserved c = record {
   kept = λ nodes kept below is.
-    let caller = caller_of c.args.subject.now.script c.args.client in
-    let log = log_of c.args.subject.now.report nodes in
-    let replies = replies_to c.args.subject.now.report c.args.client in
-    let before = kept_after_raises caller kept (take c.loop-raise.raise-index c.args.raises.now) in
-    let so = c.loop-raise.invariant.kept nodes kept below is in (
-      raises_more log caller c.args.stamp kept c.args.raises.now c.loop-raise.raise-index _ c.loop-raise-test.true so.0
-          (told_so c.is_raise.result
-          (c.is_raise.ensures nodes before (below c.loop-raise.raise-index _ c.loop-raise-test.true) so.1) c.if-not-is_raise.false),
-      raised_behind caller kept c.args.raises.now c.loop-raise.raise-index _ c.loop-raise-test.true c.own-own.result
-          c.own-own.ensures.own replies c.place_at.new.self (c.in_ok-place_at.ensures.kept replies before so.1),
-    );
+      let caller = caller_of c.args.subject.now.script c.args.client in
+      let log = log_of c.args.subject.now.report nodes in
+      let replies = replies_to c.args.subject.now.report c.args.client in
+      let before = kept_after_raises caller kept (take c.loop-raise.raise-index c.args.raises.now) in
+      let so = c.loop-raise.invariant.kept nodes kept below is in (
+        raises_more log caller c.args.stamp kept c.args.raises.now c.loop-raise.raise-index _ c.loop-raise-test.true so.0
+            (told_so c.is_raise.result
+            (c.is_raise.ensures nodes before (below c.loop-raise.raise-index _ c.loop-raise-test.true) so.1) c.if-not-is_raise.false),
+        raised_behind caller kept c.args.raises.now c.loop-raise.raise-index _ c.loop-raise-test.true c.own-own.result
+            c.own-own.ensures.own replies c.place_at.new.self (c.in_ok-place_at.ensures.kept replies before so.1),
+      );
   count = search rules;
 }
 

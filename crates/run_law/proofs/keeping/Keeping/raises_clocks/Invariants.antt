@@ -16,10 +16,10 @@ use Rattle.run_law.proofs.keeping.Keeping.raises_clocks.Given as goal
 abbrev pub invariant-loop-raise : goal.invariant-loop-raise
 invariant-loop-raise l = record {
   kept : (nodes : ℕ → List Node) (kept : Kept) → AreBelow l.subject.script (λ (r : RaisePiece). r.colour) l.raises
-    → IsCounted (replies_to l.subject.report l.client) kept l.initial.self
-    → Raises (log_of l.subject.report nodes) (caller_of l.subject.script l.client) l.stamp kept (take l.raise-index l.raises)
-    (kept_after_raises (caller_of l.subject.script l.client) kept (take l.raise-index l.raises))
-    × IsCounted (replies_to l.subject.report l.client)
-    (kept_after_raises (caller_of l.subject.script l.client) kept (take l.raise-index l.raises)) l.self;
+      → IsCounted (replies_to l.subject.report l.client) kept l.initial.self
+      → Raises (log_of l.subject.report nodes) (caller_of l.subject.script l.client) l.stamp kept (take l.raise-index l.raises)
+      (kept_after_raises (caller_of l.subject.script l.client) kept (take l.raise-index l.raises))
+      × IsCounted (replies_to l.subject.report l.client)
+      (kept_after_raises (caller_of l.subject.script l.client) kept (take l.raise-index l.raises)) l.self;
   count : KeepsCount l.initial.self l.self;
 }
