@@ -32,7 +32,7 @@ mod row_places;
 mod row_table;
 mod rows;
 mod scanning;
-mod showing;
+mod shown_parts;
 mod shown_texts;
 mod step_table;
 mod subject;
