@@ -1,15 +1,14 @@
 -- What is looked up of all columns, and of one of them.
-use Rattle.std.proofs.Common.{◌≡◌, ◌⊎◌, ℕ, zero, suc, ◌+◌, ◌*◌, ◌^◌, ◌<◌, ◌≤◌, Bool, true, false, ◌&&◌, ◌==◌, cond, List, [], ◌∷◌, ◌++◌, length, map, take, Option, Some, None, inl, inr, refl, ap, sym, subst, ◌∙◌, arith, get_or}
+use Rattle.std.proofs.Common.{◌≡◌, ◌⊎◌, ℕ, zero, suc, ◌+◌, ◌*◌, ◌^◌, ◌<◌, ◌≤◌, Bool, true, false, ◌&&◌, ◌==◌, cond, List, [], ◌∷◌, ◌++◌, length, take, Some, None, inl, inr, refl, ap, sym, subst, ◌∙◌, arith, get_or}
 use Rattle.std.specs.Prelude.{nat_lt, slice_get, slice_index_or}
 use Rattle.std.specs.List.{filter}
 use Rattle.std.proofs.lemmas.Bool.{and_parts, cases_Bool, eqb-true, le-ltb, ltb-false, ltb-true}
-use Rattle.std.proofs.lemmas.List.{length-append, length-map, length-take-le, take_more}
+use Rattle.std.proofs.lemmas.List.{length-append, length-map, take_more}
 use Rattle.std.proofs.lemmas.Option.{get_or_from_slice_get, slice_get_within}
 use Rattle.log_node.proofs.CallerLemmas.{get_within, same_some}
 use Rattle.col_core.specs.declared.Entry.{Entry}
 use Rattle.col_core.proofs.CallerLemmas.{In}
 use Rattle.script_text.specs.Fitting.{IsFitting}
-use Rattle.script_text.specs.declared.limits.Limits.{Limits}
 use Rattle.script_text.specs.declared.limits.TheConstants.{VERSION_1, VERSION_2}
 use Rattle.script_text.specs.declared.script.Command.{Command}
 use Rattle.script_text.specs.declared.script.Script.{Script}
@@ -33,7 +32,7 @@ use Rattle.run_law.proofs.PrintLemmas.{where_item, where_length}
 use Rattle.run_law.proofs.ThirdLemmas.{few_colours, journal_there}
 
 -- an item of a list with one more
-longer_cases : {A : Type 0} (xs : List A) (x y : A) (n : ℕ) → slice_get (xs ++ x ∷ []) n ≡ Some y
+pub longer_cases : {A : Type 0} (xs : List A) (x y : A) (n : ℕ) → slice_get (xs ++ x ∷ []) n ≡ Some y
     → (slice_get xs n ≡ Some y) ⊎ ((n ≡ length xs) × (y ≡ x))
 longer_cases [] x y zero at = inr (refl, sym (same_some at))
 longer_cases [] x y (suc n) at = absurd (let f : ⊥ = cc (at) in f)

@@ -8,13 +8,14 @@ ghost use Rattle.run_rules.specs.Answering.{CanHave};
 ghost use Rattle.run_rules.specs.Told.{Step as StepTold, Untold, kept_told};
 ghost use Rattle.run_rules.specs.Telling.{account_of, replies_to};
 ghost use Rattle.run_rules.specs.Nodes.{nodes_told};
-ghost use Rattle.run_rules.specs.Said.{nodes_shown};
+ghost use Rattle.run_rules.specs.Said.{ShownCouldBeSaid, nodes_shown};
 ghost use Rattle.run_rules.specs.Keeping.{RulesTo};
 ghost use Rattle.run_rules.specs.Shown.{Rule9};
 ghost use Rattle.run_law.specs.Behind.{IsAnswered};
 ghost use Rattle.run_law.specs.Ninth.{PassesTo, ShowsFirst, StepShows, log_shown};
 ghost use Rattle.run_law.specs.Walking.{GoesOn, HasFew, IsSeen, IsStepOf, Walked, log_walked};
 
+use crate::could_say::keeps_said;
 use crate::keeping::Keeping;
 use crate::laws::ninth_is_shown;
 use crate::shown_texts::ShownTexts;
@@ -212,4 +213,20 @@ pub(crate) fn keeps_shown(
     ninth_is_shown();
     subject.agrees();
     each_step(alloc, subject, &ShownCheck { texts })
+}
+
+/// Whether a report that keeps the rules before it keeps the ninth: syncs, reads, pulls and trims show what they have to, at the
+/// account with the texts that node lines show first, and the commands of nodes could have said these.
+pub fn keeps_ninth(alloc: Global, subject: &Subject<'_>) -> Result<bool, AllocError>
+    requires { RulesTo subject.now.script subject.now.report
+        (account_of subject.now.script subject.now.report (nodes_told subject.now.script subject.now.report)) 8 }
+    ensures { IfOk result (λ b. Tells b (Rule9 subject.now.script subject.now.report
+        (account_of subject.now.script subject.now.report (nodes_shown subject.now.script subject.now.report))
+        × ShownCouldBeSaid subject.now.script subject.now.report)) }
+{
+    let texts = ShownTexts::of_report(alloc, subject.report())?;
+    if !keeps_shown(alloc, subject, &texts)? {
+        return Ok(false);
+    }
+    keeps_said(alloc, subject, &texts)
 }

@@ -1,14 +1,13 @@
-use Rattle.std.proofs.Common.{◌≡◌, ◌∙◌, ◌∷◌, [], ℕ, List, None, ap, inl, inr, subst, sym}
+use Rattle.std.proofs.Common.{◌≡◌, ◌∷◌, [], ℕ, List, None, ap, inl, inr, subst, sym}
 use Rattle.std.specs.Prelude.{OnOk}
 use Rattle.col_core.specs.Keeping.{Kept, kept_after_look}
-use Rattle.script_text.specs.Commands.{use_of}
 use Rattle.report_text.specs.declared.report.Answer.{Answer}
 use Rattle.report_text.specs.declared.report.PointPiece.{PointPiece}
 use Rattle.report_text.specs.declared.report.RaisePiece.{RaisePiece}
 use Rattle.report_text.specs.declared.report.SyncPiece.{SyncPiece}
 use Rattle.lawful_run.specs.Callers.{caller_of}
 use Rattle.lawful_run.specs.Reads.{kept_after_piece}
-use Rattle.run_rules.specs.Told.{kept_after_append, kept_after_end, kept_after_read, kept_deciding, kept_told, stamp_told, with_found}
+use Rattle.run_rules.specs.Told.{kept_after_append, kept_after_read, kept_deciding, kept_told, stamp_told}
 use Rattle.run_rules.specs.Telling.{replies_to}
 use Rattle.run_law.specs.Keepings.{IsCounted}
 use Rattle.run_law.specs.Walking.{log_walked}

@@ -1,4 +1,4 @@
-use Rattle.std.proofs.Common.{◌≡◌, ℕ, Option, subst, sym}
+use Rattle.std.proofs.Common.{ℕ, Option, subst, sym}
 use Rattle.std.specs.Prelude.{OnOk}
 use Rattle.col_core.specs.Keeping.{Kept, with_floor}
 use Rattle.lawful_run.specs.Appends.{kept_after_points}

@@ -1,4 +1,4 @@
-use Rattle.std.proofs.Common.{◌≡◌, ◌∙◌, ◌≤◌, ℕ, List, ap, arith, inr, rules, subst, sym}
+use Rattle.std.proofs.Common.{◌∙◌, ℕ, List, ap, arith, inr, rules, subst}
 use Rattle.col_core.specs.Keeping.{Kept, with_made}
 use Rattle.lawful_run.specs.Callers.{caller_of}
 use Rattle.lawful_run.specs.Moves.{with_places}

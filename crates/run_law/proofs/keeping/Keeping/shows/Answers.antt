@@ -18,7 +18,7 @@ use Rattle.run_law.specs.Walking.{log_walked}
 use Rattle.run_law.proofs.BehindLemmas.{found_at}
 use Rattle.run_law.proofs.ReadingLemmas.{passes_not, passes_so}
 use Rattle.run_law.proofs.ShownAnswers.{behind_same, decided_same, has_same, played_same, reads_same, scan_same, shows_of}
-use Rattle.run_law.proofs.ShownSteps.{all_low, decide_all, decide_has, decide_low, got_low, kind_low, one_low, point_low}
+use Rattle.run_law.proofs.SeenAnswers.{all_low, decide_all, decide_has, decide_low, got_low, kind_low, one_low, point_low}
 use Rattle.run_law.proofs.keeping.Keeping.shows.Goals as goal
 
 pub returns-in-Synced : goal.returns-in-Synced

@@ -1,5 +1,4 @@
-use Rattle.std.proofs.Common.{◌≡◌, ◌∙◌, ap, sym, subst, ℕ, Option, Some}
-use Rattle.col_core.specs.Keeping.{Kept}
+use Rattle.std.proofs.Common.{◌≡◌, ◌∙◌, ap, sym, ℕ, Option}
 use Rattle.lawful_run.specs.Callers.{caller_of}
 use Rattle.run_rules.specs.Told.{stamp_told}
 use Rattle.run_rules.specs.Telling.{journal_among}

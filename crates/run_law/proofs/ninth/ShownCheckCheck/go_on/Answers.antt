@@ -4,7 +4,7 @@ use Rattle.run_rules.specs.Told.{kept_at, kept_told}
 use Rattle.run_rules.specs.Telling.{replies_to}
 use Rattle.run_law.specs.Walking.{log_walked}
 use Rattle.run_law.proofs.ReadingLemmas.{passes_not, passes_so}
-use Rattle.run_law.proofs.ShownSteps.{step_answered, step_behind, step_can, step_passes, step_within}
+use Rattle.run_law.proofs.SeenAnswers.{step_answered, step_behind, step_can, step_passes, step_within}
 use Rattle.run_law.proofs.ninth.ShownCheckCheck.go_on.Goals as goal
 
 pub returns-then-not-branch : goal.returns-then-not-branch

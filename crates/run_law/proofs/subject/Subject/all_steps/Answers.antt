@@ -1,4 +1,4 @@
-use Rattle.std.proofs.Common.{Some, subst, sym, ap, ◌∙◌, ◌≡◌, List, length}
+use Rattle.std.proofs.Common.{Some, subst, ap, ◌∙◌, List, length}
 use Rattle.col_core.specs.declared.Entry.{Entry}
 use Rattle.run_law.specs.PlaceTables.{is_own_step, numbers_where}
 use Rattle.run_law.specs.Subjects.{AreAllPlaces, AtColumn}

@@ -1,4 +1,4 @@
-use Rattle.std.proofs.Common.{◌≡◌, ◌∙◌, ◌≤◌, ℕ, ap, arith, drop, length, take}
+use Rattle.std.proofs.Common.{◌∙◌, ℕ, ap, arith, drop, length, take}
 use Rattle.log_node.specs.Outcomes.{greatest}
 use Rattle.log_node.specs.Vectors.{at}
 use Rattle.run_law.proofs.SubjectLemmas.{few_regions}

@@ -1,12 +1,11 @@
-use Rattle.std.proofs.Common.{◌≡◌, ◌∙◌, ◌≤◌, ap, arith, true}
-use Rattle.log_node.specs.declared.ids.Counts.{Counts}
+use Rattle.std.proofs.Common.{◌∙◌, ap, arith, true}
 use Rattle.col_core.specs.Cuts.{chain}
 use Rattle.col_core.specs.Log.{first}
 use Rattle.script_text.specs.declared.script.Script.{Script}
 use Rattle.run_law.specs.Behind.{HasColumn}
 use Rattle.run_law.specs.Walking.{journal_walked, log_walked}
 use Rattle.run_law.proofs.SubjectLemmas.{few_regions}
-use Rattle.run_law.proofs.PlayedLemmas.{chain_empty, chain_none, greatest_all}
+use Rattle.run_law.proofs.PlayedLemmas.{chain_none, greatest_all}
 use Rattle.run_law.proofs.subject.Subject.greatest_played.Goals as goal
 
 pub returns : goal.returns

@@ -1,8 +1,7 @@
-use Rattle.std.proofs.Common.{◌≡◌, ◌∙◌, ◌<◌, ◌++◌, ℕ, Bool, true, false, List, [], append-nil, ap, arith, get_or, length, sym}
+use Rattle.std.proofs.Common.{◌≡◌, ◌∙◌, ℕ, true, false, append-nil, ap, arith, get_or, sym}
 use Rattle.std.specs.Prelude.{not}
 use Rattle.std.specs.List.{filter}
 use Rattle.run_rules.specs.Telling.{is_among, step_places}
-use Rattle.run_law.specs.PlaceTables.{is_printed}
 use Rattle.run_law.specs.Walking.{journal_walked, places_printed}
 use Rattle.run_law.proofs.BehindLemmas.{left_more, steps_are}
 use Rattle.run_law.proofs.PastLemmas.{take_all_of}
