@@ -21,6 +21,7 @@ mod FourthLemmas
 mod GuardLemmas
 mod FrontLemmas
 mod HeadLemmas
+mod JudgingLemmas
 mod LeftLemmas
 mod LineOrder
 mod ListedLaws

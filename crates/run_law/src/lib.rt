@@ -19,6 +19,7 @@ mod fronts;
 mod going_on;
 mod helpers;
 mod journals;
+mod judging;
 mod keeping;
 mod keys_read;
 mod laws;
@@ -32,8 +33,8 @@ mod naming;
 mod ninth;
 mod node_table;
 mod object_colours;
-mod own_seen;
 mod opens;
+mod own_seen;
 mod pieces;
 mod place_lists;
 mod played;
@@ -67,6 +68,7 @@ pub use fifth::keeps_fifth;
 pub use first::keeps_first;
 pub use fourth::keeps_fourth;
 pub use journals::tracks_of;
+pub use judging::least_of_nine;
 pub use keeping::Keeping;
 pub use laws::{
     eleventh_is_causes, fifth_is_entering, fourteenth_is_decided, ninth_is_shown, showing_is_found,
