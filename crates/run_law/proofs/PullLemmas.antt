@@ -1,6 +1,6 @@
 -- A pull, from what is looked up of it.
-use Rattle.std.proofs.Common.{◌≡◌, ◌∙◌, refl, ap, sym, subst, ℕ, ◌<◌, ◌≤◌, Bool, true, false, List, [], length, take, Option, Some, None, arith}
-use Rattle.std.specs.Prelude.{◌≢◌, is_some, not, slice_get}
+use Rattle.std.proofs.Common.{◌≡◌, ◌∙◌, ap, sym, subst, ℕ, ◌<◌, ◌≤◌, Bool, true, false, List, [], length, take, Option, Some, None, arith}
+use Rattle.std.specs.Prelude.{◌≢◌, is_some, not}
 use Rattle.std.specs.List.{All}
 use Rattle.std.proofs.lemmas.Bool.{true≢false}
 use Rattle.std.proofs.lemmas.Option.{slice_get_within}
@@ -12,7 +12,7 @@ use Rattle.col_core.specs.Keeping.{Kept, seen_after}
 use Rattle.col_core.specs.Log.{Log, first}
 use Rattle.column_track.specs.Tracks.{Tells}
 use Rattle.lawful_run.specs.Callers.{Caller, caller_of}
-use Rattle.lawful_run.specs.Moves.{AsksFor, CarriesNodes, GivesFrom, GivesTooLow, Pulls}
+use Rattle.lawful_run.specs.Moves.{AsksFor, CarriesNodes, GivesTooLow, Pulls}
 use Rattle.lawful_run.specs.Reads.{events_until}
 use Rattle.log_node.specs.declared.node.At.TheVariants.{Event}
 use Rattle.script_text.specs.declared.commands.What.{What}

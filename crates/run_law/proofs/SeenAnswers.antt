@@ -1,10 +1,9 @@
 -- What may be used of an answer that a command can have: its colours are of the shape, and its stamped read has the command's.
-use Rattle.std.proofs.Common.{◌≡◌, ◌∙◌, refl, ap, sym, subst, Bool, ℕ, ◌<◌, List, [], ◌∷◌, map, Option, Some, None, inl, inr}
+use Rattle.std.proofs.Common.{◌≡◌, ◌∙◌, refl, ap, sym, subst, Bool, ℕ, ◌<◌, List, [], ◌∷◌, Option, Some, None, inl, inr}
 use Rattle.std.specs.Prelude.{◌==◌, slice_get}
 use Rattle.std.specs.List.{All}
 use Rattle.std.proofs.lemmas.List.Elements.{All-contains}
 use Rattle.log_node.proofs.CallerLemmas.{same_some}
-use Rattle.log_node.specs.Seen.{PlacedNode}
 use Rattle.object_fold.specs.Maps.{Value}
 use Rattle.object_fold.specs.Nodes.{shard_of}
 use Rattle.col_core.specs.Keeping.{Kept}

@@ -1,5 +1,5 @@
 -- What an answer shows, from what its parts are found to be.
-use Rattle.std.proofs.Common.{◌≡◌, ◌∙◌, refl, ap, sym, subst, Bool, ℕ, List, [], ◌∷◌, length, map, Option, Some, None}
+use Rattle.std.proofs.Common.{◌≡◌, sym, subst, Bool, ℕ, List, length, map, Option}
 use Rattle.std.specs.List.{All}
 use Rattle.log_node.specs.Seen.{PlacedNode}
 use Rattle.col_core.specs.Keeping.{Kept}

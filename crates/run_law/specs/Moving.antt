@@ -1,5 +1,5 @@
 -- Parts of what pulls and trims say of the log.
-use Rattle.std.specs.Prelude.{◌≡◌, ◌⊎◌, Bool, ℕ, ◌==◌, ◌<◌, ◌≤◌, List, length, Option, Some, None, if◌then◌else◌}
+use Rattle.std.specs.Prelude.{◌≡◌, ◌⊎◌, ℕ, ◌==◌, ◌<◌, ◌≤◌, List, length, Option, Some, None, if◌then◌else◌}
 use Rattle.col_core.specs.declared.Event.{Event}
 use Rattle.col_core.specs.declared.Event.TheVariants as events
 use Rattle.col_core.specs.Cuts.{chain}

@@ -8,7 +8,10 @@ ghost use Rattle.run_law.specs.Twelfth.{TwelfthIsBare};
 use col_core::region_order_is_unique;
 use part_fold::decisions_are_plain;
 use playback::region_order_is_lawful;
-use run_rules::{computed_account_agrees, computed_finds_decide, finds_decide, finds_keep, finds_tell, found_account_decides, nodes_are_told, nodes_change_no_step};
+use run_rules::{
+    computed_account_agrees, computed_finds_decide, finds_decide, finds_keep, finds_tell,
+    found_account_decides, nodes_are_told, nodes_change_no_step,
+};
 
 /// A report that keeps the first four rules enters the nodes of its commands where the first five hold at the account with these.
 pub fn fifth_is_entering()

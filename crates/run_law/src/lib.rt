@@ -65,7 +65,10 @@ pub use first::keeps_first;
 pub use fourth::keeps_fourth;
 pub use journals::tracks_of;
 pub use keeping::Keeping;
-pub use laws::{eleventh_is_causes, fifth_is_entering, fourteenth_is_decided, ninth_is_shown, showing_is_found, twelfth_is_bare};
+pub use laws::{
+    eleventh_is_causes, fifth_is_entering, fourteenth_is_decided, ninth_is_shown, showing_is_found,
+    twelfth_is_bare,
+};
 pub use left_open::keeps_eighth;
 pub use ninth::keeps_ninth;
 pub use seventh::{keeps_seventh, seventh_is_stopping};

@@ -1,7 +1,6 @@
-use Rattle.std.proofs.Common.{subst, sym, ap}
+use Rattle.std.proofs.Common.{subst, sym}
 use Rattle.log_node.proofs.CallerLemmas.{ok_then}
 use Rattle.report_text.specs.declared.report.Report.{Report}
-use Rattle.run_rules.specs.Nodes.{nodes_told}
 use Rattle.run_rules.specs.Said.{nodes_shown}
 use Rattle.run_rules.specs.Shown.{Rule9}
 use Rattle.run_rules.specs.Told.{OfEachStep}

@@ -1,15 +1,13 @@
 use Rattle.std.proofs.Common.{ℕ, List, take}
-use Rattle.std.specs.List.{All}
 use Rattle.log_node.specs.declared.node.Node.{Node}
 use Rattle.col_core.specs.Keeping.{Kept}
-use Rattle.report_text.specs.declared.report.RaisePiece.{RaisePiece}
 use Rattle.report_text.specs.declared.report.SyncPiece.{SyncPiece}
 use Rattle.lawful_run.specs.Callers.{caller_of}
-use Rattle.lawful_run.specs.Reads.{ClearSyncs, Raises}
-use Rattle.run_rules.specs.Told.{kept_after_raises, kept_after_syncs}
+use Rattle.lawful_run.specs.Reads.{ClearSyncs}
+use Rattle.run_rules.specs.Told.{kept_after_syncs}
 use Rattle.run_rules.specs.Telling.{log_of, replies_to}
 use Rattle.run_law.specs.Keepings.{IsCounted, KeepsCount}
-use Rattle.run_law.specs.Reading.{AreBelow, IsAboveClock, WasClockOf}
+use Rattle.run_law.specs.Reading.{AreBelow}
 use Rattle.run_law.proofs.keeping.Keeping.clear_syncs.Given as goal
 
 -- the syncs so far are so, and it counts what is kept behind them

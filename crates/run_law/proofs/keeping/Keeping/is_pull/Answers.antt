@@ -1,4 +1,4 @@
-use Rattle.std.proofs.Common.{◌≡◌, ◌∙◌, ap, sym, subst, ℕ, List, ◌<◌, ◌≤◌, length, arith, rules}
+use Rattle.std.proofs.Common.{ap, subst, ℕ, List, length, arith, rules}
 use Rattle.std.specs.List.{All}
 use Rattle.column_track.specs.Tracks.{Tells}
 use Rattle.lawful_run.specs.Callers.{caller_of}

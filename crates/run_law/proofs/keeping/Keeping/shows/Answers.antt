@@ -1,16 +1,13 @@
-use Rattle.std.proofs.Common.{◌≡◌, ◌∙◌, refl, ap, sym, subst, ℕ, List, [], ◌∷◌, true, false}
+use Rattle.std.proofs.Common.{◌∙◌, ap, sym, subst, ℕ, List, true, false}
 use Rattle.log_node.proofs.CallerLemmas.{ok_then}
 use Rattle.col_core.specs.Keeping.{Kept}
-use Rattle.script_text.specs.Commands.{use_of}
 use Rattle.report_text.specs.declared.report.Answer.{Answer}
 use Rattle.report_text.specs.declared.report.Answer.TheVariants as answers
-use Rattle.report_text.specs.declared.report.RaisePiece.{RaisePiece}
-use Rattle.report_text.specs.declared.report.SyncPiece.{SyncPiece}
 use Rattle.lawful_run.specs.Asks.{kind_asked, object_colours, rising}
 use Rattle.lawful_run.specs.Callers.{caller_of}
 use Rattle.lawful_run.specs.Deeds.{colours_synced}
 use Rattle.run_rules.specs.Answering.{CanHave, HasReads}
-use Rattle.run_rules.specs.Told.{Untold, kept_after_read, with_found}
+use Rattle.run_rules.specs.Told.{Untold, kept_after_read}
 use Rattle.run_rules.specs.Telling.{low_told, replies_to}
 use Rattle.run_rules.specs.Said.{nodes_shown}
 use Rattle.run_law.specs.Ninth.{log_shown}

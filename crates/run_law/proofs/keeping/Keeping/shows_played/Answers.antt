@@ -1,19 +1,5 @@
-use Rattle.std.proofs.Common.{◌≡◌, ◌∙◌, ap, sym, subst, ℕ, ◌+◌, ◌<◌, ◌^◌, ◌∷◌, [], List, None, map, length, arith, rules}
-use Rattle.std.specs.List.{All}
-use Rattle.log_node.proofs.CallerLemmas.{ok_then}
-use Rattle.col_core.specs.Keeping.{Kept}
-use Rattle.script_text.specs.Fitting.{IsWithin}
-use Rattle.report_text.specs.declared.report.PointPiece.{PointPiece}
-use Rattle.lawful_run.specs.Callers.{caller_of}
-use Rattle.lawful_run.specs.Reads.{AreKeysRead, kept_after_piece}
-use Rattle.run_rules.specs.Shown.{ReadsColours, SyncsAsTold}
-use Rattle.run_rules.specs.Told.{kept_after_append, kept_after_end, kept_after_read, kept_deciding, stamp_told}
-use Rattle.run_rules.specs.Telling.{log_of, replies_to}
-use Rattle.run_law.specs.Keepings.{IsCounted}
-use Rattle.run_law.specs.Ninth.{IsTextFirst, PassesTo, key_shown}
-use Rattle.run_law.specs.Walking.{log_walked}
-use Rattle.run_law.proofs.Lists.{told_not, told_so}
-use Rattle.run_law.proofs.ReadingLemmas.{passes_as, passes_not, passes_so}
+use Rattle.run_rules.specs.Telling.{replies_to}
+use Rattle.run_law.proofs.Lists.{told_so}
 use Rattle.run_law.proofs.keeping.Keeping.shows_played.Goals as goal
 
 pub returns : goal.returns

@@ -1,12 +1,8 @@
-use Rattle.std.proofs.Common.{◌≡◌, ◌∙◌, ap, sym, subst, ℕ, List}
+use Rattle.std.proofs.Common.{◌∙◌, ap, sym, subst}
 use Rattle.log_node.specs.declared.node.At.{At}
-use Rattle.log_node.specs.declared.node.At.TheVariants.{Event}
 use Rattle.script_text.specs.Fitting.{IsWithin}
-use Rattle.script_text.specs.declared.commands.What.{What}
 use Rattle.report_text.specs.declared.report.Answer.TheVariants as answers
 use Rattle.lawful_run.specs.Callers.{caller_of}
-use Rattle.lawful_run.specs.Moves.{Pulls}
-use Rattle.run_rules.specs.Shown.{Shows}
 use Rattle.run_rules.specs.Told.{kept_pulled}
 use Rattle.run_rules.specs.Telling.{log_of, low_told, replies_to}
 use Rattle.run_law.specs.Keepings.{IsCounted}

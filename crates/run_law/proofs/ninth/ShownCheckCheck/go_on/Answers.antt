@@ -1,4 +1,3 @@
-use Rattle.std.proofs.Common.{subst, sym}
 use Rattle.lawful_run.specs.Callers.{caller_of}
 use Rattle.run_rules.specs.Told.{kept_at, kept_told}
 use Rattle.run_rules.specs.Telling.{replies_to}

@@ -1,4 +1,4 @@
-use Rattle.std.proofs.Common.{◌≡◌, ◌<◌, ◌≤◌, min, refl, arith, rules}
+use Rattle.std.proofs.Common.{refl, rules}
 use Rattle.std.specs.Prelude.{nat_eq}
 use Rattle.run_law.proofs.MovingLemmas.{asks_told}
 use Rattle.run_law.proofs.subject.Subject.asks_for.Goals as goal

@@ -1,4 +1,4 @@
-use Rattle.std.proofs.Common.{◌≡◌, ◌+◌, ◌-◌, ◌/◌, ◌<◌, ◌≤◌, arith, rules}
+use Rattle.std.proofs.Common.{◌+◌, ◌-◌, ◌/◌, arith, rules}
 use Rattle.run_law.proofs.MovingLemmas.{go_up}
 use Rattle.run_law.proofs.subject.Subject.first_holding.Goals as goal
 

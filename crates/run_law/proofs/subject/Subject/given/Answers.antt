@@ -1,4 +1,4 @@
-use Rattle.std.proofs.Common.{◌≡◌, ap, sym, subst, ℕ, Some, rules}
+use Rattle.std.proofs.Common.{◌≡◌, sym, subst, ℕ, Some, rules}
 use Rattle.std.specs.Prelude.{slice_get}
 use Rattle.col_core.specs.declared.Event.TheVariants as events
 use Rattle.lawful_run.specs.Callers.{caller_of}

@@ -1,4 +1,4 @@
-use Rattle.std.proofs.Common.{◌≡◌, ◌∙◌, ap, sym, refl}
+use Rattle.std.proofs.Common.{◌∙◌, ap, refl}
 use Rattle.std.specs.Prelude.{nat_lt}
 use Rattle.log_node.specs.Vectors.{at}
 use Rattle.column_track.specs.declared.marks.Mark.{Mark}
