@@ -5,8 +5,8 @@ mod BaseLemmas
 mod BehindLemmas
 mod CanTold
 mod CauseLemmas
-mod ChainBeginnings
 mod CauseSteps
+mod ChainBeginnings
 mod ClosingLemmas
 mod ColumnPlaces
 mod CopiesLemmas
@@ -17,9 +17,9 @@ mod EnteringLemmas
 mod FifthLaws
 mod FinalLemmas
 mod FirstLemmas
-mod FrontLemmas
 mod FourthLemmas
 mod GuardLemmas
+mod FrontLemmas
 mod HeadLemmas
 mod LeftLemmas
 mod LineOrder
@@ -45,6 +45,7 @@ mod PlayedLemmas
 mod PlayedShown
 mod PrintLemmas
 mod ProposalLemmas
+mod PullLemmas
 mod ReadDecides
 mod ReadingLemmas
 mod ReadsWhole
@@ -56,12 +57,14 @@ mod RowPlaceLemmas
 mod SameKeeping
 mod SayingLemmas
 mod ScanLemmas
+mod SeenAnswers
 mod SeventhLaws
 mod SeventhLemmas
 mod ShapeColours
 mod Shards
 mod ShowingLaws
 mod ShowingLemmas
+mod ShownAnswers
 mod ShownSteps
 mod ShownTextLemmas
 mod SixthLaws

@@ -1,5 +1,5 @@
 // Whether pulls and trims are as the log says.
-ghost use Rattle.std.specs.Prelude.{◌≡◌, ◌<◌, ◌≤◌, ℕ, List, Some, length};
+ghost use Rattle.std.specs.Prelude.{◌≡◌, ◌<◌, ◌≤◌, ℕ, IfSome, List, Some, length};
 ghost use Rattle.std.specs.List.{All};
 ghost use Rattle.std.specs.Option.{option_copied};
 ghost use Rattle.log_node.specs.declared.node.Node.{Node};
@@ -36,9 +36,13 @@ fn carries_many(event: Option<&Event>, region: u8, many: u64) -> bool
     ensures { Tells result (CarriesMany region many (option_copied event.entry)) }
 {
     match event {
-        Some(Event::Carry {
-            region: of, heads, ..
-        }) => *of == region && heads.len() as u64 == many,
+        Some(
+            Event::Carry {
+                region: of,
+                heads,
+                ..
+            },
+        ) => *of == region && heads.len() as u64 == many,
         _ => false,
     }
 }
@@ -204,8 +208,10 @@ impl Keeping {
     ) -> Option<u64>
         requires walker { client < length subject.now.report.clients }
         requires own { IsOfShape subject.now (caller_of subject.now.script client).own colour }
-        ensures { (told : ℕ → List Node) (kept : Kept) → IsCounted (replies_to subject.now.report client) kept self.now → IsCarried
+        ensures carried { (told : ℕ → List Node) (kept : Kept) → IsCounted (replies_to subject.now.report client) kept self.now → IsCarried
             (log_of subject.now.report told) (caller_of subject.now.script client) kept region colour nodes carry result }
+        ensures within { IfSome result (λ events. events
+            ≤ length (journal_walked subject.now (caller_of subject.now.script client).own colour)) }
     {
         let own = subject.own(client);
         let all = subject.event_count(own, colour);
@@ -263,13 +269,18 @@ impl Keeping {
         };
         let seen = self.seen(own, colour);
         let until = events_until(carry);
-        if subject.given(client, region, colour, seen, until, place).is_none() {
+        if subject
+            .given(client, region, colour, seen, until, place)
+            .is_none()
+        {
             return false;
         }
         if place > subject.event_count(region, colour) {
             return false;
         }
-        if subject.line_length(region, colour, place) > subject.held_of(own, colour, region, behind) {
+        if subject.line_length(region, colour, place)
+            > subject.held_of(own, colour, region, behind)
+        {
             return false;
         }
         let made = self.made_between(subject, client, region, colour, place);

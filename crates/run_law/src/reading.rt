@@ -12,7 +12,7 @@ ghost use Rattle.run_rules.specs.Answering.{HasReads};
 ghost use Rattle.run_rules.specs.Told.{kept_after_raises, kept_after_read, kept_after_syncs};
 ghost use Rattle.run_rules.specs.Telling.{log_of, replies_to};
 ghost use Rattle.run_rules.specs.Shown.{ReadsColours, SyncsAsTold};
-ghost use Rattle.run_law.specs.Keepings.{IsCounted};
+ghost use Rattle.run_law.specs.Keepings.{IsCounted, KeepsCount};
 ghost use Rattle.run_law.specs.Ninth.{PassesTo};
 ghost use Rattle.run_law.specs.Reading.{AreBelow, IsAboveClock, IsClearSync, WasClockOf};
 
@@ -42,7 +42,14 @@ impl Keeping {
         }
         let mark = subject.mark(own, colour, sync.events);
         let seen = self.seen(own, colour);
-        is_synced_at(own, seen, self.known(colour), self.start(colour), mark, sync)
+        is_synced_at(
+            own,
+            seen,
+            self.known(colour),
+            self.start(colour),
+            mark,
+            sync,
+        )
     }
 
     // Whether a sync is as the log says, and no open entry up to the stamp was left.
@@ -62,9 +69,7 @@ impl Keeping {
         if !self.is_sync(subject, client, sync) {
             return false;
         }
-        subject
-            .track(own, sync.colour)
-            .is_clear(sync.events, stamp)
+        subject.track(own, sync.colour).is_clear(sync.events, stamp)
     }
 
     // Goes on behind the syncs of a stamped read, where they are as the log says.
@@ -76,13 +81,14 @@ impl Keeping {
         syncs: &[SyncPiece],
     ) -> bool
         requires { client < length subject.now.report.clients }
-        ensures { (nodes : ℕ → List Node) (kept : Kept) → AreBelow subject.now.script (λ (s : Synced). s.colour) syncs.now
+        ensures kept { (nodes : ℕ → List Node) (kept : Kept) → AreBelow subject.now.script (λ (s : Synced). s.colour) syncs.now
             → IsCounted (replies_to subject.now.report client) kept self.old
             → PassesTo (replies_to subject.now.report client)
             (ClearSyncs (log_of subject.now.report nodes) (caller_of subject.now.script client) stamp kept syncs.now
             (kept_after_syncs (log_of subject.now.report nodes) (caller_of subject.now.script client) kept syncs.now))
             (kept_after_syncs (log_of subject.now.report nodes) (caller_of subject.now.script client) kept syncs.now) self.new
             result }
+        ensures count { KeepsCount self.old self.new }
     {
         for sync in syncs {
             if !self.is_clear_sync(subject, client, stamp, *sync) {
@@ -116,7 +122,10 @@ impl Keeping {
             return false;
         }
         match raise.at {
-            At::Event(place) => is_raise(event_by(subject.journal(own, colour), client, place), stamp),
+            At::Event(place) => is_raise(
+                event_by(subject.journal(own, colour), client, place),
+                stamp,
+            ),
             At::Look(events) => stamp <= subject.mark(own, colour, events).clock,
         }
     }
@@ -130,12 +139,13 @@ impl Keeping {
         raises: &[RaisePiece],
     ) -> Result<bool, AllocError>
         requires { client < length subject.now.report.clients }
-        ensures { (nodes : ℕ → List Node) (kept : Kept) → AreBelow subject.now.script (λ (r : Raised). r.colour) raises.now
+        ensures kept { (nodes : ℕ → List Node) (kept : Kept) → AreBelow subject.now.script (λ (r : Raised). r.colour) raises.now
             → IsCounted (replies_to subject.now.report client) kept self.old
             → IfOk result (PassesTo (replies_to subject.now.report client)
             (Raises (log_of subject.now.report nodes) (caller_of subject.now.script client) stamp kept raises.now
             (kept_after_raises (caller_of subject.now.script client) kept raises.now))
             (kept_after_raises (caller_of subject.now.script client) kept raises.now) self.new) }
+        ensures count { IfOk result (λ b. KeepsCount self.old self.new) }
     {
         let own = subject.own(client);
         for raise in raises {
@@ -164,7 +174,13 @@ impl Keeping {
     }
 
     // Whether the stamp of a read is the floor, or the clock of one of the columns that it raises.
-    fn is_read_stamp(&self, subject: &Subject<'_>, client: u8, stamp: u64, raises: &[RaisePiece]) -> bool
+    fn is_read_stamp(
+        &self,
+        subject: &Subject<'_>,
+        client: u8,
+        stamp: u64,
+        raises: &[RaisePiece],
+    ) -> bool
         requires { client < length subject.now.report.clients }
         ensures { (nodes : ℕ → List Node) (kept : Kept) → AreBelow subject.now.script (λ (r : Raised). r.colour) raises.now
             → IsCounted (replies_to subject.now.report client) kept self.now → Tells result
@@ -182,7 +198,13 @@ impl Keeping {
     }
 
     // Whether the stamp is not below what was seen of the clock of a raise's column.
-    fn is_above_clock(&self, subject: &Subject<'_>, client: u8, stamp: u64, raise: RaisePiece) -> bool
+    fn is_above_clock(
+        &self,
+        subject: &Subject<'_>,
+        client: u8,
+        stamp: u64,
+        raise: RaisePiece,
+    ) -> bool
         requires { client < length subject.now.report.clients }
         ensures { (nodes : ℕ → List Node) (kept : Kept) → raise.colour < subject.now.script.shape.colours
             → IsCounted (replies_to subject.now.report client) kept self.now → Tells result
@@ -198,7 +220,13 @@ impl Keeping {
     }
 
     // Whether it is not below those of all columns that a read raises.
-    fn is_above_clocks(&self, subject: &Subject<'_>, client: u8, stamp: u64, raises: &[RaisePiece]) -> bool
+    fn is_above_clocks(
+        &self,
+        subject: &Subject<'_>,
+        client: u8,
+        stamp: u64,
+        raises: &[RaisePiece],
+    ) -> bool
         requires { client < length subject.now.report.clients }
         ensures { (nodes : ℕ → List Node) (kept : Kept) → AreBelow subject.now.script (λ (r : Raised). r.colour) raises.now
             → IsCounted (replies_to subject.now.report client) kept self.now → Tells result
@@ -223,7 +251,7 @@ impl Keeping {
         syncs: &[SyncPiece],
     ) -> Result<bool, AllocError>
         requires { client < length subject.now.report.clients }
-        ensures { (nodes : ℕ → List Node) (kept : Kept) (colours : List ℕ) → HasReads colours raises.now syncs.now
+        ensures kept { (nodes : ℕ → List Node) (kept : Kept) (colours : List ℕ) → HasReads colours raises.now syncs.now
             → All (λ c. c < subject.now.script.shape.colours) colours
             → IsCounted (replies_to subject.now.report client) kept self.old
             → IfOk result (PassesTo (replies_to subject.now.report client)
@@ -231,6 +259,7 @@ impl Keeping {
             syncs.now)
             (kept_after_read (log_of subject.now.report nodes) (caller_of subject.now.script client) kept stamp raises.now syncs.now)
             self.new) }
+        ensures count { IfOk result (λ b. KeepsCount self.old self.new) }
     {
         if stamp < self.floor() {
             return Ok(false);

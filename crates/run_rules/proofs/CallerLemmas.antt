@@ -13,7 +13,7 @@ pub use Rattle.run_rules.proofs.LinesShown.{lines_have, shows_text, text_shown, 
 pub use Rattle.run_rules.proofs.LeftOut.{Obeys}
 pub use Rattle.run_rules.proofs.NodesTold.{finding_one, stamp_one}
 pub use Rattle.run_rules.proofs.TextsAlike.{zip_mapped}
-pub use Rattle.run_rules.proofs.Reached.{Below, home_within, synced_within}
+pub use Rattle.run_rules.proofs.Reached.{Below, appended_within, home_within, kind_within, synced_within}
 pub use Rattle.run_rules.proofs.ComputedFinds.{found_keys_of}
 pub use Rattle.run_rules.proofs.ComputedRules.{one_text}
 pub use Rattle.run_rules.proofs.FindsAlike.{FoundBelow, NodeBelow, SameFound, keys_above, nodes_below, zip_each}
