@@ -18,6 +18,7 @@ mod FinalLemmas
 mod FirstLemmas
 mod FrontLemmas
 mod HeadLemmas
+mod JudgingLaws
 mod LeftLemmas
 mod LineOrder
 mod ListedLaws

@@ -6,6 +6,7 @@ pub mod Columns
 pub mod Eleventh
 pub mod Fifth
 pub mod Journals
+pub mod Judging
 pub mod Keepings
 pub mod KeysRead
 pub mod LeftOpen

@@ -17,6 +17,7 @@ mod first;
 mod fronts;
 mod going_on;
 mod journals;
+mod judged;
 mod keeping;
 mod keys_read;
 mod laws;
@@ -58,10 +59,11 @@ pub use eleventh::keeps_eleventh;
 pub use fifth::keeps_fifth;
 pub use first::keeps_first;
 pub use journals::tracks_of;
+pub use judged::Judged;
 pub use keeping::Keeping;
 pub use laws::{
-    eleventh_is_causes, fifth_is_entering, fourteenth_is_decided, ninth_is_shown, showing_is_found,
-    twelfth_is_bare,
+    eleventh_is_causes, fifth_is_entering, fourteenth_is_decided, judged_is_lawful, ninth_is_shown,
+    rules_are_asked, rules_stand, showing_is_found, twelfth_is_bare,
 };
 pub use left_open::keeps_eighth;
 pub use seventh::{keeps_seventh, seventh_is_stopping};
