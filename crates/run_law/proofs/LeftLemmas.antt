@@ -187,7 +187,7 @@ any_there {X} test (y ∷ ys) t = by (test y) refl (any_there test ys) where
   by true is rest = (y, inl refl, is)
   by false is rest = let more = rest (sym (ap (λ b. b || list_any test ys) is) ∙ t) in (more.0, inr more.1, more.2)
 
-none_there : {X : Type 0} (test : X → Bool) (xs : List X) → ((x : X) → In x xs → test x ≡ false) → list_any test xs ≡ false
+pub none_there : {X : Type 0} (test : X → Bool) (xs : List X) → ((x : X) → In x xs → test x ≡ false) → list_any test xs ≡ false
 none_there test [] all = refl
 none_there test (y ∷ ys) all = ap (λ b. b || list_any test ys) (all y (inl refl)) ∙ none_there test ys (λ x i. all x (inr i))
 

@@ -6,6 +6,7 @@ mod BehindLemmas
 mod CanTold
 mod CauseLemmas
 mod ChainBeginnings
+mod CauseSteps
 mod ClosingLemmas
 mod ColumnPlaces
 mod CopiesLemmas
@@ -17,6 +18,8 @@ mod FifthLaws
 mod FinalLemmas
 mod FirstLemmas
 mod FrontLemmas
+mod FourthLemmas
+mod GuardLemmas
 mod HeadLemmas
 mod JudgingLaws
 mod LeftLemmas
@@ -27,12 +30,14 @@ mod Lists
 mod MadeLemmas
 mod Members
 mod MovingLemmas
+mod NamedColours
 mod NextNodes
 mod NextRows
 mod NinthLaws
 mod NodeRows
 mod NumeralLemmas
 mod Once
+mod OpenLemmas
 mod OrderLemmas
 mod PastLemmas
 mod PlaceLemmas

@@ -181,7 +181,10 @@ impl Causes {
             (caller_of subject.now.script client).own (next_id (caller_of subject.now.script client) kept))) }
     {
         let rows = subject.report().rows.as_slice();
-        match self.places.row(rows, subject.own(client), keeping.next_id(client)) {
+        match self
+            .places
+            .row(rows, subject.own(client), keeping.next_id(client))
+        {
             Some(row) => self.is_ended_row(row, colour),
             None => false,
         }
@@ -510,6 +513,7 @@ impl Check for Causes {
         place: usize,
         keeping: &mut Keeping,
     ) -> Result<bool, AllocError> {
+        subject.agrees();
         let what = &subject.command(client, place).what;
         let answer = &subject.reply(client, place).answer;
         if !has_room(alloc, subject, client, keeping, what, answer)? {

@@ -139,7 +139,11 @@ fn add_open(ids: &mut RowTable, column: &ColumnReport, region: u8) -> Result<(),
 }
 
 /// The ids that a region's columns leave open.
-pub(crate) fn open_ids(alloc: Global, columns: &[ColumnReport], region: u8) -> Result<RowTable, AllocError>
+pub(crate) fn open_ids(
+    alloc: Global,
+    columns: &[ColumnReport],
+    region: u8,
+) -> Result<RowTable, AllocError>
     ensures { (id : NodeId) → IfOk result (λ ids. has_id ids id ≡ is_open_among region columns.now id) }
 {
     let mut ids = RowTable::new(alloc);
