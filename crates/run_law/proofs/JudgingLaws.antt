@@ -106,16 +106,25 @@ module _ (first : FirstRulesDecided) (later : LaterRulesDecided) (shown : ShownF
 
 -- WHAT PASSES TELL
 
+-- where the first rule is told not to be kept, it is the least that is broken
+pub first_broken : (script : Script) (report : Report) (b : Bool) → Tells b (Keeps script report 1) → b ≡ false
+    → IsLeastBroken script report 1
+first_broken script report b tells is = record {
+  number = (omega arith, omega arith);
+  before = λ m least less. absurd (let f : ⊥ = omega (arith, least, less) in f);
+  broken = told_not b tells is;
+}
+
 -- where what the next rule asks is told to be so, it is kept
 pub next_kept : (script : Script) (report : Report) (n : ℕ) (A : Type 0) → A ↔ Keeps script report (suc n) → (b : Bool)
     → Tells b A → b ≡ true → Keeps script report (suc n)
-next_kept script report n A asked b told is = asked.0 (told_so b told is)
+next_kept script report n A asked b tells is = asked.0 (told_so b tells is)
 
 -- and where it is told not to be so, that rule is the least that is broken
 pub next_broken : (script : Script) (report : Report) (n : ℕ) → n < rule_count → Keeps script report n → (A : Type 0)
     → A ↔ Keeps script report (suc n) → (b : Bool) → Tells b A → b ≡ false → IsLeastBroken script report (suc n)
-next_broken script report n lt k A asked b told is = record {
+next_broken script report n lt k A asked b tells is = record {
   number = (omega arith, omega (arith, lt));
   before = λ m least less. keeps_fewer script report m n (omega (arith, less)) k;
-  broken = λ next. told_not b told is (asked.1 next);
+  broken = λ next. told_not b tells is (asked.1 next);
 }
