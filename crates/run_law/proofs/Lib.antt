@@ -21,6 +21,7 @@ mod FourthLemmas
 mod GuardLemmas
 mod FrontLemmas
 mod HeadLemmas
+mod JudgingLaws
 mod LeftLemmas
 mod LineOrder
 mod ListedLaws

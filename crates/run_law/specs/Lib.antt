@@ -7,6 +7,7 @@ pub mod Eleventh
 pub mod Fifth
 pub mod Fourth
 pub mod Journals
+pub mod Judging
 pub mod Keepings
 pub mod KeysRead
 pub mod LeftOpen
