@@ -21,7 +21,8 @@ mod FourthLemmas
 mod GuardLemmas
 mod FrontLemmas
 mod HeadLemmas
-mod JudgingLemmas
+mod JudgingLaws
+mod LeastLemmas
 mod LeftLemmas
 mod LineOrder
 mod ListedLaws

@@ -1,7 +1,7 @@
 -- The account that shows what reads found keeps the first nine rules where the nodes by these finds have the texts that are shown;
 -- and the last rule is decided by the decisions that are computed, where these are shown.
-use Rattle.std.proofs.Common.{◌≡◌, ◌⊎◌, ◌∙◌, refl, ap, sym, subst, true, false, ℕ, zero, suc, ◌<◌, ◌≤◌, List, [], ◌∷◌, map, Option, Some, None, inl, inr, arith}
-use Rattle.std.specs.Prelude.{◌↔◌, IsTrue, slice_get, slice_index_or}
+use Rattle.std.proofs.Common.{◌≡◌, ◌⊎◌, ◌∙◌, refl, ap, sym, subst, true, false, ℕ, zero, suc, List, [], ◌∷◌, map, Option, Some, None, inl, inr, arith}
+use Rattle.std.specs.Prelude.{IsTrue, slice_get, slice_index_or}
 use Rattle.std.specs.List.{All, AllZip}
 use Rattle.std.proofs.lemmas.List.{length-map}
 use Rattle.std.proofs.lemmas.List.Elements.{All-nil, All-cons}
@@ -41,7 +41,7 @@ use Rattle.run_rules.specs.Deciding.{account_deciding, account_showing, decision
 use Rattle.run_rules.specs.Keeping.{Keeps, RulesTo, nine, fourteen}
 use Rattle.run_rules.specs.Laws.{ComputedDecisionsDecide, ComputedFindsDecide, FindsDecide, FindsKeep, FindsTell, FoundAccountDecides}
 use Rattle.run_rules.proofs.CallerLemmas.{FoundBelow, LinesAlike, NodeBelow, SameFound, Uses, all_at, all_at_places, before_same, finding_one, found_keys_of, keeps_fewer, keys_above, lines_have, nodes_below, nodes_from, ninth_forth, obeys, one_text, over, read_ids, rule1, rule4, rule5, rule9, rule14, rules_fewer, several_same, shows_text, slice_mapped, step_with, text_shown, told_accounts_agree, told_nodes_agree, zip_at, zip_each, zip_onto}
-use Rattle.run_law.specs.Showing.{FourteenthIsDecided, SaysShown, ShowingIsFound, ShownAreDecided, ShownAreFound}
+use Rattle.run_law.specs.Showing.{FourteenthIsDecided, SaysShown, ShowingIsFound, ShownAreFound}
 
 -- TEXTS
 
@@ -70,6 +70,17 @@ said_of own (Some saying) colours t p = p.1
 same_id_shown : (shown : Option (List ℕ)) (node : Node) → (with_text shown node).id ≡ node.id
 same_id_shown None node = refl
 same_id_shown (Some text) node = refl
+
+-- a node with the text that is shown of it says that
+has_shown : (report : Report) (log : Log) (id : Id) (node : Node)
+    → slice_get (log.nodes id.client) id.count ≡ Some (with_text (shown_text report node.id) node) → node.id ≡ id
+    → (text : List ℕ) → shown_text report id ≡ Some text → HasText log id text
+has_shown report log id node there its text e = (
+  with_text (shown_text report node.id) node,
+  there,
+  same_id_shown (shown_text report node.id) node ∙ its,
+  ap (λ (o : Option (List ℕ)). (with_text o node).text) (ap (shown_text report) its ∙ e),
+)
 
 -- where nodes have the texts that are shown of them, or both are decisions', so it is of each
 as_shown : (report : Report) (xs : List Node) → AllZip HaveText (map (λ (node : Node). with_text (shown_text report node.id) node) xs) xs
@@ -282,12 +293,9 @@ module _ (found_account_decides : FoundAccountDecides) (finds_tell : FindsTell) 
         one_text a.log id id refl item.node.text first.0 h (shown_is id first.0 first.1) in
         let beside = zip_at AreNodesAlike (a.log.nodes n) (bare.log.nodes n)
         (told_nodes_agree script report a bare fits ta tb five_a five_b n has.0.0 has.0.1) id.count has.1.0 has.1.1 in
-        let its : beside.0.id ≡ id = sym beside.2.id ∙ has.1.2 in (
-          shows beside.0,
-          slice_mapped shows (bare.log.nodes n) id.count beside.0 beside.1,
-          same_id_shown (shown_text report beside.0.id) beside.0 ∙ its,
-          ap (λ (o : Option (List ℕ)). (with_text o beside.0).text) (ap (shown_text report) its ∙ first.1) ∙ sym same,
-        )
+        subst (HasText full.log id) (sym same)
+        (has_shown report full.log id beside.0 (slice_mapped shows (bare.log.nodes n) id.count beside.0 beside.1)
+        (sym beside.2.id ∙ has.1.2) first.0 first.1)
 
     pub are_kept : RulesTo script report full 9
     are_kept = (

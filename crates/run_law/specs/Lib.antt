@@ -10,6 +10,7 @@ pub mod Journals
 pub mod Judging
 pub mod Keepings
 pub mod KeysRead
+pub mod LeastOf
 pub mod LeftOpen
 pub mod Listed
 pub mod Lists

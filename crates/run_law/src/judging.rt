@@ -4,7 +4,7 @@ ghost use Rattle.script_text.specs.Fitting.{IsFitting};
 ghost use Rattle.run_rules.specs.Keeping.{RulesTo};
 ghost use Rattle.run_rules.specs.Nodes.{nodes_told};
 ghost use Rattle.run_rules.specs.Telling.{account_of};
-ghost use Rattle.run_law.specs.Judging.{IsLeastOf};
+ghost use Rattle.run_law.specs.LeastOf.{IsLeastOf};
 ghost use Rattle.run_law.specs.Walking.{MayWalk};
 
 use crate::fifth::keeps_fifth;

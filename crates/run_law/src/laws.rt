@@ -1,6 +1,7 @@
 // Laws of the rules, as a walk over commands decides them. Each function does nothing, and its contract is the law.
 ghost use Rattle.run_law.specs.Eleventh.{EleventhIsCauses};
 ghost use Rattle.run_law.specs.Fifth.{FifthIsEntering};
+ghost use Rattle.run_law.specs.Judging.{JudgedIsLawful, RulesAllStand, RulesAreAsked};
 ghost use Rattle.run_law.specs.Ninth.{NinthIsShown};
 ghost use Rattle.run_law.specs.Showing.{FourteenthIsDecided, ShowingIsFound};
 ghost use Rattle.run_law.specs.Twelfth.{TwelfthIsBare};
@@ -9,8 +10,10 @@ use col_core::region_order_is_unique;
 use part_fold::decisions_are_plain;
 use playback::region_order_is_lawful;
 use run_rules::{
-    computed_account_agrees, computed_finds_decide, finds_decide, finds_keep, finds_tell,
-    found_account_decides, nodes_are_told, nodes_change_no_step,
+    broken_is_unlawful, computed_account_agrees, computed_finds_decide, finds_decide, finds_keep,
+    finds_tell, first_rules_decided, found_account_decides, later_rules_decided,
+    lawful_runs_keep_rules, ninth_rule_decided, nodes_are_told, nodes_change_no_step,
+    rules_make_lawful,
 };
 
 /// A report that keeps the first four rules enters the nodes of its commands where the first five hold at the account with these.
@@ -68,4 +71,37 @@ pub fn fourteenth_is_decided()
     region_order_is_unique();
     region_order_is_lawful();
     decisions_are_plain();
+}
+
+/// Rule by rule, what is asked of a report that keeps those before, at the account by which the rule is decided.
+pub fn rules_are_asked()
+    ensures { RulesAreAsked }
+{
+    first_rules_decided();
+    later_rules_decided();
+    ninth_rule_decided();
+    fourteenth_is_decided();
+    region_order_is_unique();
+    region_order_is_lawful();
+    decisions_are_plain();
+}
+
+/// Where a report keeps the rules to a number, they hold at these accounts.
+pub fn rules_stand()
+    ensures { RulesAllStand }
+{
+    first_rules_decided();
+    later_rules_decided();
+    region_order_is_unique();
+    region_order_is_lawful();
+    decisions_are_plain();
+}
+
+/// A report that hides nothing is judged to be lawful where it is that of a lawful run.
+pub fn judged_is_lawful()
+    ensures { JudgedIsLawful }
+{
+    lawful_runs_keep_rules();
+    rules_make_lawful();
+    broken_is_unlawful();
 }

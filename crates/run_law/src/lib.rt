@@ -19,6 +19,7 @@ mod fronts;
 mod going_on;
 mod helpers;
 mod journals;
+mod judged;
 mod judging;
 mod keeping;
 mod keys_read;
@@ -68,11 +69,12 @@ pub use fifth::keeps_fifth;
 pub use first::keeps_first;
 pub use fourth::keeps_fourth;
 pub use journals::tracks_of;
+pub use judged::Judged;
 pub use judging::least_of_nine;
 pub use keeping::Keeping;
 pub use laws::{
-    eleventh_is_causes, fifth_is_entering, fourteenth_is_decided, ninth_is_shown, showing_is_found,
-    twelfth_is_bare,
+    eleventh_is_causes, fifth_is_entering, fourteenth_is_decided, judged_is_lawful, ninth_is_shown,
+    rules_are_asked, rules_stand, showing_is_found, twelfth_is_bare,
 };
 pub use left_open::keeps_eighth;
 pub use ninth::keeps_ninth;

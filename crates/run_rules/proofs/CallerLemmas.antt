@@ -22,3 +22,4 @@ pub use Rattle.run_rules.proofs.NinthRule.{LinesAlike, ninth_forth}
 pub use Rattle.run_rules.proofs.SameKept.{before_same}
 pub use Rattle.run_rules.proofs.ToldAlike.{several_same}
 pub use Rattle.run_rules.proofs.DecisionsAlike.{computed_decisions_decide}
+pub use Rattle.run_rules.proofs.ShownDecides.{shown_finds_decide}

@@ -1,6 +1,6 @@
 use Rattle.run_rules.specs.Nodes.{nodes_told}
 use Rattle.run_rules.specs.Telling.{account_of}
-use Rattle.run_law.proofs.JudgingLemmas.{eighth_broken, eighth_of, nine_kept, ninth_broken, seventh_broken, sixth_broken, to_eighth, to_seventh, to_sixth}
+use Rattle.run_law.proofs.LeastLemmas.{eighth_broken, eighth_of, nine_kept, ninth_broken, seventh_broken, sixth_broken, to_eighth, to_seventh, to_sixth}
 use Rattle.run_law.proofs.judging.least_from_sixth.Goals as goal
 
 pub returns-then-not-branch : goal.returns-then-not-branch

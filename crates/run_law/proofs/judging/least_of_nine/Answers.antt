@@ -1,25 +1,26 @@
 use Rattle.std.proofs.Common.{◌∙◌, subst}
 use Rattle.run_law.specs.Journals.{AreTracksOf}
-use Rattle.run_law.proofs.JudgingLemmas.{first_kept, held, may_walk, not_held, second_broken, third_broken}
+use Rattle.run_law.proofs.LeastLemmas.{first_kept, may_walk, second_broken, third_broken}
+use Rattle.run_law.proofs.Lists.{told_not, told_so}
 use Rattle.run_law.proofs.judging.least_of_nine.Goals as goal
 
 pub tracks_of-requires-clause-columns : goal.tracks_of-requires-clause-columns
 tracks_of-requires-clause-columns c =
     (first_kept c.first_rules_decided.ensures c.args.script.now c.args.report.now c.requires
-    (held _ _ c.if-not-branch.false c.in_ok-keeps_first.ensures)).1.columns
+    (told_so _ c.in_ok-keeps_first.ensures c.if-not-branch.false)).1.columns
 
 pub returns-in_default : goal.returns-in_default
 returns-in_default c =
     let script = c.args.script.now in
     let report = c.args.report.now in
     second_broken c.first_rules_decided.ensures script report c.requires
-    (held _ _ c.if-not-branch.false c.in_ok-keeps_first.ensures)
+    (told_so _ c.in_ok-keeps_first.ensures c.if-not-branch.false)
     (subst (AreTracksOf script report) c.in_default.is c.in_ok-tracks.ensures)
 
 pub keeps_third-requires-clause-formed : goal.keeps_third-requires-clause-formed
 keeps_third-requires-clause-formed c =
     (first_kept c.first_rules_decided.ensures c.args.script.now c.args.report.now c.requires
-    (held _ _ c.if-not-branch.false c.in_ok-keeps_first.ensures)).0
+    (told_so _ c.in_ok-keeps_first.ensures c.if-not-branch.false)).0
 
 pub keeps_third-requires-clause-tracked : goal.keeps_third-requires-clause-tracked
 keeps_third-requires-clause-tracked c =
@@ -28,7 +29,7 @@ keeps_third-requires-clause-tracked c =
     record {
       numbers =
           (first_kept c.first_rules_decided.ensures script report c.requires
-          (held _ _ c.if-not-branch.false c.in_ok-keeps_first.ensures)).1.columns;
+          (told_so _ c.in_ok-keeps_first.ensures c.if-not-branch.false)).1.columns;
       tracks_are = c.as_slice.ensures ∙ (subst (AreTracksOf script report) c.in-Some.is c.in_ok-tracks.ensures).0;
     }
 
@@ -37,9 +38,9 @@ returns-then-not-branch-2 c =
     let script = c.args.script.now in
     let report = c.args.report.now in
     third_broken c.first_rules_decided.ensures script report c.requires
-    (held _ _ c.if-not-branch.false c.in_ok-keeps_first.ensures)
+    (told_so _ c.in_ok-keeps_first.ensures c.if-not-branch.false)
     (subst (AreTracksOf script report) c.in-Some.is c.in_ok-tracks.ensures).1
-    (not_held _ _ c.if-not-branch-2.true c.in_ok-keeps_third.ensures)
+    (told_not _ c.in_ok-keeps_third.ensures c.if-not-branch-2.true)
 
 pub least_walked-requires : goal.least_walked-requires
 least_walked-requires c =
@@ -47,5 +48,5 @@ least_walked-requires c =
     let report = c.args.report.now in
     let are = subst (AreTracksOf script report) c.in-Some.is c.in_ok-tracks.ensures in
     may_walk c.first_rules_decided.ensures script report c.requires c.as_slice-2.result.now (c.as_slice-2.ensures ∙ are.0)
-    (held _ _ c.if-not-branch.false c.in_ok-keeps_first.ensures) are.1
-    (held _ _ c.if-not-branch-2.false c.in_ok-keeps_third.ensures)
+    (told_so _ c.in_ok-keeps_first.ensures c.if-not-branch.false) are.1
+    (told_so _ c.in_ok-keeps_third.ensures c.if-not-branch-2.false)
