@@ -35,9 +35,7 @@ fn change_breaks<R: Abort>(
     change: &Change,
 ) -> Result<(), Fail> {
     let (right, wrong, rule) = *change;
-    let Some((before, behind)) = report.split_once(right) else {
-        unreachable!();
-    };
+    let (before, behind) = report.split_once(right).expect(rt, "the part is there");
     let mut changed = String::from_str(alloc, before)?;
     changed.push_str(wrong)?;
     changed.push_str(behind)?;
