@@ -1,5 +1,6 @@
 mod AllReplies
 mod AskedIs
+mod BehindLemmas
 mod CanTold
 mod ClosingLemmas
 mod ColumnPlaces
@@ -14,6 +15,7 @@ mod ListedLaws
 mod ListedLemmas
 mod LineOrder
 mod Lists
+mod MadeLemmas
 mod Members
 mod NextNodes
 mod NinthLaws
@@ -22,6 +24,7 @@ mod Once
 mod OrderLemmas
 mod PastLemmas
 mod PlaceLemmas
+mod PlayedLemmas
 mod PrintLemmas
 mod ProposalLemmas
 mod ReadDecides

@@ -1,15 +1,14 @@
 -- What is looked up of all columns, and of one of them.
-use Rattle.std.proofs.Common.{◌≡◌, ◌⊎◌, ℕ, zero, suc, ◌+◌, ◌*◌, ◌^◌, ◌<◌, ◌≤◌, Bool, true, false, ◌&&◌, ◌==◌, cond, List, [], ◌∷◌, ◌++◌, length, map, take, Option, Some, None, inl, inr, refl, ap, sym, subst, ◌∙◌, arith, get_or}
-use Rattle.std.specs.Prelude.{slice_get, slice_index_or}
+use Rattle.std.proofs.Common.{◌≡◌, ◌⊎◌, ℕ, zero, suc, ◌+◌, ◌*◌, ◌^◌, ◌<◌, ◌≤◌, Bool, true, false, ◌&&◌, ◌==◌, cond, List, [], ◌∷◌, ◌++◌, length, take, Some, None, inl, inr, refl, ap, sym, subst, ◌∙◌, arith, get_or}
+use Rattle.std.specs.Prelude.{nat_lt, slice_get, slice_index_or}
 use Rattle.std.specs.List.{filter}
-use Rattle.std.proofs.lemmas.Bool.{and_parts, cases_Bool, eqb-true}
-use Rattle.std.proofs.lemmas.List.{length-append, length-map, length-take-le, take_more}
+use Rattle.std.proofs.lemmas.Bool.{and_parts, cases_Bool, eqb-true, le-ltb, ltb-false, ltb-true}
+use Rattle.std.proofs.lemmas.List.{length-append, length-map, take_more}
 use Rattle.std.proofs.lemmas.Option.{get_or_from_slice_get, slice_get_within}
 use Rattle.log_node.proofs.CallerLemmas.{get_within, same_some}
 use Rattle.col_core.specs.declared.Entry.{Entry}
 use Rattle.col_core.proofs.CallerLemmas.{In}
 use Rattle.script_text.specs.Fitting.{IsFitting}
-use Rattle.script_text.specs.declared.limits.Limits.{Limits}
 use Rattle.script_text.specs.declared.limits.TheConstants.{VERSION_1, VERSION_2}
 use Rattle.script_text.specs.declared.script.Command.{Command}
 use Rattle.script_text.specs.declared.script.Script.{Script}
@@ -22,6 +21,7 @@ use Rattle.run_rules.specs.Telling.{journal_among}
 use Rattle.run_law.specs.declared.column_places.ColumnPlaces.{ColumnPlaces}
 use Rattle.run_law.specs.declared.finals.Finals.{Finals}
 use Rattle.run_law.specs.declared.printed.Printed.{Printed}
+use Rattle.run_law.specs.Behind.{HasColumn}
 use Rattle.run_law.specs.Columns.{AreTracked}
 use Rattle.run_law.specs.PlaceTables.{AreOfClients, is_asked_by, numbers_where, places_at}
 use Rattle.run_law.specs.RowsBeside.{history_or}
@@ -29,7 +29,7 @@ use Rattle.run_law.specs.Subjects.{AreAllPlaces, ArePlacesOf, AtColumn, IsSubjec
 use Rattle.run_law.specs.Walking.{MayWalk, Walked}
 use Rattle.run_law.proofs.ColumnPlaces.{column_there, column_within, region_is, there_within, track_is}
 use Rattle.run_law.proofs.PrintLemmas.{where_item, where_length}
-use Rattle.run_law.proofs.ThirdLemmas.{journal_there}
+use Rattle.run_law.proofs.ThirdLemmas.{few_colours, journal_there}
 
 -- an item of a list with one more
 longer_cases : {A : Type 0} (xs : List A) (x y : A) (n : ℕ) → slice_get (xs ++ x ∷ []) n ≡ Some y
@@ -176,6 +176,28 @@ module _ (script : Script) (report : Report) (tracks : List Tracked) (may : MayW
             → k < script.shape.colours → r ≡ region → k ≡ colour → ⊥
         outside (inl ge) lt low r k = let f : ⊥ = omega (arith, ge, lt, r) in f
         outside (inr ge) lt low r k = let f : ⊥ = omega (arith, ge, low, k) in f
+
+  -- whether the column is one of the shape
+  pub column_told : (region colour : ℕ) → region < script.shape.regions
+      → HasColumn (record { script = script; report = report }) region colour (nat_lt colour script.shape.colours)
+  column_told region colour lt = by (cases_Bool (nat_lt colour script.shape.colours)) where
+    by : (nat_lt colour script.shape.colours ≡ true) ⊎ (nat_lt colour script.shape.colours ≡ false)
+        → HasColumn (record { script = script; report = report }) region colour (nat_lt colour script.shape.colours)
+    by (inl t) =
+        let low = ltb-true colour script.shape.colours t in
+        let four = few_regions script may.fitting in
+        let few = few_colours script may.fitting in
+        subst (HasColumn (record { script = script; report = report }) region colour) (sym t)
+        (lt, low, (omega (arith, lt, four), omega (arith, low, few)))
+    by (inr f) =
+        subst (HasColumn (record { script = script; report = report }) region colour) (sym f)
+        (column_none region colour (inr (ltb-false colour script.shape.colours f)))
+
+  pub column_off : (region colour : ℕ) → script.shape.regions ≤ region
+      → HasColumn (record { script = script; report = report }) region colour (nat_lt region script.shape.regions)
+  column_off region colour ge =
+      subst (HasColumn (record { script = script; report = report }) region colour)
+      (sym (le-ltb region script.shape.regions ge)) (column_none region colour (inl ge))
 
   pub track_at : (region colour n : ℕ) (t : Tracked) → region < script.shape.regions → colour < script.shape.colours
       → n ≡ region * script.shape.colours + colour → t ≡ get_or tracks n t

@@ -50,7 +50,7 @@ record Few (a b : Kept) : Type 0 where
   pub ids : b.ids ≤ a.ids + 1
   pub rows : b.rows ≤ a.rows + 1
 
-record Same (a b : Kept) : Type 0 where
+pub record Same (a b : Kept) : Type 0 where
   pub ids : b.ids ≡ a.ids
   pub rows : b.rows ≡ a.rows
 
@@ -98,7 +98,7 @@ module _ (log : Log) (caller : Caller) where
       let both = same_then k raised (kept_after_syncs log caller raised syncs) s t in
       record { ids = both.ids; rows = both.rows }
 
-  points_same : (k : Kept) (points : List PointPiece) → Same k (kept_after_points k caller.own points)
+  pub points_same : (k : Kept) (points : List PointPiece) → Same k (kept_after_points k caller.own points)
   points_same k points =
       folded (λ (h : Kept) (p : PointPiece). kept_after_point h caller.own p.colour p.at p.position)
       (λ h p. record { ids = refl; rows = refl }) points k

@@ -45,7 +45,7 @@ greatest_of walked own colour events from to region =
     greatest (map (λ (h : Head). h.key.stamp)
     (nodes_between (chain own (first (log_walked walked) own colour events)) from to region))
 
--- What the step of a client in this place keeps is counted when its command is answered so, and what the reply leaves out is
+-- The client's command in this place is answered so. What it keeps then is counted, and of what the reply leaves out this is
 -- what the report tells.
 pub record IsAnswered (walked : Walked) (client place : ℕ) (what : What) (answer : Answer) (kept : Kept) (untold : Untold)
     (counted : Counted) : Type 0 where

@@ -53,6 +53,7 @@ impl Keeping {
             (with_made kept (caller_of subject.now.script client).own (steps_untold subject.now client kept.ids)) self.new) }
         ensures count { OnOk result (KeepsCount self.old self.new) }
     {
+        subject.agrees();
         let own = subject.own(client);
         let count = self.ids();
         for colour in 0..subject.script().shape.colours {
@@ -102,20 +103,22 @@ impl Keeping {
         ensures rows { OnOk result (self.new.rows ≤ self.old.rows + 1) }
     {
         let own = subject.own(client);
-        if row.is_some() {
-            self.points(own, points);
-            self.raise_floor(stamp);
-            return self.begin_row(alloc, subject, client);
-        }
-        match points.first() {
-            Some(point) => self.single(
-                own,
-                point.colour,
-                events_until(point.at),
-                stamp,
-                point.position,
-            ),
-            None => Ok(()),
+        match row {
+            Some(_) => {
+                self.points(own, points);
+                self.raise_floor(stamp);
+                self.begin_row(alloc, subject, client)
+            }
+            None => match points.first() {
+                Some(point) => self.single(
+                    own,
+                    point.colour,
+                    events_until(point.at),
+                    stamp,
+                    point.position,
+                ),
+                None => Ok(()),
+            },
         }
     }
 

@@ -3,7 +3,7 @@ ghost use Rattle.std.specs.Prelude.{◌≡◌, ◌<◌, ◌^◌, IfOk, List, Som
 ghost use Rattle.lawful_run.specs.Callers.{caller_of, commands_of};
 ghost use Rattle.run_rules.specs.Told.{stamp_of};
 ghost use Rattle.run_rules.specs.Telling.{replies_to};
-ghost use Rattle.run_law.specs.PlaceTables.{final_of, row_with};
+ghost use Rattle.run_law.specs.PlaceTables.{final_of, is_own_step, numbers_where, row_with};
 ghost use Rattle.run_law.specs.Behind.{HasColumn, steps_untold};
 ghost use Rattle.run_law.specs.Subjects.{AtColumn};
 ghost use Rattle.run_law.specs.Walking.{IsStepOf, MayWalk, journal_walked};
@@ -159,13 +159,20 @@ impl<'r> Subject<'r> {
         &self.replies(client)[place]
     }
 
+    /// Whether the column is one of the shape.
+    pub(crate) fn has_column(&self, region: u8, colour: u8) -> bool
+        ensures { HasColumn self.now region colour result }
+    {
+        let shape = &self.script.shape;
+        region < shape.regions && colour < shape.colours
+    }
+
     // At which place the column stands among all, where it is one of the shape.
     fn column(&self, region: u8, colour: u8) -> Option<usize>
         ensures { AtColumn self.now.script self.now.report region colour result }
     {
-        let shape = &self.script.shape;
-        if region < shape.regions && colour < shape.colours {
-            Some(column_place(shape.colours, region, colour))
+        if self.has_column(region, colour) {
+            Some(column_place(self.script.shape.colours, region, colour))
         } else {
             None
         }
@@ -180,14 +187,6 @@ impl<'r> Subject<'r> {
             Some(at) => self.report.columns.as_slice()[at].journal.as_slice(),
             None => &[],
         }
-    }
-
-    /// Whether the column is one of the shape.
-    pub(crate) fn has_column(&self, region: u8, colour: u8) -> bool
-        ensures { HasColumn self.now region colour result }
-    {
-        let _may = &self.finals;
-        self.column(region, colour).is_some()
     }
 
     /// The track of a column.
@@ -213,6 +212,16 @@ impl<'r> Subject<'r> {
         }
     }
 
+    // The places of the own steps of an id in a column.
+    fn all_steps(&self, region: u8, colour: u8, id: Id) -> &[u64]
+        ensures { result.now ≡ numbers_where (is_own_step id) 0 (journal_walked self.now region colour) }
+    {
+        match self.column(region, colour) {
+            Some(at) => self.places[at].steps.steps(id),
+            None => &[],
+        }
+    }
+
     /// The places, in a column of a client's region, of its own steps of the id of this count that no reply to it prints.
     pub(crate) fn steps(
         &self,
@@ -226,11 +235,9 @@ impl<'r> Subject<'r> {
     {
         let own = self.own(client);
         let mut places = ListOf::new(alloc);
-        if let Some(at) = self.column(own, colour) {
-            for place in self.places[at].steps.steps(Id { client, count }) {
-                if !self.printed.has(client, own, colour, *place) {
-                    places.push(*place)?;
-                }
+        for place in self.all_steps(own, colour, Id { client, count }) {
+            if !self.printed.has(client, own, colour, *place) {
+                places.push(*place)?;
             }
         }
         Ok(places)

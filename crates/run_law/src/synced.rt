@@ -86,9 +86,8 @@ impl Keeping {
             return own;
         }
         let past = self.past(region, colour);
-        let from = own.partition_point(|made| (*made as u128) < past);
-        let to = own.partition_point(|made| *made < place);
-        &own[from.min(to)..to]
+        let before = &own[..own.partition_point(|made| *made < place)];
+        &before[before.partition_point(|made| (*made as u128) < past)..]
     }
 
     // Behind a pull.
