@@ -6,6 +6,7 @@ mod ClosingLemmas
 mod ColumnPlaces
 mod CopiesLemmas
 mod CopyLemmas
+mod EnteringLemmas
 mod FifthLaws
 mod FinalLemmas
 mod FirstLemmas

@@ -30,8 +30,10 @@ use Rattle.run_rules.specs.Telling.{IsWellFormed, account_of, marked_colours, no
 use Rattle.run_rules.specs.Rules.{EntersAsNode}
 use Rattle.run_rules.specs.Nodes.{nodes_told}
 use Rattle.run_rules.specs.Keeping.{RulesTo}
+use Rattle.run_law.specs.declared.row_places.RowPlaces.{RowPlaces}
 use Rattle.run_law.specs.PlaceTables.{places_at, row_with}
 use Rattle.run_law.specs.Proposals.{proposal}
+use Rattle.run_law.specs.RowPlaces.{place_in, row_at}
 use Rattle.run_law.specs.RowsBeside.{rows_by}
 use Rattle.run_law.specs.Third.{rows_in}
 use Rattle.run_law.specs.Walking.{Walked, log_walked}
@@ -113,6 +115,21 @@ EntersNode find walked caller step =
     OfNode (EntersBeside find walked.script.shape.colours (log_walked walked) caller step.command.what) (log_walked walked) caller
     (kept_at step) step.command.what step.reply.answer
 
+-- A walk looks at the node when it is appended: by what the client keeps then, and by the row and the points of the answer.
+abbrev pub OfAppended : (Kept → Option ℕ → List PointPiece → Type 0) → Caller → Kept → What → Answer → Type 0
+OfAppended P caller kept what (answers.Decided commits stamp sync read_stamp raises syncs ended) = OfEnd P kept ended
+OfAppended P caller kept what answer = OfPlain P caller kept what answer
+
+-- how rows are found by a table of their places
+abbrev pub finding_in : RowPlaces → List RowReport → Finding
+finding_in table rows region id = row_at rows (place_in table region id)
+
+-- what is asked of a client's node, by the rows that a table finds
+abbrev pub EntersSo : RowPlaces → Walked → ℕ → What → Kept → Option ℕ → List PointPiece → Type 0
+EntersSo table walked client what =
+    EntersBeside (finding_in table walked.report.rows) walked.script.shape.colours (log_walked walked)
+    (caller_of walked.script client) what
+
 -- EVENTS
 
 -- an event that proposes a node tells this floor and these wants
@@ -142,6 +159,13 @@ pub record HasItsRows (ids rows : ℕ) (counts : List ℕ) : Type 0 where
   pub used : All (λ count. count < ids) counts
 
 -- THE RULE
+
+-- what is looked at of one client
+pub record EntersItsOwn (script : Script) (report : Report) (client : ℕ) : Type 0 where
+  pub steps : All (EntersNode (λ region id. row_with region id report.rows) (record { script = script; report = report })
+      (caller_of script client)) ((account_of script report no_nodes).steps client)
+  pub rows : HasItsRows ((account_of script report no_nodes).last client).ids
+      ((account_of script report no_nodes).last client).rows (row_ids script client report.rows)
 
 -- what is looked at of a report
 pub record EntersItsNodes (script : Script) (report : Report) : Type 0 where

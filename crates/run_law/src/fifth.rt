@@ -1,24 +1,30 @@
 // The fifth rule: the nodes of commands, their events and their rows.
-ghost use Rattle.std.specs.Prelude.{◌≡◌, ◌<◌, IfOk};
+ghost use Rattle.std.specs.Prelude.{◌≡◌, ◌<◌, IfOk, length};
 ghost use Rattle.std.specs.List.{All};
 ghost use Rattle.col_core.specs.declared.Event.TheVariants as events;
 ghost use Rattle.col_core.specs.Keeping.{Kept};
 ghost use Rattle.lawful_run.specs.Callers.{caller_of};
 ghost use Rattle.column_track.specs.Tracks.{Tells};
 ghost use Rattle.run_rules.specs.Told.{colours_asked};
-ghost use Rattle.run_rules.specs.Telling.{marked_colours, replies_to};
-ghost use Rattle.run_rules.specs.Rules.{EntersAsNode};
-ghost use Rattle.run_law.specs.Fifth.{AreRowIds, FencesNode, HasItsRows, IsNextRow, MarksNext, ProposesNode, ProposesSo};
+ghost use Rattle.run_rules.specs.Telling.{account_of, marked_colours, no_nodes, replies_to};
+ghost use Rattle.run_rules.specs.Rules.{EntersAsNode, Rule4};
+ghost use Rattle.run_rules.specs.Nodes.{nodes_told};
+ghost use Rattle.run_rules.specs.Keeping.{RulesTo};
+ghost use Rattle.run_law.specs.Fifth.{AreRowIds, EntersItsNodes, EntersItsOwn, FencesNode, HasItsRows, IsNextRow, MarksNext, ProposesNode, ProposesSo};
 ghost use Rattle.run_law.specs.Keepings.{IsCounted};
 ghost use Rattle.run_law.specs.Proposals.{proposal};
+ghost use Rattle.run_law.specs.RowPlaces.{AreRowPlaces};
 ghost use Rattle.run_law.specs.Walking.{log_walked};
 
 use crate::asked::colours_asked;
 use crate::going_on::events_until;
 use crate::keeping::Keeping;
+use crate::laws::fifth_is_entering;
 use crate::place_lists::PlaceLists;
+use crate::row_places::RowPlaces;
 use crate::rows::{is_at_end, is_client_in};
 use crate::subject::Subject;
+use crate::walking::walk;
 use col_core::{Entry, Event};
 use column_track::Track;
 use log_node::{ColourList, ColourMark, Counts, Id, Mark, Why};
@@ -101,8 +107,8 @@ fn enters_single(event: &Event, id: Id, floor: u64, wants: Counts) -> bool
 
 // THE NEXT NODE
 
-// Whether an append to one colour has its event at its point, if one is there.
-fn enters_as_node(
+/// Whether an append to one colour has its event at its point, if one is there.
+pub(crate) fn enters_as_node(
     subject: &Subject<'_>,
     client: u8,
     own: u8,
@@ -194,8 +200,8 @@ fn same_colours(one: &[u8], other: &[u8]) -> bool
     one == other
 }
 
-// Whether a row is that of the client's next node, of these colours.
-fn is_next_row(
+/// Whether a row is that of the client's next node, of these colours.
+pub(crate) fn is_next_row(
     alloc: Global,
     subject: &Subject<'_>,
     client: u8,
@@ -225,8 +231,8 @@ fn is_next_row(
 }
 
 impl Keeping {
-    // The id of the node that a client appends next.
-    fn next_id(&self, client: u8) -> Id
+    /// The id of the node that a client appends next.
+    pub(crate) fn next_id(&self, client: u8) -> Id
         ensures { result ≡ record { client = client; count = self.now.ids } }
     {
         Id {
@@ -235,8 +241,8 @@ impl Keeping {
         }
     }
 
-    // The colours on which a command appends.
-    fn asked(
+    /// The colours on which a command appends.
+    pub(crate) fn asked(
         &self,
         alloc: Global,
         subject: &Subject<'_>,
@@ -295,4 +301,58 @@ fn has_its_rows(keeping: &Keeping, ids: &[u64]) -> bool
         return false;
     }
     are_below(ids, keeping.ids())
+}
+
+// Whether a client enters its nodes, and has the rows of these.
+fn enters_its_own(
+    alloc: Global,
+    subject: &Subject<'_>,
+    client: u8,
+    places: &RowPlaces,
+    ids: &PlaceLists,
+) -> Result<bool, AllocError>
+    requires walker { client < length subject.now.report.clients }
+    requires places { AreRowPlaces subject.now.report.rows places.now }
+    requires ids { AreRowIds subject.now.script subject.now.report.rows ids.now }
+    ensures { IfOk result (λ b. Tells b (EntersItsOwn subject.now.script subject.now.report client)) }
+{
+    subject.agrees();
+    match walk(alloc, subject, client, places)? {
+        Some(keeping) => Ok(has_its_rows(&keeping, ids.places(client))),
+        None => Ok(false),
+    }
+}
+
+// Whether all clients do.
+fn enter_their_own(
+    alloc: Global,
+    subject: &Subject<'_>,
+    places: &RowPlaces,
+    ids: &PlaceLists,
+) -> Result<bool, AllocError>
+    requires places { AreRowPlaces subject.now.report.rows places.now }
+    requires ids { AreRowIds subject.now.script subject.now.report.rows ids.now }
+    ensures { IfOk result (λ b. Tells b (EntersItsNodes subject.now.script subject.now.report)) }
+{
+    for client in 0..subject.clients() {
+        if !enters_its_own(alloc, subject, client, places, ids)? {
+            return Ok(false);
+        }
+    }
+    Ok(true)
+}
+
+/// Whether a report that keeps the first four rules keeps the fifth one, at the account with the nodes of its commands: each id is
+/// that of a command's node, with the floor and the wants that its client had, and each row is for one of these.
+pub fn keeps_fifth(alloc: Global, subject: &Subject<'_>) -> Result<bool, AllocError>
+    requires { Rule4 subject.now.script subject.now.report (account_of subject.now.script subject.now.report no_nodes) }
+    ensures { IfOk result (λ b. Tells b (RulesTo subject.now.script subject.now.report
+        (account_of subject.now.script subject.now.report (nodes_told subject.now.script subject.now.report)) 5)) }
+{
+    fifth_is_entering();
+    subject.agrees();
+    let rows = subject.report().rows.as_slice();
+    let places = RowPlaces::of_rows(alloc, rows)?;
+    let ids = row_ids(alloc, subject.script(), rows)?;
+    enter_their_own(alloc, subject, &places, &ids)
 }

@@ -7,6 +7,7 @@ mod behind;
 mod can_have;
 mod column_places;
 mod copies;
+mod entering;
 mod fifth;
 mod finals;
 mod first;
@@ -38,6 +39,7 @@ mod texts;
 mod third;
 mod walking;
 
+pub use fifth::keeps_fifth;
 pub use first::keeps_first;
 pub use journals::tracks_of;
 pub use keeping::Keeping;

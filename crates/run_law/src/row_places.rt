@@ -1,8 +1,9 @@
 // At which place each row stands among all, by its region and its id.
 ghost use Rattle.std.specs.Prelude.{◌≡◌, ℕ, IfOk, None, OnOk, Some, if◌then◌else◌};
+ghost use Rattle.std.specs.Option.{option_copied};
 ghost use Rattle.log_node.specs.declared.ids.Id.{Id as NodeId};
 ghost use Rattle.run_law.specs.PlaceTables.{same_row};
-ghost use Rattle.run_law.specs.RowPlaces.{AreRowPlaces, place_in};
+ghost use Rattle.run_law.specs.RowPlaces.{AreRowPlaces, place_in, row_at};
 
 use crate::finals::RowId;
 use log_node::Id;
@@ -35,11 +36,21 @@ impl RowPlaces {
         Ok(())
     }
 
-    /// The place of the first row of a region with this id, if there is one.
-    pub(crate) fn place(&self, region: u8, id: Id) -> Option<usize>
+    // The place of the first row of a region with this id, if there is one.
+    fn place(&self, region: u8, id: Id) -> Option<usize>
         ensures { result ≡ place_in self.now region id }
     {
         self.by_row.get(&RowId { region, id }).copied()
+    }
+
+    /// The first row of a region with this id, if there is one, of the rows whose places these are.
+    pub(crate) fn row<'r>(&self, rows: &'r [RowReport], region: u8, id: Id) -> Option<&'r RowReport>
+        ensures { option_copied result ≡ row_at rows.now (place_in self.now region id) }
+    {
+        match self.place(region, id) {
+            Some(place) => rows.get(place),
+            None => None,
+        }
     }
 
     /// The places of all rows.
