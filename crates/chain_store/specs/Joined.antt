@@ -10,23 +10,19 @@ use Rattle.ring_ends.specs.declared.sends.Sends.{Sends}
 use Rattle.ring_ends.specs.declared.receives.Receives.{Receives}
 use Rattle.ring_ends.specs.Places.{ring_place}
 use Rattle.ring_ends.specs.Rings.{gone, got, names_of, RingNames, IsForRegions}
-use Rattle.ring_ends.specs.NewRings.{AreAt}
+use Rattle.ring_ends.specs.NewRings.{AreAt, IsJoined}
 use Rattle.chain_store.specs.declared.closed.ClosedRegion.{ClosedRegion}
 
 -- the ends of the regions' rings, by region and colour
 abbrev pub ends_in : List ClosedRegion → List (List Rings)
 ends_in closed = map (λ (c : ClosedRegion). c.ends.items) closed
 
--- the end of the ring to b in the column of region a, and the end of the ring from a in that of b, are of one ring
-abbrev pub AreOfOneRing : ℕ → ℕ → Rings → Rings → Type 0
-AreOfOneRing a b x y = slice_get (names_of x).sends (ring_place a b) ≡ slice_get (names_of y).receives (ring_place b a)
-
 -- By each colour, a region's end of the ring to another and the other's end of the ring from it are of one ring.
 pub record AreJoined (regions colours : ℕ) (all : List (List Rings)) : Type 0 where
   pub regions_of : length all ≡ regions
   pub colours_of : All (λ (ends : List Rings). length ends ≡ colours) all
   pub each : (region colour : ℕ) (x : Rings) → AreAt all region colour x → IsForRegions regions x
-  pub joined : (colour a b : ℕ) (x y : Rings) → a ≢ b → AreAt all a colour x → AreAt all b colour y → AreOfOneRing a b x y
+  pub joined : (colour a b : ℕ) (x y : Rings) → a ≢ b → AreAt all a colour x → AreAt all b colour y → IsJoined a b x y
 
 -- what came out of the ring from a to b is a beginning of what went into it
 abbrev pub IsAlong : ℕ → ℕ → Rings → Rings → Type 0
@@ -67,8 +63,8 @@ ended_past c = record { columns = c.columns; rows = c.rows; rings = map past_of 
 pub record AreBetween (regions a b : ℕ) (x y : Rings) : Type 0 where
   pub first : IsForRegions regions x
   pub second : IsForRegions regions y
-  pub there : AreOfOneRing a b x y
-  pub back : AreOfOneRing b a y x
+  pub there : IsJoined a b x y
+  pub back : IsJoined b a y x
 
 -- so are those of all colours
 abbrev pub AreAllBetween : ℕ → ℕ → ℕ → List Rings → List Rings → Type 0

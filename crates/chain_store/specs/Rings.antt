@@ -1,21 +1,23 @@
 -- What a column's rings stand for: what was sent is a beginning of its own line, what was received is what it carried, then
 -- what waits.
-use Rattle.std.specs.Prelude.{◌≡◌, ◌≢◌, ℕ, ◌+◌, ◌<◌, List, [], ◌∷◌, ◌++◌, map, Some, slice_get}
+use Rattle.std.specs.Prelude.{◌≡◌, ◌≢◌, ◌⊎◌, ℕ, ◌+◌, ◌<◌, ◌≤◌, length, List, [], ◌∷◌, ◌++◌, map, Some, slice_get}
 use Rattle.std.specs.List.{flat_map}
 use mathlib.Core.List.{IsPrefix}
 use Rattle.log_node.specs.declared.node.Head.{Head}
 use Rattle.log_node.specs.declared.node.Node.{Node}
 use Rattle.log_node.specs.Seen.{PlacedNode}
+use Rattle.log_node.specs.Vectors.{at}
+use Rattle.col_core.specs.History.{line}
 use Rattle.col_core.specs.Cuts.{carried, chain}
 use Rattle.col_core.specs.Legal.{IsColumnHistory}
 use Rattle.col_core.specs.Computed.{dated}
-use Rattle.column.specs.Columns.{ColumnState, chains_of, HasStored}
+use Rattle.column.specs.Columns.{ColumnState, base_of, chains_of, HasStored}
 use Rattle.ring_ends.specs.declared.rings.Rings.{Rings}
 use Rattle.ring_ends.specs.declared.sends.Sends.{Sends}
 use Rattle.ring_ends.specs.declared.receives.Receives.{Receives}
 use Rattle.ring_ends.specs.Givens.{OfTheirHeads}
 use Rattle.ring_ends.specs.Places.{ring_place}
-use Rattle.ring_ends.specs.Rings.{gone, got}
+use Rattle.ring_ends.specs.Rings.{gone, got, room_of}
 use Rattle.chain_store.specs.declared.told.Tag.{Tag}
 use Rattle.chain_store.specs.declared.told.Told.{Told}
 use Rattle.chain_store.specs.Histories.{entries_in, EntersAs}
@@ -34,6 +36,12 @@ carried_from region log = flat_map (λ (t : Told). under (carried region t.entry
 abbrev pub AreNextOwn : ColumnState → ℕ → List PlacedNode → Type 0
 AreNextOwn column start items = (n : ℕ) (i : PlacedNode) → slice_get items n ≡ Some i
     → (slice_get (chains_of column column.region) (start + n) ≡ Some i.head) × HasStored column i.head.key i.node
+
+-- the ring has no room that is known of, or the whole own line has gone into it, or the next node of that is trimmed
+abbrev pub IsFedFrom : ColumnState → Sends → Type 0
+IsFedFrom column s =
+    (room_of s ≡ 0) ⊎ (length (line column.journal) ≤ length (gone s))
+    ⊎ (length (gone s) < at (base_of column) column.region)
 
 -- What was sent is a beginning of the own line in each lawful history that goes on from this one, and each node of it entered
 -- by an entry of this one.

@@ -174,8 +174,15 @@ impl Region {
         given
     }
 
-    /// Sends own nodes of the colour to another region, in their order, while the ring takes them.
-    pub fn feed<R: Wait>(&self, rt: &R, hold: &mut Hold, colour: u8, region: u8)
+    /// Sends own nodes of the colour to another region, in their order, until the ring is full or none is left. Where memory
+    /// is refused, those before stay sent.
+    pub fn feed<R: Wait>(
+        &self,
+        rt: &R,
+        hold: &mut Hold,
+        colour: u8,
+        region: u8,
+    ) -> Result<(), AllocError>
         requires hold { IsHold self.now hold.old }
         requires colour { colour < self.now.board.size.colours }
         requires other { (region ≢ self.now.number) × (region < self.now.regions) }

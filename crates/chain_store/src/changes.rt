@@ -63,8 +63,14 @@ pub fn give_in<R: Wait>(
     }
 }
 
-/// Sends own nodes to another region while its ring takes them. Waits for the turn.
-pub fn feed_in<R: Wait>(rt: &R, cell: &Cell<Seated>, pass: &mut Pass<Seated>, by: u8, region: u8)
+/// Sends own nodes to another region until its ring is full or none is left. Waits for the turn.
+pub fn feed_in<R: Wait>(
+    rt: &R,
+    cell: &Cell<Seated>,
+    pass: &mut Pass<Seated>,
+    by: u8,
+    region: u8,
+) -> Result<(), AllocError>
     requires pass { IsHolder cell.now by pass.old }
     requires other { region ≢ (tag_in cell.now).region }
     requires region { region < (tag_in cell.now).regions }
@@ -72,8 +78,9 @@ pub fn feed_in<R: Wait>(rt: &R, cell: &Cell<Seated>, pass: &mut Pass<Seated>, by
     ensures sees { SeesMore by (seen pass.old) (seen pass.new) }
 {
     let mut turn = begin(rt, cell, pass, by);
-    turn.value.feed(region);
+    let fed = turn.value.feed(region);
     end(turn, pass);
+    fed
 }
 
 /// Receives what another region sent, and answers how many nodes of that region are held or received. Waits for the turn.

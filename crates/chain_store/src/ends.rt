@@ -27,7 +27,7 @@ pub fn open_column(
     clients: u8,
 ) -> Result<(Cell<Seated>, Passes<Seated>), AllocError>
     requires seat { IsFreshColumn board.now seat colour }
-    requires region { region < MAX_REGIONS }
+    requires region { region < shape.now.regions }
     requires colour { colour < MAX_COLOURS }
     requires regions { shape.now.regions ≤ MAX_REGIONS }
     requires clients { 0 < clients }

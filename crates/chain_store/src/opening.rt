@@ -93,7 +93,7 @@ fn open_shared(
     clients: &mut Vec<Client>,
 ) -> Result<(Cell<Seated>, Share), AllocError>
     requires seat { IsFreshColumn board.now seat colour }
-    requires region { region < MAX_REGIONS }
+    requires region { region < shape.now.regions }
     requires colour { colour < MAX_COLOURS }
     requires regions { shape.now.regions ≤ MAX_REGIONS }
     requires rings { IsForRegions shape.now.regions rings }
@@ -129,7 +129,7 @@ fn open_columns(
 ) -> Result<(Vec<Cell<Seated>>, Vec<Share>), AllocError>
     requires seats { (length seats.items ≤ MAX_COLOURS) × AreFreshColumns board.now seats.items }
     requires ends { (length ends.items ≡ length seats.items) × AreNewEnds shape.now.regions ends.items }
-    requires region { region < MAX_REGIONS }
+    requires region { region < shape.now.regions }
     requires regions { shape.now.regions ≤ MAX_REGIONS }
     requires clients { (length clients.old.items ≡ board.now.size.clients) × AreEmpty clients.old.items }
     ensures cells { IfOk result (λ r.
@@ -194,7 +194,7 @@ impl Region {
         shape: &Shape,
         ends: RingEnds,
     ) -> Result<(Region, Holds), AllocError>
-        requires region { region < MAX_REGIONS }
+        requires region { region < shape.now.regions }
         requires regions { shape.now.regions ≤ MAX_REGIONS }
         requires size { IsSize (size_of shape.now) }
         requires ends { (length ends ≡ shape.now.colours) × AreNewEnds shape.now.regions ends }

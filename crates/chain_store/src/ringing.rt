@@ -1,24 +1,26 @@
 // What a column does under its turn with its rings.
-ghost use Rattle.std.specs.Prelude.{◌≡◌, ◌≢◌, ◌↔◌, ◌<◌, ◌≤◌, ◌+◌, ◌++◌, ℕ, List, Ok, Some, None, length, IfOk, IfSome, OnErr};
+ghost use Rattle.std.specs.Prelude.{◌≡◌, ◌≢◌, ◌↔◌, ◌<◌, ◌≤◌, ◌+◌, ◌++◌, ℕ, List, Ok, Some, None, length, IfOk, IfSome, OnOk, OnErr};
+ghost use mathlib.Core.List.{IsPrefix};
 ghost use Rattle.log_node.specs.Seen.{PlacedNode};
 ghost use Rattle.column.specs.Columns.{held_of};
 ghost use Rattle.stamp_board.specs.Seats.{column_seen};
 ghost use Rattle.ring_ends.specs.Rings.{ring_sent, gone};
-ghost use Rattle.chain_store.specs.Rings.{AreNextOwn};
+ghost use Rattle.chain_store.specs.Rings.{AreNextOwn, IsFedFrom};
 ghost use Rattle.chain_store.specs.Columns.{Gains, Stays, told_carry, tag_of};
-ghost use Rattle.chain_store.specs.Columns.{waiting_of};
+ghost use Rattle.chain_store.specs.Columns.{waiting_of, IsFed, IsDrained};
 
 use crate::seated::Seated;
 use column::Column;
 use ring_ends::{Sends, place_of};
 use std::alloc::AllocError;
 
-// Nodes of the column's line go into the ring, from the one on that comes next there, while the ring has room and they can
-// be shared. None goes where the next one is trimmed.
-fn send_line(column: &Column, sends: &mut Sends)
+// Nodes of the column's line go into the ring, from the one on that comes next there, while the ring has room. None goes
+// where the next one is trimmed.
+fn send_line(column: &Column, sends: &mut Sends) -> Result<(), AllocError>
     ensures ring { ring_sent sends.new ≡ ring_sent sends.old }
     ensures gone { (more : List PlacedNode) × (gone sends.new ≡ gone sends.old ++ more)
         × AreNextOwn column.now (length (gone sends.old)) more }
+    ensures fed { OnOk result (IsFedFrom column.now sends.new) }
 {
     column.agrees();
     let base = column.base().of_region(column.region());
@@ -29,27 +31,25 @@ fn send_line(column: &Column, sends: &mut Sends)
             break;
         }
         let (key, entered) = column.own_entered(place);
-        let Ok(item) = entered.item(key) else {
-            break;
-        };
+        let item = entered.item(key)?;
         sends.send(item);
     }
+    Ok(())
 }
 
 impl Seated {
-    /// Sends own nodes to another region, in their order, while its ring takes them. A node that can't be shared stays, as
-    /// where the ring is full.
-    pub(crate) fn feed(&mut self, region: u8)
+    /// Sends own nodes to another region, in their order, until its ring is full, none is left, or the next one is trimmed.
+    /// Where one can't be shared for want of memory, those before it are sent.
+    pub(crate) fn feed(&mut self, region: u8) -> Result<(), AllocError>
         requires other { region ≢ self.old.column.region }
         requires region { region < self.old.column.regions }
         ensures tag { tag_of self.new ≡ tag_of self.old }
         ensures same { self.new.column ≡ self.old.column }
+        ensures fed { OnOk result (IsFed self.new region) }
         ensures stays { Stays self.old self.new }
     {
         let place = place_of(self.column.region(), region);
-        if place < self.rings.sends.len() {
-            send_line(&self.column, &mut self.rings.sends[place]);
-        }
+        send_line(&self.column, &mut self.rings.sends[place])
     }
 
     /// Receives what another region's ring has, and answers how many nodes of that region are held or received then. A
@@ -60,14 +60,13 @@ impl Seated {
         ensures tag { tag_of self.new ≡ tag_of self.old }
         ensures same { self.new.column ≡ self.old.column }
         ensures count { IfOk result (λ n. n ≡ held_of self.new.column region + length (waiting_of self.new region)) }
+        ensures all { OnOk result (IsDrained self.new region) }
+        ensures waiting { IsPrefix (waiting_of self.old region) (waiting_of self.new region) }
         ensures stays { Stays self.old self.new }
     {
         self.column.agrees();
         let held = self.column.held().of_region(region);
         let place = place_of(self.column.region(), region);
-        if place >= self.rings.receives.len() {
-            return Ok(held);
-        }
         let receives = &mut self.rings.receives[place];
         receives.receive(region)?;
         let Some(there) = held.checked_add(receives.waiting.len() as u64) else {
@@ -101,9 +100,6 @@ impl Seated {
         self.column.agrees();
         let held = self.column.held().of_region(region);
         let place = place_of(self.column.region(), region);
-        if place >= self.rings.receives.len() {
-            return Ok(if held < least { None } else { Some(0) });
-        }
         let count = self.rings.receives[place].waiting.len() as u64;
         if held.saturating_add(count) < least {
             return Ok(None);

@@ -8,7 +8,7 @@ use Rattle.ring_ends.specs.NewRings.{AreAt, AreNewRings}
 use Rattle.chain_store.specs.declared.region.Region.{Region}
 use Rattle.chain_store.specs.Regions.{rings_at}
 use Rattle.chain_store.specs.Opening.{AreNewEnds}
-use Rattle.log_client.specs.Regions.{IsJoined}
+use Rattle.log_client.specs.Regions.{AreJoinedBy}
 use Rattle.log_client.proofs.Lists.{got}
 
 -- the region's columns have these ends, by colour
@@ -28,7 +28,7 @@ module _ (regions colours : ℕ) (all : List (List Rings)) (new : AreNewRings re
   pub joined_new : (rs : List Region) → length rs ≡ regions
       → ((n : ℕ) (r : Region) (ends : List Rings) → slice_get rs n ≡ Some r → slice_get all n ≡ Some ends → HasEnds r ends)
       → (colour a b : ℕ) (r s : Region) → colour < colours → a ≢ b → slice_get rs a ≡ Some r → slice_get rs b ≡ Some s
-      → IsJoined colour a b r s
+      → AreJoinedBy colour a b r s
   joined_new rs long have colour a b r s lt ne at_a at_b =
       let x = ends_of a r at_a in
       let y = ends_of b s at_b in

@@ -13,8 +13,8 @@ pub record IsRegionOf (k : Size) (many n : ℕ) (r : Region) : Type 0 where
   pub size : r.board.size ≡ k
 
 -- by this colour, the ring from a region to another and the other's ring from it are one
-abbrev pub IsJoined : ℕ → ℕ → ℕ → Region → Region → Type 0
-IsJoined colour a b r s =
+abbrev pub AreJoinedBy : ℕ → ℕ → ℕ → Region → Region → Type 0
+AreJoinedBy colour a b r s =
     slice_get (rings_at r colour).sends (ring_place a b) ≡ slice_get (rings_at s colour).receives (ring_place b a)
 
 -- they are the regions of one store, by number
@@ -22,4 +22,4 @@ pub record AreRegionsOf (size : Size) (rs : List Region) : Type 0 where
   pub few : length rs ≤ MAX_REGIONS
   pub each : (n : ℕ) (r : Region) → slice_get rs n ≡ Some r → IsRegionOf size (length rs) n r
   pub joined : (colour a b : ℕ) (r s : Region) → colour < size.colours → a ≢ b → slice_get rs a ≡ Some r
-      → slice_get rs b ≡ Some s → IsJoined colour a b r s
+      → slice_get rs b ≡ Some s → AreJoinedBy colour a b r s

@@ -33,7 +33,7 @@ pub(crate) fn bring<R: Wait>(
     ensures err { OnErr result (SeesMoreIn colour to_hold.old to_hold.new) }
 {
     for _ in rt.forever() {
-        from.feed(rt, from_hold, colour, to.number());
+        from.feed(rt, from_hold, colour, to.number())?;
         let there = to.drain(rt, to_hold, colour, from.number())?;
         if there >= least {
             if let Some(carried) = to.carry(rt, to_hold, colour, from.number(), least)? {

@@ -161,7 +161,7 @@ module _ (script : Script) (report : Report) (nodes : ℕ → List Node) (caller
       asked _ is = tt
 
 -- what a node wants of a colour of its own
-wants_own : (w : ℕ → Counts) (cs : List ℕ) (c : ℕ) → In c cs → wants_of cs (map w cs) c ≡ w c
+pub wants_own : (w : ℕ → Counts) (cs : List ℕ) (c : ℕ) → In c cs → wants_of cs (map w cs) c ≡ w c
 wants_own w cs c i = wants_among cs w c (any_in (λ (m : ℕ). m == c) cs c i (eq-eqb c c refl))
 
 -- a mark of a node is one of another with its id, where its column leaves no stamp for that one's floor either

@@ -292,7 +292,7 @@ module _ (script : Script) (report : Report) (formed : IsWellFormed script repor
   abbrev H : ℕ → ℕ → List Entry
   H = journal_among report.columns
 
-  journal_is : (c : ColumnReport) → In c report.columns → c.journal ≡ journal_among report.columns c.region c.colour
+  pub journal_is : (c : ColumnReport) → In c report.columns → c.journal ≡ journal_among report.columns c.region c.colour
   journal_is c i =
       All-contains (λ (d : ColumnReport). d.journal ≡ journal_among report.columns d.region d.colour) report.columns c
       (reports_tell script report nodes formed).histories (contains_in report.columns c i)
@@ -303,12 +303,40 @@ module _ (script : Script) (report : Report) (formed : IsWellFormed script repor
       ∙ ap (λ (h : List Entry). queue_of (entries h)) (journal_is c i)
 
   -- what is so of each column is so at each place of the shape
-  by_place : (P : ℕ → ℕ → Type 0) → ((c : ColumnReport) → In c report.columns → P c.region c.colour)
+  pub by_place : (P : ℕ → ℕ → Type 0) → ((c : ColumnReport) → In c report.columns → P c.region c.colour)
       → (region colour : ℕ) → region < script.shape.regions → colour < script.shape.colours → P region colour
   by_place P each region colour lt low =
       let c = column_there script.shape.regions script.shape.colours report.columns columns region colour lt low in
       subst (λ (r : ℕ). P r colour) c.2
       (subst (P c.0.region) c.3 (each c.0 (slice_in report.columns (region * script.shape.colours + colour) c.0 c.1)))
+
+  -- an id that no column of a region leaves open, by the closing lines and by the histories
+  pub closed_in : (region colour : ℕ) (id : Id) → region < script.shape.regions → colour < script.shape.colours
+      → is_open_among region report.columns id ≡ false → open_entry id (entries (H region colour)) ≡ None
+  closed_in region colour id lt low f =
+      by_place (λ r k. r ≡ region → open_entry id (entries (H r k)) ≡ None)
+      (λ c i is. none_open c (H c.region c.colour) (shown_at c i) id (open_no c i is (is_open_in id c) refl)) region colour lt low refl where
+        open_no : (c : ColumnReport) → In c report.columns → c.region ≡ region → (b : Bool) → is_open_in id c ≡ b → is_open_in id c ≡ false
+        open_no c i is false e = e
+        open_no c i is true e =
+            absurd (true≢false (sym (any_in (λ (d : ColumnReport). (d.region == region) && is_open_in id d) report.columns c i
+            (and_from (c.region == region) (is_open_in id c) (eq-eqb c.region region is) e)) ∙ f))
+
+  pub closed_among : (region : ℕ) (id : Id)
+      → ((colour : ℕ) → colour < script.shape.colours → open_entry id (entries (H region colour)) ≡ None)
+      → is_open_among region report.columns id ≡ false
+  closed_among region id closed =
+      none_there (λ (d : ColumnReport). (d.region == region) && is_open_in id d) report.columns (λ d j.
+      by_region d j (d.region == region) refl
+      (closed d.colour (column_within script.shape.regions script.shape.colours report.columns columns d j).1)) where
+        by_region : (d : ColumnReport) → In d report.columns → (b : Bool) → (d.region == region) ≡ b
+            → open_entry id (entries (H region d.colour)) ≡ None → ((d.region == region) && is_open_in id d) ≡ false
+        by_region d j false f none = ap (λ (b : Bool). b && is_open_in id d) f
+        by_region d j true t none =
+            let is = eqb-true d.region region t in
+            ap (λ (b : Bool). b && is_open_in id d) t
+            ∙ open_there d (H d.region d.colour) (shown_at d j) id
+            (subst (λ (r : ℕ). open_entry id (entries (H r d.colour)) ≡ None) (sym is) none)
 
   row_id : (r : RowReport) → (row_of H nodes r).node.id ≡ r.id
   row_id r = by (slice_get (nodes r.id.client) r.id.count) where
@@ -368,19 +396,9 @@ module _ (script : Script) (report : Report) (formed : IsWellFormed script repor
         record {
           decided = λ still. is.0 (ap (λ (y : BegunRow). y.last) x.3 ∙ still);
           open_nowhere = λ other less.
-              subst (λ (i : Id). open_entry i (entries (H region other)) ≡ None) (sym id) (closed region other x.0.id lt less is.1);
+              subst (λ (i : Id). open_entry i (entries (H region other)) ≡ None) (sym id) (closed_in region other x.0.id lt less is.1);
         };
-  } where
-    closed : (region colour : ℕ) (id : Id) → region < script.shape.regions → colour < script.shape.colours
-        → is_open_among region report.columns id ≡ false → open_entry id (entries (H region colour)) ≡ None
-    closed region colour id lt low f =
-        by_place (λ r k. r ≡ region → open_entry id (entries (H r k)) ≡ None)
-        (λ c i is. none_open c (H c.region c.colour) (shown_at c i) id (open_no c i is (is_open_in id c) refl)) region colour lt low refl where
-          open_no : (c : ColumnReport) → In c report.columns → c.region ≡ region → (b : Bool) → is_open_in id c ≡ b → is_open_in id c ≡ false
-          open_no c i is false e = e
-          open_no c i is true e =
-              absurd (true≢false (sym (any_in (λ (d : ColumnReport). (d.region == region) && is_open_in id d) report.columns c i
-              (and_from (c.region == region) (is_open_in id c) (eq-eqb c.region region is) e)) ∙ f))
+  }
 
   pub columns_left : Rule8 script report (account_of script report nodes) → All (IsColumnLeft report) report.columns
   columns_left rule = all_in (IsColumnLeft report) report.columns (λ c i.
@@ -415,20 +433,9 @@ module _ (script : Script) (report : Report) (formed : IsWellFormed script repor
       help.0 (contains_in _ (row_of H nodes x) (there_row region x i is))
       (subst (λ (k : Id). IsStepOf k e.0.event) (sym (row_id x)) help.1) in (
         whole.decided,
-        none_there (λ (d : ColumnReport). (d.region == region) && is_open_in x.id d) report.columns (λ d j.
-            by_region x.id d j (d.region == region) refl (λ at.
-            subst (λ (k : Id). open_entry k (entries (H region d.colour)) ≡ None) (row_id x)
-            (whole.open_nowhere d.colour (column_within script.shape.regions script.shape.colours report.columns columns d j).1))),
-      )) where
-        by_region : (id : Id) (d : ColumnReport) → In d report.columns → (b : Bool) → (d.region == region) ≡ b
-            → (d.region ≡ region → open_entry id (entries (H region d.colour)) ≡ None)
-            → ((d.region == region) && is_open_in id d) ≡ false
-        by_region id d j false f closed = ap (λ (b : Bool). b && is_open_in id d) f
-        by_region id d j true t closed =
-            let is = eqb-true d.region region t in
-            ap (λ (b : Bool). b && is_open_in id d) t
-            ∙ open_there d (H d.region d.colour) (shown_at d j) id
-            (subst (λ (r : ℕ). open_entry id (entries (H r d.colour)) ≡ None) (sym is) (closed is))
+        closed_among region x.id (λ colour low.
+            subst (λ (k : Id). open_entry k (entries (H region colour)) ≡ None) (row_id x) (whole.open_nowhere colour low)),
+      ))
 
   pub eighth_told : All (IsColumnLeft report) report.columns → All (IsRowLeft report) report.rows → (b : Bool)
       → (columns_shown : List ColumnReport) (rows_shown : List RowReport) → columns_shown ≡ report.columns → rows_shown ≡ report.rows

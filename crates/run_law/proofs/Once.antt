@@ -90,23 +90,29 @@ module _ (own regions : ℕ) (journal : List Entry) (lawful : IsColumnHistory ow
   pub fresh_at : (n : ℕ) (e : Entry) → slice_get journal n ≡ Some e → enters id e.event ≡ true → has_entered id (take n journal) ≡ false
   fresh_at n e at t = enters_fresh own regions (take n journal) e.event e.stamp id (lawful_at own regions journal n e at lawful) t
 
+  get_taken : (xs : List Entry) (i j : ℕ) (x : Entry) → i < j → slice_get xs i ≡ Some x → slice_get (take j xs) i ≡ Some x
+  get_taken [] i j x lt there = absurd (let f : ⊥ = cc (there) in f)
+  get_taken (y ∷ xs) i zero x lt there = absurd (let f : ⊥ = omega (arith, lt) in f)
+  get_taken (y ∷ xs) zero (suc j) x lt there = there
+  get_taken (y ∷ xs) (suc i) (suc j) x lt there = get_taken xs i j x (omega (arith, lt)) there
+
+  earlier : (i j : ℕ) (x y : Entry) → i < j → slice_get journal i ≡ Some x → slice_get journal j ≡ Some y
+      → enters id x.event ≡ true → enters id y.event ≡ true → ⊥
+  earlier i j x y lt at_i at_j enters_i enters_j =
+      true≢false (sym (was_entered (take j journal) id i x (get_taken journal i j x lt at_i) enters_i)
+      ∙ fresh_at j y at_j enters_j)
+
+  -- at one place alone
+  pub one_place : (m n : ℕ) (d e : Entry) → slice_get journal m ≡ Some d → slice_get journal n ≡ Some e
+      → enters id d.event ≡ true → enters id e.event ≡ true → m ≡ n
+  one_place m n d e at_m at_n enters_m enters_n = by (cases_order m n) where
+    by : (m ≡ n) ⊎ ((m < n) ⊎ (n < m)) → m ≡ n
+    by (inl same) = same
+    by (inr (inl lt)) = absurd (earlier m n d e lt at_m at_n enters_m enters_n)
+    by (inr (inr lt)) = absurd (earlier n m e d lt at_n at_m enters_n enters_m)
+
   -- by one entry alone
   pub one_entry : (m n : ℕ) (d e : Entry) → slice_get journal m ≡ Some d → slice_get journal n ≡ Some e
       → enters id d.event ≡ true → enters id e.event ≡ true → d ≡ e
-  one_entry m n d e at_m at_n enters_m enters_n = by (cases_order m n) where
-    get_taken : (xs : List Entry) (i j : ℕ) (x : Entry) → i < j → slice_get xs i ≡ Some x → slice_get (take j xs) i ≡ Some x
-    get_taken [] i j x lt there = absurd (let f : ⊥ = cc (there) in f)
-    get_taken (y ∷ xs) i zero x lt there = absurd (let f : ⊥ = omega (arith, lt) in f)
-    get_taken (y ∷ xs) zero (suc j) x lt there = there
-    get_taken (y ∷ xs) (suc i) (suc j) x lt there = get_taken xs i j x (omega (arith, lt)) there
-
-    earlier : (i j : ℕ) (x y : Entry) → i < j → slice_get journal i ≡ Some x → slice_get journal j ≡ Some y
-        → enters id x.event ≡ true → enters id y.event ≡ true → ⊥
-    earlier i j x y lt at_i at_j enters_i enters_j =
-        true≢false (sym (was_entered (take j journal) id i x (get_taken journal i j x lt at_i) enters_i)
-        ∙ fresh_at j y at_j enters_j)
-
-    by : (m ≡ n) ⊎ ((m < n) ⊎ (n < m)) → d ≡ e
-    by (inl same) = same_some (sym at_m ∙ (ap (slice_get journal) same ∙ at_n))
-    by (inr (inl lt)) = absurd (earlier m n d e lt at_m at_n enters_m enters_n)
-    by (inr (inr lt)) = absurd (earlier n m e d lt at_n at_m enters_n enters_m)
+  one_entry m n d e at_m at_n enters_m enters_n =
+      same_some (sym at_m ∙ (ap (slice_get journal) (one_place m n d e at_m at_n enters_m enters_n) ∙ at_n))

@@ -1,14 +1,15 @@
 -- Colours that rise are the members of their set.
-use Rattle.std.proofs.Common.{◌≡◌, ◌≢◌, ℕ, zero, suc, ◌+◌, ◌<◌, ◌≤◌, Bool, true, false, List, [], ◌∷◌, length, drop, get_or, ap, sym, subst, ◌∙◌, inl, inr, refl, arith, cond}
-use Rattle.std.specs.Prelude.{◌==◌, ◌||◌}
+use Rattle.std.proofs.Common.{◌≡◌, ◌≢◌, ℕ, zero, suc, ◌+◌, ◌<◌, ◌≤◌, Bool, true, false, List, [], ◌∷◌, length, drop, get_or, Some, ap, sym, subst, ◌∙◌, inl, inr, refl, arith, cond}
+use Rattle.std.specs.Prelude.{◌==◌, ◌||◌, slice_get}
 use Rattle.std.specs.List.{All, filter, list_any, range_with_len}
 use Rattle.std.proofs.lemmas.Bool.{cases_Bool, cases_lt, eq-eqb, eqb-true, ne_eqb, or_from, true≢false}
 use Rattle.std.proofs.lemmas.List.{drop_more, drop_all}
 use Rattle.std.proofs.lemmas.List.Elements.{All-nil, All-cons, All-tail}
+use Rattle.log_node.specs.declared.ids.Colours.{Colours}
 use Rattle.log_node.specs.declared.limits.TheConstants.{MAX_COLOURS}
 use Rattle.log_node.specs.declared.marks.ColourMark.{ColourMark}
-use Rattle.log_node.specs.Sets.{members, set_of}
-use Rattle.log_node.proofs.CallerLemmas.{members-set_of}
+use Rattle.log_node.specs.Sets.{has, members, set_of}
+use Rattle.log_node.proofs.CallerLemmas.{members-set_of, same_some}
 use Rattle.col_core.proofs.CallerLemmas.{if_true, if_false}
 use Rattle.run_rules.specs.Telling.{marked_colours}
 use Rattle.run_law.specs.RowsBeside.{RiseFrom}
@@ -87,6 +88,32 @@ range_rises (suc n) a p = by (p a) (range_rises n (a + 1) p) where
       → IsFrom a (cond b (a ∷ filter p (range_with_len (a + 1) n)) (filter p (range_with_len (a + 1) n)))
   by true rest = (omega arith, rest)
   by false rest = weaker a (a + 1) (filter p (range_with_len (a + 1) n)) (omega arith) rest
+
+from_above : (low : ℕ) (cs : List ℕ) → IsFrom low cs → (k c : ℕ) → slice_get cs k ≡ Some c → low ≤ c
+unfolding IsFrom
+from_above low [] rise k c at = absurd (let f : ⊥ = cc (at) in f)
+from_above low (d ∷ cs) rise zero c at =
+    let le = rise.0 in
+    let same : d ≡ c = same_some at in omega (arith, le, same)
+from_above low (d ∷ cs) rise (suc k) c at =
+    let le = rise.0 in
+    let more = from_above (d + 1) cs rise.1 k c at in omega (arith, le, more)
+
+from_once : (low : ℕ) (cs : List ℕ) → IsFrom low cs → (i j c : ℕ) → slice_get cs i ≡ Some c → slice_get cs j ≡ Some c → i ≡ j
+unfolding IsFrom
+from_once low [] rise i j c at_i at_j = absurd (let f : ⊥ = cc (at_i) in f)
+from_once low (d ∷ cs) rise zero zero c at_i at_j = refl
+from_once low (d ∷ cs) rise zero (suc j) c at_i at_j =
+    let same : d ≡ c = same_some at_i in
+    let more = from_above (d + 1) cs rise.1 j c at_j in absurd (let f : ⊥ = omega (arith, same, more) in f)
+from_once low (d ∷ cs) rise (suc i) zero c at_i at_j =
+    let same : d ≡ c = same_some at_j in
+    let more = from_above (d + 1) cs rise.1 i c at_i in absurd (let f : ⊥ = omega (arith, same, more) in f)
+from_once low (d ∷ cs) rise (suc i) (suc j) c at_i at_j = ap suc (from_once (d + 1) cs rise.1 i j c at_i at_j)
+
+-- a member stands in one place
+pub members_once : (set : Colours) (i j c : ℕ) → slice_get (members set) i ≡ Some c → slice_get (members set) j ≡ Some c → i ≡ j
+members_once set = from_once 0 (members set) (range_rises MAX_COLOURS 0 (has set))
 
 -- MARKS
 

@@ -42,7 +42,7 @@ any_shard colours [] c = refl
 any_shard colours (key ∷ keys) c = ap (λ (b : Bool). (shard_of colours key == c) || b) (any_shard colours keys c)
 
 -- the set of the shards of keys has these members
-shards_of_keys : (colours : List ℕ) (keys : List (List ℕ))
+pub shards_of_keys : (colours : List ℕ) (keys : List (List ℕ))
     → members (set_of (map (λ (k : List ℕ). shard_of colours k) keys)) ≡ shards colours keys
 shards_of_keys colours keys =
     members-set_of (map (λ (k : List ℕ). shard_of colours k) keys)

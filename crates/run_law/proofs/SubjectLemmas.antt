@@ -32,7 +32,7 @@ use Rattle.run_law.proofs.PrintLemmas.{where_item, where_length}
 use Rattle.run_law.proofs.ThirdLemmas.{few_colours, journal_there}
 
 -- an item of a list with one more
-longer_cases : {A : Type 0} (xs : List A) (x y : A) (n : ℕ) → slice_get (xs ++ x ∷ []) n ≡ Some y
+pub longer_cases : {A : Type 0} (xs : List A) (x y : A) (n : ℕ) → slice_get (xs ++ x ∷ []) n ≡ Some y
     → (slice_get xs n ≡ Some y) ⊎ ((n ≡ length xs) × (y ≡ x))
 longer_cases [] x y zero at = inr (refl, sym (same_some at))
 longer_cases [] x y (suc n) at = absurd (let f : ⊥ = cc (at) in f)

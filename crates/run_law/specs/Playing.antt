@@ -1,20 +1,26 @@
--- Objects that are played from place to place.
-use Rattle.std.specs.Prelude.{ℕ, ◌≤◌, List, length, take}
-use Rattle.log_node.specs.declared.ids.Key.{Key}
-use Rattle.log_node.specs.declared.node.Node.{Node}
-use Rattle.object_fold.specs.Nodes.{ObjectNode}
-use Rattle.run_law.specs.declared.line_play.LinePlay.{LinePlay}
-use Rattle.run_law.specs.declared.region_play.RegionPlay.{RegionPlay}
-use Rattle.run_law.specs.NodeTables.{nodes_under}
+-- The order of play of a colour's nodes, by the lines of their regions.
+use Rattle.std.specs.Prelude.{◌≡◌, ℕ, List, Option, Some, None, slice_get, if◌then◌else◌}
+use Rattle.log_node.specs.declared.ids.Counts.{Counts}
+use Rattle.log_node.specs.declared.node.Head.{Head}
+use Rattle.log_node.specs.Reach.{Chains}
+use Rattle.log_node.specs.Vectors.{at}
+use Rattle.playback.specs.Orders.{is_free, next_region}
+use Rattle.run_law.specs.declared.playing.Next.{Next}
+use Rattle.run_law.specs.Proposals.{line_heads}
+use Rattle.run_law.specs.Walking.{Walked, journal_walked}
 
--- the object is what the first so many nodes of a line leave
-abbrev pub HoldsFirst : {F : Type 0} → (F → List ObjectNode → Type 0) → List (List Node) → List Key → F → ℕ → Type 0
-HoldsFirst Holds table keys fold count = (count ≤ length keys) × Holds fold (nodes_under table (take count keys))
+-- for each region the heads of its own line of a colour
+abbrev pub lines_of : Walked → ℕ → Chains
+lines_of walked colour region = line_heads region (journal_walked walked region colour)
 
--- so it is of one that is played from place to place of a line
-abbrev pub HoldsLine : {F : Type 0} → (F → List ObjectNode → Type 0) → List (List Node) → List Key → LinePlay F → Type 0
-HoldsLine Holds table line play = HoldsFirst Holds table line play.fold play.count
+-- the next node of a region's chain, where it is to be played and its needs are played
+abbrev pub free_head : Chains → Counts → Counts → ℕ → Option Head
+free_head chains played to region =
+    if is_free chains played to region then slice_get (chains region) (at played region) else None
 
--- and of one that is played in the order of a region
-abbrev pub HoldsKeys : {F : Type 0} → (F → List ObjectNode → Type 0) → List (List Node) → List Key → RegionPlay F → Type 0
-HoldsKeys Holds table keys play = HoldsFirst Holds table keys play.fold play.count
+-- of these regions it is the one whose next node is played next, with that node's head; or there is none
+abbrev pub IsNextOf : Chains → Counts → Counts → List ℕ → Option Next → Type 0
+IsNextOf chains played to regions None = next_region chains played to regions ≡ None
+IsNextOf chains played to regions (Some next) =
+    (next_region chains played to regions ≡ Some next.region)
+    × (slice_get (chains next.region) (at played next.region) ≡ Some next.head)

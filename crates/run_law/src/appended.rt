@@ -19,7 +19,7 @@ use std::alloc::{AllocError, Global};
 
 impl Keeping {
     // The stamp of an append of which the answer prints none.
-    fn stamp_told(
+    pub(crate) fn stamp_told(
         &self,
         subject: &Subject<'_>,
         client: u8,

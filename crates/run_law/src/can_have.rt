@@ -419,8 +419,8 @@ fn syncs_in(own: &[u8], what: &What, colour: u8) -> bool
     }
 }
 
-// The home of an object of this kind, where it has one.
-fn home_of(kind: Option<&Kind>) -> Option<u8>
+/// The home of an object of this kind, where it has one.
+pub(crate) fn home_of(kind: Option<&Kind>) -> Option<u8>
     ensures { result ≡ object_home (option_copied kind.entry) }
 {
     match kind {

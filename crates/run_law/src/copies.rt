@@ -48,7 +48,7 @@ fn needs_of(journal: &[Entry], track: &Track, id: Id) -> Counts
 }
 
 // The head at a place of a column's own line.
-fn head_at(journal: &[Entry], track: &Track, at: usize) -> Option<Head>
+pub(crate) fn head_at(journal: &[Entry], track: &Track, at: usize) -> Option<Head>
     requires { track.now.journal ≡ journal.now }
     ensures head { result ≡ slice_get (line_heads track.now.region journal.now) at }
     ensures within { IfSome result (λ h. at + 1 < 2 ^ 64) }

@@ -21,7 +21,7 @@ use std::alloc::{AllocError, Global};
 
 impl Keeping {
     // Goes on to where the node of a command with this answer is appended: a decide has synced and read before.
-    fn to_append(
+    pub(crate) fn to_append(
         &mut self,
         subject: &Subject<'_>,
         client: u8,
@@ -54,7 +54,7 @@ impl Keeping {
     }
 
     // Goes on from there behind the step of a client in this place.
-    fn from_append(
+    pub(crate) fn from_append(
         &mut self,
         alloc: Global,
         subject: &Subject<'_>,

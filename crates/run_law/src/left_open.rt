@@ -118,7 +118,7 @@ fn open_id(shown: QueueKey) -> Option<Id>
 }
 
 // Puts in the ids of open entries.
-fn put_open(ids: &mut RowTable, queue: &[QueueKey]) -> Result<(), AllocError>
+pub(crate) fn put_open(ids: &mut RowTable, queue: &[QueueKey]) -> Result<(), AllocError>
     ensures { (id : NodeId) → OnOk result (has_id ids.new id ≡ (has_id ids.old id || list_any (is_open_key id) queue.now)) }
 {
     for shown in queue {
@@ -138,8 +138,8 @@ fn add_open(ids: &mut RowTable, column: &ColumnReport, region: u8) -> Result<(),
     put_open(ids, column.queue.as_slice())
 }
 
-// The ids that a region's columns leave open.
-fn open_ids(alloc: Global, columns: &[ColumnReport], region: u8) -> Result<RowTable, AllocError>
+/// The ids that a region's columns leave open.
+pub(crate) fn open_ids(alloc: Global, columns: &[ColumnReport], region: u8) -> Result<RowTable, AllocError>
     ensures { (id : NodeId) → IfOk result (λ ids. has_id ids id ≡ is_open_among region columns.now id) }
 {
     let mut ids = RowTable::new(alloc);

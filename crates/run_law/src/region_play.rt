@@ -3,7 +3,7 @@ ghost use Rattle.std.specs.Prelude.{◌≡◌, ◌≤◌, [], ℕ, List, length,
 ghost use Rattle.log_node.specs.declared.ids.Key.{Key as KeyOf};
 ghost use Rattle.log_node.specs.declared.node.Node.{Node as Appended};
 ghost use Rattle.run_law.specs.NodeTables.{nodes_under};
-ghost use Rattle.run_law.specs.Playing.{HoldsKeys};
+ghost use Rattle.run_law.specs.ObjectPlays.{HoldsKeys};
 
 use crate::node_table::NodeTable;
 use log_node::Key;

@@ -6,7 +6,7 @@ use Rattle.std.proofs.lemmas.Option.{slice_get_within}
 use Rattle.log_node.proofs.CallerLemmas.{same_some, get_within}
 use Rattle.ring_ends.specs.declared.rings.Rings.{Rings}
 use Rattle.ring_ends.specs.Rings.{names_of, RingNames, IsForRegions}
-use Rattle.ring_ends.specs.NewRings.{AreAt, AreNewRings}
+use Rattle.ring_ends.specs.NewRings.{AreAt, AreNewRings, IsJoined}
 use Rattle.chain_store.specs.declared.region.Region.{Region}
 use Rattle.chain_store.specs.declared.closed.ClosedRegion.{ClosedRegion}
 use Rattle.chain_store.specs.declared.hold.Hold.{Hold}
@@ -15,7 +15,7 @@ use Rattle.stamp_board.specs.declared.view.Size.{Size}
 use Rattle.stamp_board.proofs.CallerLemmas.{last_two}
 use Rattle.chain_store.specs.Regions.{rings_at}
 use Rattle.chain_store.specs.Opening.{AreNewEnds}
-use Rattle.chain_store.specs.Joined.{ends_in, AreJoined, AreOfOneRing}
+use Rattle.chain_store.specs.Joined.{ends_in, AreJoined}
 use Rattle.tests_log.specs.Clients.{small, AreLinked, EndsSmall}
 
 -- a region's ends of new rings
@@ -94,7 +94,7 @@ module _ (east west : Region) (x y : ClosedRegion) (linked : AreLinked east west
     both : (colour a b : ℕ) (r s : Rings) → a ≢ b → (ends ends' : List Rings) → slice_get ends colour ≡ Some r
         → slice_get ends' colour ≡ Some s → length ends ≡ 2
         → ((a ≡ 0) × (x.ends.items ≡ ends)) ⊎ ((a ≡ 1) × (y.ends.items ≡ ends))
-        → ((b ≡ 0) × (x.ends.items ≡ ends')) ⊎ ((b ≡ 1) × (y.ends.items ≡ ends')) → AreOfOneRing a b r s
+        → ((b ≡ 0) × (x.ends.items ≡ ends')) ⊎ ((b ≡ 1) × (y.ends.items ≡ ends')) → IsJoined a b r s
     both colour a b r s ne ends ends' at_r at_s many (inl is) (inl is') = absurd (ne (is.0 ∙ sym is'.0))
     both colour a b r s ne ends ends' at_r at_s many (inr is) (inr is') = absurd (ne (is.0 ∙ sym is'.0))
     both colour a b r s ne ends ends' at_r at_s many (inl is) (inr is') =
@@ -104,7 +104,7 @@ module _ (east west : Region) (x y : ClosedRegion) (linked : AreLinked east west
         let same : slice_get (names_of r).sends 0 ≡ slice_get (names_of s).receives 0 =
         ap (λ (n : RingNames). slice_get n.sends 0) first ∙ linked.there colour (omega (arith, lt, many))
         ∙ sym (ap (λ (n : RingNames). slice_get n.receives 0) second) in
-        subst (λ (k : ℕ). AreOfOneRing k b r s) (sym is.0) (subst (λ (k : ℕ). AreOfOneRing 0 k r s) (sym is'.0) same)
+        subst (λ (k : ℕ). IsJoined k b r s) (sym is.0) (subst (λ (k : ℕ). IsJoined 0 k r s) (sym is'.0) same)
     both colour a b r s ne ends ends' at_r at_s many (inr is) (inl is') =
         let first = (ends_y.rings colour r (there y.ends.items ends colour r is.1 at_r)).0 in
         let second = (ends_x.rings colour s (there x.ends.items ends' colour s is'.1 at_s)).0 in
@@ -112,7 +112,7 @@ module _ (east west : Region) (x y : ClosedRegion) (linked : AreLinked east west
         let same : slice_get (names_of r).sends 0 ≡ slice_get (names_of s).receives 0 =
         ap (λ (n : RingNames). slice_get n.sends 0) first ∙ linked.back colour (omega (arith, lt, many))
         ∙ sym (ap (λ (n : RingNames). slice_get n.receives 0) second) in
-        subst (λ (k : ℕ). AreOfOneRing k b r s) (sym is.0) (subst (λ (k : ℕ). AreOfOneRing 1 k r s) (sym is'.0) same)
+        subst (λ (k : ℕ). IsJoined k b r s) (sym is.0) (subst (λ (k : ℕ). IsJoined 1 k r s) (sym is'.0) same)
 
 -- a small region ends with its columns' ends of rings
 pub ends_small : (r : Region) (hs : List Hold) (closed : ClosedRegion) → r.regions ≡ 2 → r.board.size ≡ small

@@ -224,7 +224,7 @@ fn do_step<R: Wait>(
 {
     match step {
         Feed => {
-            east.feed(rt, &mut client.east, 0, 1);
+            east.feed(rt, &mut client.east, 0, 1)?;
             Ok(true)
         }
         Drain(there) => Ok(west.drain(rt, &mut client.west, 0, 0)? == there),

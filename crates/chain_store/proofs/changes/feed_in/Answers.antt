@@ -5,14 +5,14 @@ use Rattle.chain_store.specs.Passes.{tag_in}
 use Rattle.chain_store.proofs.Turning.{at_rest, stood, tagged, saw}
 use Rattle.chain_store.proofs.changes.feed_in.Goals as goal
 
-pub feed-requires-clause-other : goal.feed-requires-clause-other
-feed-requires-clause-other g c =
+pub feed-fed-requires-clause-other : goal.feed-fed-requires-clause-other
+feed-fed-requires-clause-other g c =
     let is = tagged c.begin-turn.result.value.value c.deref_mut.result.now (tag_in c.args.cell.now)
     c.deref_mut.ensures.value c.begin-turn.ensures.tag in
     subst (λ (t : Tag). c.args.region ≢ t.region) (sym is) c.requires.other
 
-pub feed-requires-clause-region : goal.feed-requires-clause-region
-feed-requires-clause-region g c =
+pub feed-fed-requires-clause-region : goal.feed-fed-requires-clause-region
+feed-fed-requires-clause-region g c =
     let is = tagged c.begin-turn.result.value.value c.deref_mut.result.now (tag_in c.args.cell.now)
     c.deref_mut.ensures.value c.begin-turn.ensures.tag in
     subst (λ (t : Tag). c.args.region < t.regions) (sym is) c.requires.region
@@ -24,7 +24,7 @@ end-requires-clause-value g c =
     let x = c.deref_mut.result.now in
     let q = c.begin-turn.new.pass in
     let stands = stood z x (seen q) c.deref_mut.ensures.value t.value in
-    inl (c.feed.ensures.stays (seen q) stands)
+    inl (c.feed-fed.ensures.stays (seen q) stands)
 
 pub returns-clause-pass : goal.returns-clause-pass
 returns-clause-pass g c =
@@ -38,4 +38,4 @@ returns-clause-sees g c =
     let x = c.deref_mut.result.now in
     let q = c.begin-turn.new.pass in
     let stands = stood z x (seen q) c.deref_mut.ensures.value t.value in
-    saw c.args.by c.args.pass.now q c.end.new.pass t.more (c.end.ensures.look (c.feed.ensures.stays (seen q) stands)).1.0
+    saw c.args.by c.args.pass.now q c.end.new.pass t.more (c.end.ensures.look (c.feed-fed.ensures.stays (seen q) stands)).1.0

@@ -7,7 +7,7 @@ pub loop-preserved : goal.loop-preserved
 loop-preserved c =
     let inv = c.loop.invariant in
     let more = inv.2.0 in
-    let item = c.in-Ok.item in
+    let item = c.in_ok-item.item in
     let old = c.args.sends.now in (
       search rules,
       search rules,
@@ -18,6 +18,6 @@ loop-preserved c =
             c.own_entered.result.1.now item
             (let e = c.sent-place.ensures in
             let l = ap length inv.2.1 in let a = length-append (gone old) more in omega (arith, e, l, a))
-            c.own_entered.ensures.head c.own_entered.ensures.node c.in-Ok.ensures inv.2.2,
+            c.own_entered.ensures.head c.own_entered.ensures.node c.in_ok-item.ensures inv.2.2,
       ),
     )

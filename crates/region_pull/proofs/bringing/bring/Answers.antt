@@ -36,6 +36,17 @@ loop-init g c = (
   watched_none c.args.to.now c.args.colour c.args.to_hold.now c.requires.to_hold,
 )
 
+pub returns-in_err-feed-clause-from_hold : goal.returns-in_err-feed-clause-from_hold
+returns-in_err-feed-clause-from_hold g c =
+    (watched_then c.args.from.now c.args.colour c.args.from_hold.now c.loop.from_hold c.feed.new.hold c.loop.invariant.0
+    c.feed.ensures.hold c.feed.ensures.others c.feed.ensures.same c.feed.ensures.sees)
+
+pub returns-in_err-feed-clause-to_hold : goal.returns-in_err-feed-clause-to_hold
+returns-in_err-feed-clause-to_hold g c = c.loop.invariant.1.goes
+
+pub returns-in_err-feed-clause-err : goal.returns-in_err-feed-clause-err
+returns-in_err-feed-clause-err g c = on_err c.from_residual.result _ c.loop.invariant.1.sees
+
 pub returns-in_err-there-clause-from_hold : goal.returns-in_err-there-clause-from_hold
 returns-in_err-there-clause-from_hold g c =
     (watched_then c.args.from.now c.args.colour c.args.from_hold.now c.loop.from_hold c.feed.new.hold c.loop.invariant.0
@@ -48,7 +59,7 @@ returns-in_err-there-clause-to_hold g c =
 
 pub returns-in_err-there-clause-err : goal.returns-in_err-there-clause-err
 returns-in_err-there-clause-err g c =
-    on_err c.from_residual.result _
+    on_err c.from_residual-in_err-there.result _
     (watched_then c.args.to.now c.args.colour c.args.to_hold.now c.loop.to_hold c.drain.new.hold c.loop.invariant.1
     c.drain.ensures.hold c.drain.ensures.others c.drain.ensures.same c.drain.ensures.sees).sees
 

@@ -1,6 +1,5 @@
 use Rattle.std.proofs.Common.{◌≡◌, ◌<◌, ◌≤◌, ◌+◌, ◌++◌, ◌∷◌, [], ◌∙◌, ℕ, List, ap, sym, subst, refl, length, Some, Ok, Err, Result, arith}
 use Rattle.std.specs.Prelude.{OnErr, slice_get}
-use Rattle.std.proofs.lemmas.Option.{slice_get_read}
 use Rattle.log_node.specs.Seen.{PlacedNode}
 use Rattle.log_node.specs.Vectors.{at as at_region}
 use Rattle.log_node.proofs.CallerLemmas.{at-vector}
@@ -18,6 +17,7 @@ use Rattle.chain_store.specs.Columns.{told_carry, waiting_of}
 use Rattle.chain_store.specs.Rings.{RingsFit}
 use Rattle.chain_store.proofs.Moving.{StandsIn, carry_gains, items_keep, items_held}
 use Rattle.chain_store.proofs.RingsGrow.{emptied, undrained, names_received, waiting_at}
+use Rattle.chain_store.proofs.RingEnds.{receives_within, receives_there}
 use Rattle.chain_store.proofs.seated.Seated.carry.Goals as goal
 
 empty : {A : Type 0} (xs : List A) → length xs ≡ 0 → xs ≡ []
@@ -34,13 +34,22 @@ on_err : {T E : Type 0} (r : Result T E) (P : Type 0) → P → OnErr r P
 on_err (Ok x) P p = tt
 on_err (Err e) P p = p
 
+pub index-requires : goal.index-requires
+index-requires c =
+    receives_within c.args.self.now c.place_of-place.result c.args.region c.requires.region c.requires.other
+    (c.place_of-place.ensures ∙ ap (λ r. ring_place r c.args.region) c.region.ensures)
+
+pub index_mut-requires : goal.index_mut-requires
+index_mut-requires c =
+    receives_within c.args.self.now c.place_of-place.result c.args.region c.requires.region c.requires.other
+    (c.place_of-place.ensures ∙ ap (λ r. ring_place r c.args.region) c.region.ensures)
+
 pub returns-in_err-take_over-clause-err : goal.returns-in_err-take_over-clause-err
 returns-in_err-take_over-clause-err c =
     let s = c.args.self.now in
     let q = c.index_mut.result.now in
     let place = c.place_of-place.ensures ∙ ap (λ r. ring_place r c.args.region) c.region.ensures in
-    let at = slice_get_read s.rings.receives.items c.len.result c.place_of-place.result q
-    (let l = c.len.ensures in omega (arith, l)) (let f = c.if-place-len.false in omega (arith, f))
+    let at = receives_there s c.place_of-place.result c.args.region c.requires.region c.requires.other place q
     c.index_mut.ensures.value in
     let r : Receives = record { consumer = q.consumer; waiting = c.take_over.new.items } in
     let after : Rings = record { sends = s.rings.sends; receives = with_item s.rings.receives c.place_of-place.result r } in
@@ -55,8 +64,7 @@ returns-clause-tag c =
     let s = c.args.self.now in
     let q = c.index_mut.result.now in
     let place = c.place_of-place.ensures ∙ ap (λ r. ring_place r c.args.region) c.region.ensures in
-    let at = slice_get_read s.rings.receives.items c.len.result c.place_of-place.result q
-    (let l = c.len.ensures in omega (arith, l)) (let f = c.if-place-len.false in omega (arith, f))
+    let at = receives_there s c.place_of-place.result c.args.region c.requires.region c.requires.other place q
     c.index_mut.ensures.value in
     let r : Receives = record { consumer = q.consumer; waiting = c.take_over.new.items } in
     let after : Rings = record { sends = s.rings.sends; receives = with_item s.rings.receives c.place_of-place.result r } in
@@ -72,8 +80,7 @@ returns-clause-few c =
     let seen = c.index.result.now in
     let counted : c.len-count.result ≡ length (waiting_of s c.args.region) =
     counts s c.place_of-place.result c.args.region c.len-count.result seen place
-    (slice_get_read s.rings.receives.items c.len.result c.place_of-place.result seen
-    (let l = c.len.ensures in omega (arith, l)) (let f = c.if-place-len.false in omega (arith, f)) c.index.ensures)
+    (receives_there s c.place_of-place.result c.args.region c.requires.region c.requires.other place seen c.index.ensures)
     (let l = c.len-count.ensures in omega (arith, l)) in
     let few : c.args.region < 4 = omega (arith, c.agrees.ensures.few_regions, c.requires.region) in
     let held : c.of_region-held.result ≡ held_of s.column c.args.region =
@@ -94,8 +101,7 @@ returns-clause-count c =
     let seen = c.index.result.now in
     let counted : c.len-count.result ≡ length (waiting_of s c.args.region) =
     counts s c.place_of-place.result c.args.region c.len-count.result seen place
-    (slice_get_read s.rings.receives.items c.len.result c.place_of-place.result seen
-    (let l = c.len.ensures in omega (arith, l)) (let f = c.if-place-len.false in omega (arith, f)) c.index.ensures)
+    (receives_there s c.place_of-place.result c.args.region c.requires.region c.requires.other place seen c.index.ensures)
     (let l = c.len-count.ensures in omega (arith, l)) in
     counted
 
@@ -107,8 +113,7 @@ returns-clause-carried c = λ count is some.
     let q = c.index_mut.result.now in
     let new = c.take_over.new.self in
     let place = c.place_of-place.ensures ∙ ap (λ r. ring_place r c.args.region) c.region.ensures in
-    let at = slice_get_read s.rings.receives.items c.len.result c.place_of-place.result q
-    (let l = c.len.ensures in omega (arith, l)) (let f = c.if-place-len.false in omega (arith, f))
+    let at = receives_there s c.place_of-place.result c.args.region c.requires.region c.requires.other place q
     c.index_mut.ensures.value in
     let r : Receives = record { consumer = q.consumer; waiting = c.take_over.new.items } in
     let after : Rings = record { sends = s.rings.sends; receives = with_item s.rings.receives c.place_of-place.result r } in
@@ -117,8 +122,7 @@ returns-clause-carried c = λ count is some.
     let seen = c.index.result.now in
     let counted : c.len-count.result ≡ length (waiting_of s c.args.region) =
     counts s c.place_of-place.result c.args.region c.len-count.result seen place
-    (slice_get_read s.rings.receives.items c.len.result c.place_of-place.result seen
-    (let l = c.len.ensures in omega (arith, l)) (let f = c.if-place-len.false in omega (arith, f)) c.index.ensures)
+    (receives_there s c.place_of-place.result c.args.region c.requires.region c.requires.other place seen c.index.ensures)
     (let l = c.len-count.ensures in omega (arith, l)) in
     let held = held_of s.column region in
     let n : c.len-count.result ≡ count = cc (is) in
@@ -140,8 +144,7 @@ returns-clause-covers c =
     let s = c.args.self.now in
     let q = c.index_mut.result.now in
     let place = c.place_of-place.ensures ∙ ap (λ r. ring_place r c.args.region) c.region.ensures in
-    let at = slice_get_read s.rings.receives.items c.len.result c.place_of-place.result q
-    (let l = c.len.ensures in omega (arith, l)) (let f = c.if-place-len.false in omega (arith, f))
+    let at = receives_there s c.place_of-place.result c.args.region c.requires.region c.requires.other place q
     c.index_mut.ensures.value in
     let r : Receives = record { consumer = q.consumer; waiting = c.take_over.new.items } in
     let after : Rings = record { sends = s.rings.sends; receives = with_item s.rings.receives c.place_of-place.result r } in
@@ -150,8 +153,7 @@ returns-clause-covers c =
     let seen = c.index.result.now in
     let counted : c.len-count.result ≡ length (waiting_of s c.args.region) =
     counts s c.place_of-place.result c.args.region c.len-count.result seen place
-    (slice_get_read s.rings.receives.items c.len.result c.place_of-place.result seen
-    (let l = c.len.ensures in omega (arith, l)) (let f = c.if-place-len.false in omega (arith, f)) c.index.ensures)
+    (receives_there s c.place_of-place.result c.args.region c.requires.region c.requires.other place seen c.index.ensures)
     (let l = c.len-count.ensures in omega (arith, l)) in
     let few : c.args.region < 4 = omega (arith, c.agrees.ensures.few_regions, c.requires.region) in
     let held : c.of_region-held.result ≡ held_of s.column c.args.region =
@@ -171,8 +173,7 @@ returns-clause-nothing c = λ is log st.
     let q = c.index_mut.result.now in
     let zero : c.len-count.result ≡ 0 = cc (is) in
     let place = c.place_of-place.ensures ∙ ap (λ r. ring_place r c.args.region) c.region.ensures in
-    let at = slice_get_read s.rings.receives.items c.len.result c.place_of-place.result q
-    (let l = c.len.ensures in omega (arith, l)) (let f = c.if-place-len.false in omega (arith, f))
+    let at = receives_there s c.place_of-place.result c.args.region c.requires.region c.requires.other place q
     c.index_mut.ensures.value in
     let r : Receives = record { consumer = q.consumer; waiting = c.take_over.new.items } in
     let after : Rings = record { sends = s.rings.sends; receives = with_item s.rings.receives c.place_of-place.result r } in
@@ -181,8 +182,7 @@ returns-clause-nothing c = λ is log st.
     let seen = c.index.result.now in
     let counted : c.len-count.result ≡ length (waiting_of s c.args.region) =
     counts s c.place_of-place.result c.args.region c.len-count.result seen place
-    (slice_get_read s.rings.receives.items c.len.result c.place_of-place.result seen
-    (let l = c.len.ensures in omega (arith, l)) (let f = c.if-place-len.false in omega (arith, f)) c.index.ensures)
+    (receives_there s c.place_of-place.result c.args.region c.requires.region c.requires.other place seen c.index.ensures)
     (let l = c.len-count.ensures in omega (arith, l)) in
     let w = ap length waits in
     let none = empty q.waiting.items (omega (arith, zero, counted, w)) in

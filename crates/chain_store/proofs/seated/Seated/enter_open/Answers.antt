@@ -43,6 +43,7 @@ invariant_of-self c =
           let few = subst (λ (y : Node). y.id.client < MAX_CLIENTS) (sym c.deref.ensures) c.requires.maker.1 in omega (arith, long, few))
           (c.is_new.ensures c.if-not-is_new.false) (λ other is. same_id-true other x.id is)
           (ap (λ (y : Node). y.id.client) (sym c.deref.ensures)) (ap (λ (y : Node). y.id.count) (sym c.deref-2.ensures));
+      within = subst (λ (q : ColumnState). q.region < q.regions) (sym same) s.within;
       others = subst (λ (q : ColumnState). IsForRegions q.regions s.rings) (sym same) s.others;
     }
 
@@ -52,6 +53,7 @@ invariant_of-self-in-Err-propose c = record {
   all = c.args.self.now.all;
   above = subst (λ (s : ColumnState). AreBelow s.journal c.args.self.now.entered) (sym c.in-Err.ensures.err)
       c.args.self.now.above;
+  within = subst (λ (s : ColumnState). s.region < s.regions) (sym c.in-Err.ensures.err) c.args.self.now.within;
   others = subst (λ (s : ColumnState). IsForRegions s.regions c.args.self.now.rings) (sym c.in-Err.ensures.err)
       c.args.self.now.others;
 }

@@ -60,6 +60,7 @@ invariant_of-self c =
       same = c.look.ensures.seat.colour ∙ s.same ∙ sym k.1;
       all = s.all;
       above = settles_below s.column new c.args.by c.begun.inside.id c.args.outcome _ c.settle-at.ensures.column s.entered s.above;
+      within = subst (λ (n : ℕ). n < new.regions) (sym k.0) (subst (λ (n : ℕ). s.column.region < n) (sym k.2) s.within);
       others = subst (λ (n : ℕ). IsForRegions n s.rings) (sym k.2) s.others;
     }
 

@@ -40,6 +40,7 @@ invariant_of-self c =
       above = entered_below s.column c.single.new.self (single_told s.column c.args.by x) x refl (single_entered s.column c.single.new.self c.args.by x same) s.entered c.args.by c.deref.result.now.id.count s.above
           (let long = s.all in let few = c.requires.maker.0 in omega (arith, long, few)) (c.is_new.ensures c.if-not-is_new.false)
           (λ other is. same_id-true other x.id is) c.requires.maker.2 (ap (λ (y : Node). y.id.count) (sym c.deref.ensures));
+      within = subst (λ (q : ColumnState). q.region < q.regions) (sym same) s.within;
       others = subst (λ (q : ColumnState). IsForRegions q.regions s.rings) (sym same) s.others;
     }
 
@@ -49,6 +50,7 @@ invariant_of-self-in-Err-single c = record {
   all = c.args.self.now.all;
   above = subst (λ (s : ColumnState). AreBelow s.journal c.args.self.now.entered) (sym c.in-Err.ensures.err)
       c.args.self.now.above;
+  within = subst (λ (s : ColumnState). s.region < s.regions) (sym c.in-Err.ensures.err) c.args.self.now.within;
   others = subst (λ (s : ColumnState). IsForRegions s.regions c.args.self.now.rings) (sym c.in-Err.ensures.err)
       c.args.self.now.others;
 }

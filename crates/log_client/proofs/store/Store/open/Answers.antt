@@ -32,6 +32,15 @@ turn c =
     ap (λ (l : List (List Rings)). slice_get l n) (sym c.into_vec-ends-items.ensures)
     ∙ (slice_get-get_or items.items n c.in-Some.ends t.0 ∙ ap (λ (x : List Rings). Some x) (sym t.1))
 
+pub open-requires-clause-region : goal.open-requires-clause-region
+open-requires-clause-region c =
+    let l = c.loop-ends in
+    let inside = slice_get_within c.in_ok-rings.rings (length l.yielded) c.in-Some.ends (turn c) in
+    let many = c.in_ok-rings.ensures.regions_of in
+    let count = l.invariant.count in
+    let here = c.len-number.ensures ∙ l.regions.ok.0 in
+    omega (arith, inside, many, count, here)
+
 pub open-requires-clause-ends : goal.open-requires-clause-ends
 open-requires-clause-ends c =
     new_ends c.args.shape.now.regions c.args.shape.now.colours c.in_ok-rings.rings c.in_ok-rings.ensures

@@ -1,5 +1,5 @@
 use Rattle.std.proofs.Common.{◌-◌, ◌≡◌, ◌≤◌, ℕ}
-use Rattle.run_law.specs.Playing.{HoldsFirst}
+use Rattle.run_law.specs.ObjectPlays.{HoldsFirst}
 use Rattle.run_law.proofs.region_play.RegionPlay.go_on.Given as goal
 
 -- the object is what the nodes up to this one leave

@@ -1,0 +1,148 @@
+-- Pulls: what a column held, and for which number a give asked.
+use Rattle.std.proofs.Common.{◌≡◌, ◌∙◌, refl, ap, sym, subst, ℕ, zero, suc, ◌+◌, ◌-◌, ◌/◌, ◌<◌, ◌≤◌, min, Bool, true, false, List, [], ◌∷◌, ◌++◌, length, take, Option, Some, None, ◌⊎◌, inl, inr, arith}
+use Rattle.std.specs.Prelude.{nat_eq}
+use Rattle.std.proofs.lemmas.Bool.{cases_lt, eqb-true, eqb-false}
+use Rattle.std.proofs.lemmas.List.{length-append, take_all}
+use Rattle.log_node.specs.declared.node.Head.{Head}
+use Rattle.log_node.specs.declared.node.Node.{Node}
+use Rattle.col_core.specs.declared.Entry.{Entry}
+use Rattle.col_core.specs.Computed.{dated}
+use Rattle.col_core.specs.Cuts.{chain}
+use Rattle.col_core.specs.History.{line}
+use Rattle.col_core.specs.Legal.{IsColumnHistory}
+use Rattle.column_track.specs.Tracks.{Tells}
+use Rattle.lawful_run.specs.Callers.{Caller}
+use Rattle.lawful_run.specs.Moves.{AsksFor}
+use Rattle.run_rules.specs.Telling.{log_of}
+use Rattle.run_law.specs.Moving.{IsFirstHolding, held_of}
+use Rattle.run_law.specs.Walking.{Walked, journal_walked}
+use Rattle.run_law.proofs.ChainBeginnings.{beginning_legal, chain_begins}
+
+take_take : {A : Type 0} (xs : List A) (n m : ℕ) → n ≤ m → take n (take m xs) ≡ take n xs
+take_take [] zero zero le = refl
+take_take [] zero (suc m) le = refl
+take_take [] (suc n) zero le = refl
+take_take [] (suc n) (suc m) le = refl
+take_take (x ∷ xs) zero zero le = refl
+take_take (x ∷ xs) zero (suc m) le = refl
+take_take (x ∷ xs) (suc n) zero le = absurd (let f : ⊥ = omega (arith, le) in f)
+take_take (x ∷ xs) (suc n) (suc m) le = ap (λ l. x ∷ l) (take_take xs n m (omega (arith, le)))
+
+-- between these the first number is sought
+pub record Between (walked : Walked) (own colour of from to count low high : ℕ) : Type 0 where
+  pub above : from ≤ low
+  pub order : low ≤ high
+  pub within : high ≤ to
+  pub least : (n : ℕ) → from ≤ n → n < low → held_of walked own colour of n < count
+  pub enough : (high ≡ to) ⊎ (count ≤ held_of walked own colour of high)
+
+module _ (walked : Walked) (own colour of : ℕ)
+    (legal : IsColumnHistory own walked.script.shape.regions (dated own (journal_walked walked own colour))) where
+  -- what is held does not fall
+  pub held_rises : (n m : ℕ) → n ≤ m → held_of walked own colour of n ≤ held_of walked own colour of m
+  held_rises n m le =
+      let h = journal_walked walked own colour in
+      let g = chain_begins own walked.script.shape.regions (take m h) (beginning_legal own walked.script.shape.regions h m legal) n of in
+      let long = length-append (chain own (dated own (take n (take m h))) of) g.0 in
+      let whole = ap length g.1 in
+      let same = ap (λ (l : List Entry). length (chain own (dated own l) of)) (take_take h n m le) in
+      omega (arith, long, whole, same)
+
+  module _ (from to count low high : ℕ) (so : Between walked own colour of from to count low high) (middle : ℕ) (lower : low ≤ middle) (less : middle < high) where
+    pub go_up : held_of walked own colour of middle < count → Between walked own colour of from to count (middle + 1) high
+    go_up short = record {
+      above = let a = so.above in omega (arith, a, lower);
+      order = omega (arith, less);
+      within = so.within;
+      least = λ n le lt. let r = held_rises n middle (omega (arith, lt)) in omega (arith, r, short);
+      enough = so.enough;
+    }
+
+    pub go_down : count ≤ held_of walked own colour of middle → Between walked own colour of from to count low middle
+    go_down long = record {
+      above = so.above;
+      order = lower;
+      within = let w = so.within in omega (arith, w, less);
+      least = so.least;
+      enough = inr long;
+    }
+
+  pub found : (from to count low high : ℕ) → Between walked own colour of from to count low high → high ≤ low → IsFirstHolding walked own colour of from to count low
+  found from to count low high so ge =
+      let o = so.order in
+      let same : high ≡ low = omega (arith, o, ge) in record {
+        above = so.above;
+        within = let w = so.within in omega (arith, w, o);
+        least = so.least;
+        enough = subst (λ (k : ℕ). (k ≡ to) ⊎ (count ≤ held_of walked own colour of k)) same so.enough;
+      }
+
+  -- FOR WHICH NUMBER A GIVE ASKED
+  module _ (told : ℕ → List Node) (caller : Caller) (is : caller.own ≡ own) (seen until place from : ℕ) (order : seen ≤ until)
+      (least last : ℕ) (least_is : least ≡ min seen (length (journal_walked walked own colour)))
+      (last_is : last ≡ min until (length (journal_walked walked own colour))) (looked : ℕ)
+      (first : IsFirstHolding walked own colour of least last from looked) where
+    same_held : (k j : ℕ) → take k (journal_walked walked own colour) ≡ take j (journal_walked walked own colour)
+        → held_of walked own colour of k ≡ held_of walked own colour of j
+    same_held k j e = ap (λ (l : List Entry). length (chain own (dated own l) of)) e
+
+    of_caller : (k : ℕ) → length (chain caller.own (dated caller.own (take k (journal_walked walked caller.own colour))) of)
+        ≡ held_of walked own colour of k
+    of_caller k = ap (λ (o : ℕ). length (chain o (dated o (take k (journal_walked walked o colour))) of)) is
+
+    both_all : (k j : ℕ) → length (journal_walked walked own colour) ≤ k → length (journal_walked walked own colour) ≤ j
+        → take k (journal_walked walked own colour) ≡ take j (journal_walked walked own colour)
+    both_all k j a b = take_all k (journal_walked walked own colour) a ∙ sym (take_all j (journal_walked walked own colour) b)
+
+    asked : from ≡ min (length (line (take place (journal_walked walked of colour)))) (held_of walked own colour of looked)
+        → AsksFor (log_of walked.report told) caller of colour seen until place from
+    asked e = elim (cases_lt looked seen) [
+      | inr ge ↦
+          (let w = first.within in (
+            looked,
+            ge,
+            omega (arith, w, last_is),
+            e ∙ ap (min (length (line (take place (journal_walked walked of colour))))) (sym (of_caller looked)),
+          ))
+      | inl lt ↦
+          (let a = first.above in
+          let all_below : length (journal_walked walked own colour) ≤ looked = omega (arith, a, least_is, lt) in (
+            seen,
+            omega arith,
+            order,
+            e ∙ ap (min (length (line (take place (journal_walked walked of colour)))))
+                (same_held looked seen (both_all looked seen all_below (omega (arith, all_below, lt))) ∙ sym (of_caller seen)),
+          ))
+    ]
+
+    asked_back : AsksFor (log_of walked.report told) caller of colour seen until place from
+        → from ≡ min (length (line (take place (journal_walked walked of colour)))) (held_of walked own colour of looked)
+    asked_back x =
+        at (min x.0 (length (journal_walked walked own colour))) (let a = x.1 in omega (arith, a, least_is))
+        (let a = x.2 in omega (arith, a, last_is))
+        (x.3 ∙ ap (min (length (line (take place (journal_walked walked of colour)))))
+        (of_caller x.0 ∙ cut (cases_lt x.0 (length (journal_walked walked own colour))))) where
+          cut : (x.0 < length (journal_walked walked own colour)) ⊎ (length (journal_walked walked own colour) ≤ x.0)
+              → held_of walked own colour of x.0 ≡ held_of walked own colour of (min x.0 (length (journal_walked walked own colour)))
+          cut (inl lt) = ap (held_of walked own colour of) (omega (arith, lt))
+          cut (inr ge) = same_held x.0 (min x.0 (length (journal_walked walked own colour)))
+              (both_all x.0 (min x.0 (length (journal_walked walked own colour))) ge (omega (arith, ge)))
+
+          at : (m : ℕ) → least ≤ m → m ≤ last
+              → from ≡ min (length (line (take place (journal_walked walked of colour)))) (held_of walked own colour of m)
+              → from ≡ min (length (line (take place (journal_walked walked of colour)))) (held_of walked own colour of looked)
+          at m low high e = elim (cases_lt m looked) [
+            | inl lt ↦ absurd (let short = first.least m low lt in let f : ⊥ = omega (arith, e, short) in f)
+            | inr ge ↦
+                (let r = held_rises looked m ge in elim first.enough [
+                  | inl end ↦ e ∙ ap (λ (k : ℕ). min (length (line (take place (journal_walked walked of colour))))
+                      (held_of walked own colour of k)) (let same : m ≡ looked = omega (arith, high, end, ge) in same)
+                  | inr long ↦ omega (arith, e, r, long)
+                ])
+          ]
+
+    pub asks_told : (bound : ℕ)
+        → bound ≡ min (length (line (take place (journal_walked walked of colour)))) (held_of walked own colour of looked)
+        → (b : Bool) → nat_eq from bound ≡ b → Tells b (AsksFor (log_of walked.report told) caller of colour seen until place from)
+    asks_told bound is_bound true e = asked (eqb-true from bound e ∙ is_bound)
+    asks_told bound is_bound false e = λ x. eqb-false from bound e (asked_back x ∙ sym is_bound)

@@ -1,0 +1,29 @@
+use Rattle.std.proofs.Common.{◌≡◌, ◌∙◌, ap, sym, subst, ℕ, ◌<◌, ◌≤◌, List, length, take, min, arith, rules}
+use Rattle.std.proofs.lemmas.List.{length-take-le}
+use Rattle.log_node.specs.declared.ids.Key.{Key}
+use Rattle.col_core.specs.declared.Entry.{Entry}
+use Rattle.col_core.specs.Computed.{dated}
+use Rattle.col_core.specs.History.{line}
+use Rattle.col_core.specs.Legal.{IsColumnHistory}
+use Rattle.playback.specs.Merging.{AreRising}
+use Rattle.run_law.specs.Walking.{journal_walked}
+use Rattle.run_law.proofs.ScanLemmas.{line_cut, line_cut_short, line_cut_rises}
+use Rattle.run_law.proofs.subject.Subject.line_until.Goals as goal
+
+pub slice_bounds-result-end-2 : goal.slice_bounds-result-end-2
+slice_bounds-result-end-2 c =
+    line_cut_short c.args.region c.args.self.now.script.shape.regions (journal_walked c.args.self.now c.args.region c.args.colour)
+    (search rules) c.args.events c.min.result (search rules) c.line_length-count.result c.line_length-count.ensures c.line.result.now
+    (search rules)
+
+pub returns-clause-line : goal.returns-clause-line
+returns-clause-line c =
+    line_cut c.args.region c.args.self.now.script.shape.regions (journal_walked c.args.self.now c.args.region c.args.colour)
+    (search rules) c.args.events c.min.result (search rules) c.line_length-count.result c.line_length-count.ensures c.line.result.now
+    (search rules)
+
+pub returns-clause-rising : goal.returns-clause-rising
+returns-clause-rising c =
+    line_cut_rises c.args.region c.args.self.now.script.shape.regions (journal_walked c.args.self.now c.args.region c.args.colour)
+    (search rules) c.args.events c.min.result (search rules) c.line_length-count.result c.line_length-count.ensures c.line.result.now
+    (search rules)
