@@ -55,6 +55,7 @@ mod SeventhLaws
 mod SeventhLemmas
 mod ShapeColours
 mod Shards
+mod ShowingLaws
 mod ShownSteps
 mod ShownTextLemmas
 mod SixthLaws

@@ -58,7 +58,7 @@ pub use fifth::keeps_fifth;
 pub use first::keeps_first;
 pub use journals::tracks_of;
 pub use keeping::Keeping;
-pub use laws::{eleventh_is_causes, fifth_is_entering, ninth_is_shown, twelfth_is_bare};
+pub use laws::{eleventh_is_causes, fifth_is_entering, fourteenth_is_decided, ninth_is_shown, showing_is_found, twelfth_is_bare};
 pub use left_open::keeps_eighth;
 pub use seventh::{keeps_seventh, seventh_is_stopping};
 pub use sixth::{keeps_sixth, sixth_is_standing};
