@@ -1,5 +1,6 @@
 mod AllReplies
 mod AskedIs
+mod AppendedNodes
 mod AskedNodes
 mod BaseLemmas
 mod BehindLemmas
@@ -15,9 +16,11 @@ mod EndedRows
 mod EnteringLemmas
 mod FifthLaws
 mod FinalLemmas
+mod FindingLemmas
 mod FirstLemmas
 mod FrontLemmas
 mod HeadLemmas
+mod JoinedTexts
 mod LeftLemmas
 mod LineOrder
 mod ListedLaws

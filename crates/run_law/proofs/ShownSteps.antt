@@ -37,7 +37,7 @@ mapped_twice : {X Y Z : Type 0} (f : Y → Z) (g : X → Y) (xs : List X) → ma
 mapped_twice f g [] = refl
 mapped_twice f g (x ∷ xs) = ap (λ l. f (g x) ∷ l) (mapped_twice f g xs)
 
-keys_unnamed : (answer : Answer) → AreKeysFound (unnamed answer) answer
+pub keys_unnamed : (answer : Answer) → AreKeysFound (unnamed answer) answer
 keys_unnamed (answers.GotKeys stamp shown raises syncs) = mapped_twice (λ (v : Version). v.key) _ shown
 keys_unnamed _ = tt
 

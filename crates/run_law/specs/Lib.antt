@@ -5,6 +5,7 @@ pub mod Behind
 pub mod Columns
 pub mod Eleventh
 pub mod Fifth
+pub mod Finds
 pub mod Journals
 pub mod Keepings
 pub mod KeysRead

@@ -60,8 +60,8 @@ impl Keeping {
         Ok(1 < asked.len())
     }
 
-    // Behind an answer to the command in this place.
-    fn answered(
+    /// Behind an answer to the command in this place.
+    pub(crate) fn answered(
         &mut self,
         alloc: Global,
         subject: &Subject<'_>,

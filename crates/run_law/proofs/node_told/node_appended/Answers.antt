@@ -1,0 +1,41 @@
+use Rattle.std.proofs.Common.{◌≡◌, ◌∙◌, ◌<◌, Bool, List, Option, ℕ, ap, length, refl, sym, subst}
+use Rattle.std.specs.Prelude.{nat_lt}
+use Rattle.std.specs.List.{All}
+use Rattle.std.specs.Option.{option_copied}
+use Rattle.log_node.specs.declared.limits.TheConstants.{MAX_COLOURS}
+use Rattle.script_text.specs.declared.script.Kind.{Kind}
+use Rattle.script_text.specs.declared.script.Script.{Script}
+use Rattle.script_text.specs.Commands.{use_of}
+use Rattle.lawful_run.specs.Asks.{kind_asked, object_colours}
+use Rattle.lawful_run.specs.Callers.{Caller, caller_of}
+use Rattle.lawful_run.specs.Deeds.{found_by, saying_of}
+use Rattle.col_core.specs.Keeping.{nothing_kept}
+use Rattle.run_rules.specs.Told.{colours_asked}
+use Rattle.run_law.specs.Asking.{HaveLowColours}
+use Rattle.run_law.specs.Finds.{node_with, set_asked, text_of}
+use Rattle.run_law.proofs.AppendedNodes.{appended_none, appended_some, asked_low}
+use Rattle.run_law.proofs.FirstLemmas.{low_objects}
+use Rattle.run_law.proofs.node_told.node_appended.Goals as goal
+
+pub kind_asked-kind-requires : goal.kind_asked-kind-requires
+kind_asked-kind-requires c =
+    subst HaveLowColours (sym (c.as_slice.ensures ∙ ap (λ (s : Script). s.objects) c.script.ensures))
+    (low_objects c.args.subject.now.script c.agrees.ensures.may.1.fitting)
+
+pub node_saying-requires-clause-low : goal.node_saying-requires-clause-low
+node_saying-requires-clause-low c =
+    subst (λ (l : List ℕ). All (λ colour. colour < MAX_COLOURS) l)
+    (sym (c.as_slice-2.ensures ∙ c.in_ok-asked.ensures c.requires.counts.0 c.requires.counts.1))
+    (asked_low c.args.subject.now.script c.agrees.ensures.may.1.fitting c.args.client c.requires.counts.0 c.args.what.now c.requires.within)
+
+pub returns : goal.returns
+returns c = λ kept counted of_found.
+    let caller : Caller = caller_of c.args.subject.now.script c.args.client in
+    let asked = c.in_ok-asked.ensures kept counted in
+    let found = option_copied c.args.found in
+    appended_some (c.args.decision) caller kept c.args.what.now c.args.answer.now c.node_saying.result
+    (nat_lt 1 c.len.result) c.as_slice-2.result.now (option_copied c.kind_asked-kind.result) found c.in_ok-text.text
+    (ap (λ (n : ℕ). nat_lt 1 n) (c.len.ensures ∙ ap (λ (l : List ℕ). length l) asked))
+    (sym c.tells_node.ensures ∙ c.if-not-tells_node.false) (c.as_slice-2.ensures ∙ asked)
+    (c.kind_asked-kind.ensures.kind caller (sym (c.as_slice.ensures ∙ ap (λ s. s.objects) c.script.ensures))) of_found c.in_ok-text.ensures
+    (c.node_saying.ensures _ caller kept refl (sym c.own-own.ensures.own) counted)
