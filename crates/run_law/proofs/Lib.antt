@@ -19,6 +19,7 @@ mod FinalLemmas
 mod FindingLemmas
 mod FirstLemmas
 mod FrontLemmas
+mod GoingLemmas
 mod HeadLemmas
 mod JoinedTexts
 mod LeftLemmas

@@ -29,7 +29,7 @@ use crate::object_colours::kind_asked;
 use crate::read_places::ReadPlaces;
 use crate::subject::Subject;
 use crate::texts_written::text_said;
-use log_node::{Colours, Node, Row, Text, Version, Wants};
+use log_node::{Colours, ListOf, Node, Row, Text, Version, Wants};
 use part_fold::Decision;
 use report_text::Answer;
 use script_text::What;
@@ -263,4 +263,47 @@ impl Going {
         self.places.pass(what, answer, place);
         Ok(node)
     }
+}
+
+// The nodes of a client's commands, in the order of their ids.
+fn client_nodes(
+    alloc: Global,
+    subject: &Subject<'_>,
+    client: u8,
+    finds: &Finds,
+    decisions: &Decisions,
+) -> Result<ListOf<Node>, AllocError>
+    requires walker { client < length subject.now.report.clients }
+    requires keys { FindsKeys subject.now.report (finds_at finds.now) }
+    ensures { IfOk result (λ nodes. nodes
+        ≡ nodes_with subject.now.script subject.now.report (finds_at finds.now) (decision_at decisions.now) client) }
+{
+    subject.agrees();
+    let mut going = Going::new(alloc)?;
+    let mut nodes = ListOf::new(alloc);
+    for place in 0..subject.count(client) {
+        let node = going.next(alloc, subject, client, place, finds, decisions)?;
+        if let Some(node) = node {
+            nodes.push(node)?;
+        }
+    }
+    Ok(nodes)
+}
+
+/// The nodes of each client's commands, by what reads found and what decisions say.
+pub fn nodes_with(
+    alloc: Global,
+    subject: &Subject<'_>,
+    finds: &Finds,
+    decisions: &Decisions,
+) -> Result<NodeTable, AllocError>
+    requires { FindsKeys subject.now.report (finds_at finds.now) }
+    ensures { IfOk result (AreNodes
+        (nodes_with subject.now.script subject.now.report (finds_at finds.now) (decision_at decisions.now))) }
+{
+    let mut table = NodeTable::new(alloc, 0)?;
+    for client in 0..subject.clients() {
+        table.add_client(client_nodes(alloc, subject, client, finds, decisions)?)?;
+    }
+    Ok(table)
 }
