@@ -1,6 +1,6 @@
 -- The nodes that commands appended, by what their clients kept.
 use Rattle.std.proofs.Common.{◌≡◌, ◌∙◌, refl, ap, sym, subst, Bool, true, false, ℕ, zero, suc, ◌+◌, ◌<◌, ◌≤◌, List, [], ◌∷◌, ◌++◌, length, map, get_or, Option, Some, None, inl, inr, arith}
-use Rattle.std.specs.Prelude.{if◌then◌else◌, Result, Ok, Err, IfOk}
+use Rattle.std.specs.Prelude.{IfSome}
 use Rattle.std.specs.List.{All}
 use Rattle.std.specs.Option.{option_map}
 use Rattle.log_node.specs.declared.ids.Colours.{Colours}
@@ -9,15 +9,18 @@ use Rattle.log_node.specs.declared.ids.Id.{Id}
 use Rattle.log_node.specs.declared.ids.Row.{Row}
 use Rattle.log_node.specs.declared.node.Node.{Node}
 use Rattle.log_node.specs.declared.limits.TheConstants.{MAX_COLOURS}
+use Rattle.log_node.specs.declared.forms.Form.TheVariants as forms
 use Rattle.log_node.specs.declared.forms.Pair.{Pair}
 use Rattle.log_node.specs.declared.forms.Version.{Version}
 use Rattle.log_node.specs.Sets.{members}
 use Rattle.log_node.proofs.CallerLemmas.{members_low}
+use Rattle.object_form.specs.Forms.{form_text}
 use Rattle.tree_fold.specs.declared.change.Change.{Change}
 use Rattle.tree_fold.specs.Readings.{below_root_of, make_of, move_of, remove_of}
 use Rattle.part_fold.specs.declared.decision.Decision.{Decision}
 use Rattle.col_core.specs.Keeping.{Kept}
 use Rattle.col_core.proofs.CallerLemmas.{In, if_false, if_true}
+use Rattle.script_text.specs.declared.script.Command.{Command}
 use Rattle.script_text.specs.declared.script.Kind.{Kind}
 use Rattle.script_text.specs.declared.script.Script.{Script}
 use Rattle.script_text.specs.declared.commands.What.{What}
@@ -31,8 +34,12 @@ use Rattle.lawful_run.specs.Callers.{Caller, caller_of, node_of, row_taken}
 use Rattle.lawful_run.specs.Asks.{kind_asked, object_colours}
 use Rattle.lawful_run.specs.Deeds.{Saying, found_by, saying_of, says_change}
 use Rattle.run_rules.specs.Nodes.{node_asked, node_said}
+use Rattle.run_rules.specs.Said.{with_text}
 use Rattle.run_rules.specs.Told.{colours_asked, colours_said, is_several}
 use Rattle.run_law.specs.Asking.{colours_in}
+use Rattle.run_law.specs.declared.drafts.Draft.{Draft}
+use Rattle.run_law.specs.declared.drafts.Used.{Used}
+use Rattle.run_law.specs.Drafts.{SaysDraft, filled, found_used, pairs_at, pairs_written, text_used}
 use Rattle.run_law.specs.Finds.{node_appended, node_list, node_with, set_asked, text_of, wants_in}
 use Rattle.run_law.specs.Keepings.{Counted, IsCounted, start_at}
 use Rattle.run_law.specs.TextsSaid.{tells_node}
@@ -126,23 +133,23 @@ module _ (decision : Decision) (caller : Caller) (kept : Kept) (own : List ℕ) 
       ap (λ (c : Colours). node_with caller kept c (text_of decision (says_change (Some change))))
       (other (colours_said own (says_change (Some change))))
 
-  pub made : (kind : Option Kind) (found : Option (List Version)) (what : What) → Made what (saying_of kind found what)
-  made kind found (whats.Append colours text) = refl
-  made kind found (whats.Stop steps colours text) = refl
-  made kind found (whats.Put object key value) = refl
-  made kind found (whats.Del object key) = refl
-  made kind found (whats.PutAll object pairs) = refl
-  made kind found (whats.Commit object pairs) = made_committed kind found object pairs
-  made kind found (whats.Enq object value) = refl
-  made kind found (whats.Deq object) = refl
-  made kind found (whats.Only colour text) = refl
-  made kind found (whats.Mk object path value) =
+  pub made_is : (kind : Option Kind) (found : Option (List Version)) (what : What) → Made what (saying_of kind found what)
+  made_is kind found (whats.Append colours text) = refl
+  made_is kind found (whats.Stop steps colours text) = refl
+  made_is kind found (whats.Put object key value) = refl
+  made_is kind found (whats.Del object key) = refl
+  made_is kind found (whats.PutAll object pairs) = refl
+  made_is kind found (whats.Commit object pairs) = made_committed kind found object pairs
+  made_is kind found (whats.Enq object value) = refl
+  made_is kind found (whats.Deq object) = refl
+  made_is kind found (whats.Only colour text) = refl
+  made_is kind found (whats.Mk object path value) =
       made_changed (make_of (below_root_of path) value) (whats.Mk object path value) (λ asked. refl)
-  made kind found (whats.Rm object path) = made_changed (remove_of (below_root_of path)) (whats.Rm object path) (λ asked. refl)
-  made kind found (whats.Mv object source target) =
+  made_is kind found (whats.Rm object path) = made_changed (remove_of (below_root_of path)) (whats.Rm object path) (λ asked. refl)
+  made_is kind found (whats.Mv object source target) =
       made_changed (move_of (below_root_of source) (below_root_of target)) (whats.Mv object source target) (λ asked. refl)
-  made kind found (whats.Decide object key) = refl
-  made kind found _ = refl
+  made_is kind found (whats.Decide object key) = refl
+  made_is kind found _ = refl
 
 -- WHERE AN ANSWER TELLS ONE
 
@@ -152,28 +159,89 @@ appended_none decision caller kept what answer b is none =
     if_false (tells_node (is_several caller kept what) answer) (node_asked decision caller kept what) []
     (ap (λ (t : Bool). tells_node t answer) (sym is) ∙ none)
 
-module _ {E : Type 0} (decision : Decision) (caller : Caller) (kept : Kept) (what : What) (answer : Answer) (r : Result (Option Node) E) where
-  pub appended_some : (b : Bool) (asked : List ℕ) (kind : Option Kind) (found : Option (List Version)) (text : Option (List ℕ))
-      → b ≡ is_several caller kept what → tells_node b answer ≡ true → asked ≡ colours_asked caller kept what
-      → kind ≡ kind_asked caller what → found_by (use_of what) kept ≡ found → text ≡ text_of decision (saying_of kind found what)
-      → IfOk r (λ node. node_list node ≡ node_with caller kept (set_asked what asked) text)
-      → IfOk r (λ node. node_list node ≡ node_appended decision caller kept what answer)
-  appended_some b asked kind found text is one of_asked of_kind of_found of_text =
-      subst (λ (nodes : List Node). IfOk r (λ node. node_list node ≡ nodes)) same where
+-- WHAT A READ FOUND
+
+-- a text, or in its place what is said of what a read found
+abbrev said : Option (List ℕ) → List ℕ → List ℕ
+said None text = text
+said (Some other) text = other
+
+same_said : (o : Option (List ℕ)) → o ≡ option_map (said None) o
+same_said None = refl
+same_said (Some text) = refl
+
+none_used : (found : ℕ → List Version) (used : Option Used) → None ≡ found_used found used → used ≡ None
+none_used found None e = refl
+none_used found (Some u) e = absurd (let f : ⊥ = cc (e) in f)
+
+module _ (commands : List Command) (found : ℕ → List Version) (decision : Decision) (kind : Option Kind) where
+  abbrev Written : What → Option Used → Type 0
+  Written what used =
+      text_of decision (saying_of kind (found_used found used) what)
+      ≡ option_map (said (option_map (text_used commands found) used))
+      (text_of decision (saying_of kind (option_map (λ (u : Used). let none : List Version = [] in none) used) what))
+
+  written_none : (what : What) (used : Option Used) → used ≡ None → Written what used
+  written_none what used is = subst (Written what) (sym is) (same_said (text_of decision (saying_of kind None what)))
+
+  written_commit : (object : ℕ) (pairs : List Pair) (used : Option Used) → IfSome used (λ u. pairs_at commands u.commit ≡ pairs)
+      → Written (whats.Commit object pairs) used
+  written_commit object pairs None are = refl
+  written_commit object pairs (Some u) are =
+      ap (λ (ps : List Pair). let o : Option (List ℕ) = Some (form_text (forms.Transaction (found u.read) ps)) in o) (sym are)
+
+  -- the text of a commit is written by what its read found
+  pub written : (kept : Kept) (what : What) (used : Option Used) → found_by (use_of what) kept ≡ found_used found used
+      → IfSome used (λ u. pairs_at commands u.commit ≡ pairs_written what) → Written what used
+  written kept (whats.Commit object pairs) used is are = written_commit object pairs used are
+  written kept what used is are = written_none what used (none_used found used is)
+
+-- a node with its text is the one that is made, with what is said in the place of its text
+module _ (commands : List Command) (found : ℕ → List Version) (caller : Caller) (kept : Kept) (colours : Colours) (used : Option Used) where
+  drafted_some : (o : Option (List ℕ)) (n : Node) (text : List ℕ) → n ≡ node_of caller kept colours text
+      → with_text o n ≡ node_of caller kept colours (said o text)
+  drafted_some None n text is = is
+  drafted_some (Some other) n text is = ap (λ (m : Node). let k : Node = record m { text = other } in k) is
+
+  drafted_as : (node : Option Node) (text : Option (List ℕ)) → node_list node ≡ node_with caller kept colours text
+      → node_list (option_map (filled commands found) (option_map (λ (n : Node). let d : Draft = record { node = n; used = used } in d) node))
+      ≡ node_with caller kept colours (option_map (said (option_map (text_used commands found) used)) text)
+  drafted_as None None is = refl
+  drafted_as None (Some text) is = absurd (let f : ⊥ = cc (is) in f)
+  drafted_as (Some n) None is = absurd (let f : ⊥ = cc (is) in f)
+  drafted_as (Some n) (Some text) is =
+      ap (λ (m : Node). m ∷ [])
+      (drafted_some (option_map (text_used commands found) used) n text (let e : n ≡ node_of caller kept colours text = cc (is) in e))
+
+module _ (commands : List Command) (found : ℕ → List Version) (decision : Decision) (caller : Caller) (kept : Kept) (what : What)
+    (answer : Answer) (used : Option Used) where
+  pub says_draft : (b : Bool) (asked : List ℕ) (kind : Option Kind) (nothing : Option (List Version)) (text : Option (List ℕ))
+      (node : Option Node) (made : Option Draft) → b ≡ is_several caller kept what → tells_node b answer ≡ true
+      → asked ≡ colours_asked caller kept what → kind ≡ kind_asked caller what
+      → found_by (use_of what) kept ≡ found_used found used
+      → IfSome used (λ u. pairs_at commands u.commit ≡ pairs_written what)
+      → nothing ≡ option_map (λ (u : Used). let none : List Version = [] in none) used
+      → text ≡ text_of decision (saying_of kind nothing what)
+      → node_list node ≡ node_with caller kept (set_asked what asked) text
+      → made ≡ option_map (λ (n : Node). let d : Draft = record { node = n; used = used } in d) node
+      → SaysDraft commands found decision caller kept what answer made
+  says_draft b asked kind nothing text node made is one of_asked of_kind of_found are of_nothing of_text of_node of_made =
+      ap (λ (d : Option Draft). node_list (option_map (filled commands found) d)) of_made
+      ∙ (drafted_as commands found caller kept (set_asked what asked) used node text of_node
+      ∙ (ap (λ (t : Option (List ℕ)). node_with caller kept (set_asked what asked) (option_map (said uses) t))
+      (of_text ∙ (ap (λ (k : Option Kind). text_of decision (saying_of k nothing what)) of_kind
+      ∙ ap (λ (f : Option (List Version)). text_of decision (saying_of (kind_asked caller what) f what)) of_nothing))
+      ∙ (ap (node_with caller kept (set_asked what asked))
+      (sym (written commands found decision (kind_asked caller what) kept what used of_found are))
+      ∙ (ap (λ (a : List ℕ). node_with caller kept (set_asked what a)
+      (text_of decision (saying_of (kind_asked caller what) (found_used found used) what))) of_asked
+      ∙ (ap (λ (f : Option (List Version)). node_with caller kept (set_asked what (colours_asked caller kept what))
+      (text_of decision (saying_of (kind_asked caller what) f what))) (sym of_found)
+      ∙ (made_is decision caller kept own (kind_asked caller what) (found_by (use_of what) kept) what
+      ∙ sym (if_true (tells_node (is_several caller kept what) answer) (node_asked decision caller kept what) []
+      (ap (λ (t : Bool). tells_node t answer) (sym is) ∙ one)))))))) where
         own : List ℕ
         own = object_colours (kind_asked caller what)
 
-        says : Option Kind → Option (List Version) → Option Saying
-        says k f = saying_of k f what
-
-        same : node_with caller kept (set_asked what asked) text ≡ node_appended decision caller kept what answer
-        same =
-            ap (node_with caller kept (set_asked what asked)) of_text
-            ∙ (ap (λ (a : List ℕ). node_with caller kept (set_asked what a) (text_of decision (says kind found))) of_asked
-            ∙ (ap (λ (k : Option Kind). node_with caller kept (set_asked what (colours_asked caller kept what))
-            (text_of decision (says k found))) of_kind
-            ∙ (ap (λ (f : Option (List Version)). node_with caller kept (set_asked what (colours_asked caller kept what))
-            (text_of decision (says (kind_asked caller what) f))) (sym of_found)
-            ∙ (made decision caller kept own (kind_asked caller what) (found_by (use_of what) kept) what
-            ∙ sym (if_true (tells_node (is_several caller kept what) answer) (node_asked decision caller kept what) []
-            (ap (λ (t : Bool). tells_node t answer) (sym is) ∙ one))))))
+        uses : Option (List ℕ)
+        uses = option_map (text_used commands found) used

@@ -1,6 +1,6 @@
 -- Behind a step by which a read found something.
 use Rattle.std.proofs.Common.{◌≡◌, ◌∙◌, refl, ap, sym, subst, Bool, true, false, cond, ℕ, zero, suc, ◌+◌, ◌<◌, ◌≤◌, List, [], ◌∷◌, ◌++◌, length, map, drop, get_or, Option, Some, None, arith}
-use Rattle.std.specs.Prelude.{◌==◌, not, slice_get, slice_index_or}
+use Rattle.std.specs.Prelude.{◌==◌, IfSome, not, slice_get, slice_index_or}
 use Rattle.std.proofs.lemmas.Bool.{ne_eqb}
 use Rattle.std.proofs.lemmas.List.Elements.{All-contains}
 use Rattle.log_node.proofs.CallerLemmas.{same_some}
@@ -38,7 +38,10 @@ use Rattle.run_rules.specs.Told.{AreKeysFound, Step, Untold, kept_after_append, 
 use Rattle.run_rules.specs.Nodes.{node_asked, node_told}
 use Rattle.run_rules.specs.Telling.{FindKeys, replies_in, replies_to, step_finding, unnamed, untold_told}
 use Rattle.run_rules.proofs.CallerLemmas.{found_told, told_reads}
-use Rattle.run_law.specs.Finds.{AreFoundAt, FindsKeys, StepsOn, node_appended, node_list, place_at}
+use Rattle.run_law.specs.declared.drafts.Draft.{Draft}
+use Rattle.run_law.specs.declared.drafts.Used.{Used}
+use Rattle.run_law.specs.Drafts.{SaysDraft, StepsOn, pairs_at, pairs_in, pairs_written}
+use Rattle.run_law.specs.Finds.{AreFoundAt, FindsKeys, node_appended, place_at}
 use Rattle.run_law.specs.Keepings.{Counted, IsCounted, IsFoundAt, ShowsKeys, read_at}
 use Rattle.run_law.specs.Replies.{place_read}
 use Rattle.run_law.specs.Walking.{Walked, log_walked, places_printed}
@@ -191,6 +194,13 @@ command_within script fits client place command at =
     (contains_in script.commands command
     (in_filter (λ (d : Command). d.client == client) command script.commands (slice_in (commands_of script client) place command at)).0)
 
+-- the pairs of the command in the place of a commit are its own
+pub written_at : (commands : List Command) (command : Command) (place : ℕ) → slice_get commands place ≡ Some command
+    → (used : Option Used) → IfSome used (λ u. u.commit ≡ place)
+    → IfSome used (λ u. pairs_at commands u.commit ≡ pairs_written command.what)
+written_at commands command place at None is = tt
+written_at commands command place at (Some u) is = ap (pairs_at commands) is ∙ ap pairs_in at
+
 module _ (decision : Decision) (log : Log) (caller : Caller) (kept : Kept) (what : What) where
   -- the node is made when it is appended
   pub told_is : (answer : Answer) → node_appended decision caller (kept_appending log caller kept answer) what answer
@@ -244,8 +254,8 @@ module _ (walked : Walked) (client place : ℕ) (found : ℕ → List Version) (
   abbrev pub left_out : Untold
   left_out = untold_told log caller shown before what answer
 
-  pub on : (made : Option Node) (now : Counted) (table : List (Option ℕ)) → slice_get replies place ≡ Some reply → FindKeys found replies
-      → node_list made ≡ node_appended decision caller (kept_appending log caller before answer) what answer
+  pub on : (made : Option Draft) (now : Counted) (table : List (Option ℕ)) → slice_get replies place ≡ Some reply → FindKeys found replies
+      → SaysDraft (commands_of walked.script client) found decision caller (kept_appending log caller before answer) what answer made
       → IsCounted replies (kept_behind what (kept_told log left_out caller before what answer)) now
       → AreFoundAt found (kept_past log caller (step_finding log caller shown (found place) kept command reply)).reads table
       → StepsOn walked client place found decision kept made now table command reply

@@ -52,7 +52,7 @@ keys_at now log caller (answers.GotKeys stamp shown raises syncs) found k =
     (λ f. ap (map (λ (v : Version). v.key)) (if_false (stamp == now) (versions_told log caller stamp shown syncs) found f) ∙ k)
 keys_at now log caller _ found k = k
 
-find_keys : (found : ℕ → List Version) (rs : List ReplyLine)
+pub find_keys : (found : ℕ → List Version) (rs : List ReplyLine)
     → ((k : ℕ) → AreKeysFound (found k) (answer_in (slice_get rs k))) → FindKeys found rs
 find_keys found [] f = tt
 find_keys found (r ∷ rs) f = (f 0, find_keys (λ k. found (suc k)) rs (λ k. f (suc k)))

@@ -86,12 +86,3 @@ node_list (Some node) = node ∷ []
 abbrev pub node_appended : Decision → Caller → Kept → What → Answer → List Node
 node_appended decision caller kept what answer =
     if tells_node (is_several caller kept what) answer then node_asked decision caller kept what else []
-
--- One step of a client's commands, whose reads found this: the node that is told of it, and what is counted behind it.
-pub record StepsOn (walked : Walked) (client place : ℕ) (found : ℕ → List Version) (decision : Decision) (kept : Kept)
-    (made : Option Node) (now : Counted) (table : List (Option ℕ)) (command : Command) (reply : ReplyLine) : Type 0 where
-  pub node : node_list made ≡ node_told decision (log_walked walked) (caller_of walked.script client)
-      (kept_before command.what kept) command.what reply.answer
-  pub behind : CountsFinding (replies_to walked.report client) found (kept_past (log_walked walked) (caller_of walked.script client)
-      (step_finding (log_walked walked) (caller_of walked.script client) (places_printed walked client) (found place) kept command
-      reply)) now table

@@ -3,6 +3,7 @@ pub mod Asking
 pub mod Bases
 pub mod Behind
 pub mod Columns
+pub mod Drafts
 pub mod Eleventh
 pub mod Fifth
 pub mod Finds

@@ -1,6 +1,6 @@
 use Rattle.std.proofs.Common.{[], ap, sym}
 use Rattle.std.specs.Option.{option_map}
-use Rattle.run_law.proofs.node_told.Going.new.Goals as goal
+use Rattle.run_law.proofs.drafts.Going.new.Goals as goal
 
 pub returns-clause-counts : goal.returns-clause-counts
 returns-clause-counts c = λ replies found. record {

@@ -2,7 +2,7 @@ use Rattle.std.proofs.Common.{◌∙◌, ◌++◌, ◌∷◌, [], ℕ, List, map
 use Rattle.log_node.specs.declared.ids.Counts.{Counts}
 use Rattle.run_law.specs.Asking.{colours_in}
 use Rattle.run_law.specs.Keepings.{start_at}
-use Rattle.run_law.proofs.node_told.wants_in.Goals as goal
+use Rattle.run_law.proofs.node_said.wants_in.Goals as goal
 
 pub loop-colour-init : goal.loop-colour-init
 unfolding colours_in

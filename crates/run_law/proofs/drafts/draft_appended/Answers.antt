@@ -13,9 +13,9 @@ use Rattle.col_core.specs.Keeping.{nothing_kept}
 use Rattle.run_rules.specs.Told.{colours_asked}
 use Rattle.run_law.specs.Asking.{HaveLowColours}
 use Rattle.run_law.specs.Finds.{node_with, set_asked, text_of}
-use Rattle.run_law.proofs.AppendedNodes.{appended_none, appended_some, asked_low}
+use Rattle.run_law.proofs.AppendedNodes.{appended_none, asked_low, says_draft}
 use Rattle.run_law.proofs.FirstLemmas.{low_objects}
-use Rattle.run_law.proofs.node_told.node_appended.Goals as goal
+use Rattle.run_law.proofs.drafts.draft_appended.Goals as goal
 
 pub kind_asked-kind-requires : goal.kind_asked-kind-requires
 kind_asked-kind-requires c =
@@ -29,13 +29,14 @@ node_saying-requires-clause-low c =
     (asked_low c.args.subject.now.script c.agrees.ensures.may.1.fitting c.args.client c.requires.counts.0 c.args.what.now c.requires.within)
 
 pub returns : goal.returns
-returns c = λ kept counted of_found.
+returns c = λ kept commands found counted of_found are.
     let caller : Caller = caller_of c.args.subject.now.script c.args.client in
     let asked = c.in_ok-asked.ensures kept counted in
-    let found = option_copied c.args.found in
-    appended_some (c.args.decision) caller kept c.args.what.now c.args.answer.now c.node_saying.result
-    (nat_lt 1 c.len.result) c.as_slice-2.result.now (option_copied c.kind_asked-kind.result) found c.in_ok-text.text
+    says_draft commands found c.args.decision caller kept c.args.what.now c.args.answer.now c.args.used
+    (nat_lt 1 c.len.result) c.as_slice-2.result.now (option_copied c.kind_asked-kind.result) (option_copied c.nothing_found.result)
+    c.in_ok-text.text c.in_ok-node.node c.drafted.result
     (ap (λ (n : ℕ). nat_lt 1 n) (c.len.ensures ∙ ap (λ (l : List ℕ). length l) asked))
     (sym c.tells_node.ensures ∙ c.if-not-tells_node.false) (c.as_slice-2.ensures ∙ asked)
-    (c.kind_asked-kind.ensures.kind caller (sym (c.as_slice.ensures ∙ ap (λ s. s.objects) c.script.ensures))) of_found c.in_ok-text.ensures
-    (c.node_saying.ensures _ caller kept refl (sym c.own-own.ensures.own) counted)
+    (c.kind_asked-kind.ensures.kind caller (sym (c.as_slice.ensures ∙ ap (λ s. s.objects) c.script.ensures))) of_found are
+    c.nothing_found.ensures c.in_ok-text.ensures
+    (c.in_ok-node.ensures _ caller kept refl (sym c.own-own.ensures.own) counted) c.drafted.ensures

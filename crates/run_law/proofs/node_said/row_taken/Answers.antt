@@ -3,7 +3,7 @@ use Rattle.std.specs.Prelude.{nat_lt}
 use Rattle.std.proofs.lemmas.Bool.{le-ltb, lt-ltb}
 use Rattle.col_core.proofs.CallerLemmas.{if_false, if_true}
 use Rattle.run_law.specs.Asking.{colours_in}
-use Rattle.run_law.proofs.node_told.row_taken.Goals as goal
+use Rattle.run_law.proofs.node_said.row_taken.Goals as goal
 
 pub returns-then-count-gt1 : goal.returns-then-count-gt1
 unfolding colours_in

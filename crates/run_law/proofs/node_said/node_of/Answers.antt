@@ -1,5 +1,5 @@
 use Rattle.run_law.proofs.AppendedNodes.{node_is}
-use Rattle.run_law.proofs.node_told.node_of.Goals as goal
+use Rattle.run_law.proofs.node_said.node_of.Goals as goal
 
 pub returns : goal.returns
 returns c = λ replies caller kept by home is.

@@ -3,7 +3,7 @@ use Rattle.log_node.specs.declared.ids.Colours.{Colours}
 use Rattle.log_node.specs.declared.node.Node.{Node}
 use Rattle.lawful_run.specs.Callers.{node_of}
 use Rattle.run_law.specs.Finds.{node_with, set_asked}
-use Rattle.run_law.proofs.node_told.node_saying.Goals as goal
+use Rattle.run_law.proofs.node_said.node_saying.Goals as goal
 
 pub returns-in_ok-node_of-in-Some : goal.returns-in_ok-node_of-in-Some
 returns-in_ok-node_of-in-Some c = λ replies caller kept by home is.
