@@ -1,16 +1,15 @@
 -- Behind a step by which a read found something.
-use Rattle.std.proofs.Common.{◌≡◌, ◌∙◌, refl, ap, sym, subst, Bool, true, false, cond, ℕ, zero, suc, ◌+◌, ◌<◌, ◌≤◌, List, [], ◌∷◌, ◌++◌, length, map, drop, get_or, Option, Some, None, arith}
-use Rattle.std.specs.Prelude.{◌==◌, IfSome, not, slice_get, slice_index_or}
+use Rattle.std.proofs.Common.{◌≡◌, ◌∙◌, refl, ap, sym, subst, Bool, true, false, cond, ℕ, zero, suc, List, [], ◌∷◌, map, Option, Some, None, arith}
+use Rattle.std.specs.Prelude.{◌==◌, IfSome, not, slice_get}
 use Rattle.std.proofs.lemmas.Bool.{ne_eqb}
 use Rattle.std.proofs.lemmas.List.Elements.{All-contains}
 use Rattle.log_node.proofs.CallerLemmas.{same_some}
 use Rattle.std.specs.Option.{option_map}
 use Rattle.log_node.specs.declared.node.At.{At}
-use Rattle.log_node.specs.declared.node.Node.{Node}
 use Rattle.log_node.specs.declared.forms.Version.{Version}
 use Rattle.part_fold.specs.declared.decision.Decision.{Decision}
 use Rattle.col_core.specs.Log.{Log}
-use Rattle.col_core.specs.Keeping.{Kept, updated, with_read}
+use Rattle.col_core.specs.Keeping.{Kept, with_read}
 use Rattle.col_core.proofs.CallerLemmas.{contains_in, if_true, in_filter, slice_in}
 use Rattle.script_text.specs.declared.commands.What.{What}
 use Rattle.script_text.specs.declared.commands.What.TheVariants as whats
@@ -26,22 +25,20 @@ use Rattle.report_text.specs.declared.report.Answer.TheVariants as answers
 use Rattle.report_text.specs.declared.report.Ended.{Ended}
 use Rattle.report_text.specs.declared.report.Ended.TheVariants as ends
 use Rattle.report_text.specs.declared.report.PointPiece.{PointPiece}
-use Rattle.report_text.specs.declared.report.RaisePiece.{RaisePiece}
 use Rattle.report_text.specs.declared.report.ClientReport.{ClientReport}
 use Rattle.report_text.specs.declared.report.ReplyLine.{ReplyLine}
 use Rattle.report_text.specs.declared.report.Report.{Report}
-use Rattle.report_text.specs.declared.report.SyncPiece.{SyncPiece}
 use Rattle.lawful_run.specs.Callers.{Caller, caller_of, commands_of}
 use Rattle.lawful_run.specs.Deeds.{found_by}
 use Rattle.lawful_run.specs.Refusals.{behind_by, kept_before, kept_behind}
-use Rattle.run_rules.specs.Told.{AreKeysFound, Step, Untold, kept_after_append, kept_after_end, kept_after_read, kept_after_stop, kept_appending, kept_deciding, kept_past, kept_pulled, kept_told, stamp_told, with_found}
+use Rattle.run_rules.specs.Told.{AreKeysFound, Untold, kept_after_append, kept_after_end, kept_after_read, kept_after_stop, kept_appending, kept_deciding, kept_past, kept_pulled, kept_told, stamp_told, with_found}
 use Rattle.run_rules.specs.Nodes.{node_asked, node_told}
-use Rattle.run_rules.specs.Telling.{FindKeys, replies_in, replies_to, step_finding, unnamed, untold_told}
+use Rattle.run_rules.specs.Telling.{FindKeys, replies_in, replies_to, step_finding, untold_told}
 use Rattle.run_rules.proofs.CallerLemmas.{found_told, told_reads}
 use Rattle.run_law.specs.declared.drafts.Draft.{Draft}
 use Rattle.run_law.specs.declared.drafts.Used.{Used}
 use Rattle.run_law.specs.Drafts.{SaysDraft, StepsOn, pairs_at, pairs_in, pairs_written}
-use Rattle.run_law.specs.Finds.{AreFoundAt, FindsKeys, node_appended, place_at}
+use Rattle.run_law.specs.Finds.{AreFoundAt, FindsKeys, node_appended}
 use Rattle.run_law.specs.Keepings.{Counted, IsCounted, IsFoundAt, ShowsKeys, read_at}
 use Rattle.run_law.specs.Replies.{place_read}
 use Rattle.run_law.specs.Walking.{Walked, log_walked, places_printed}

@@ -255,6 +255,10 @@ module _ (walked : Walked) (tracks : List Tracked) (may : MayWalk walked.script 
 -- OF ALL CLIENTS
 
 module _ {A : Type 0} where
+  pub none_left : (xs : List A) → length xs ≡ 0 → xs ≡ []
+  none_left [] none = refl
+  none_left (x ∷ xs) none = absurd (let f : ⊥ = omega (arith, none) in f)
+
   at_before : (xs ys : List A) (n : ℕ) (d : A) → n < length xs → slice_index_or (xs ++ ys) n d ≡ slice_index_or xs n d
   at_before [] ys n d lt = absurd (let f : ⊥ = omega (arith, lt) in f)
   at_before (x ∷ xs) ys zero d lt = refl

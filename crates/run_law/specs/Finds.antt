@@ -8,23 +8,20 @@ use Rattle.log_node.specs.declared.forms.Version.{Version}
 use Rattle.log_node.specs.Sets.{set_of}
 use Rattle.part_fold.specs.declared.decision.Decision.{Decision}
 use Rattle.col_core.specs.Keeping.{Kept}
-use Rattle.script_text.specs.declared.script.Command.{Command}
 use Rattle.script_text.specs.declared.commands.What.{What}
 use Rattle.script_text.specs.declared.commands.What.TheVariants as whats
 use Rattle.report_text.specs.declared.report.Answer.{Answer}
 use Rattle.report_text.specs.declared.report.ClientReport.{ClientReport}
 use Rattle.report_text.specs.declared.report.ReplyLine.{ReplyLine}
 use Rattle.report_text.specs.declared.report.Report.{Report}
-use Rattle.lawful_run.specs.Callers.{Caller, caller_of, node_of}
+use Rattle.lawful_run.specs.Callers.{Caller, node_of}
 use Rattle.lawful_run.specs.Deeds.{Saying}
-use Rattle.lawful_run.specs.Refusals.{kept_before}
-use Rattle.run_rules.specs.Nodes.{any_decision, node_asked, node_told, text_told}
-use Rattle.run_rules.specs.Telling.{FindKeys, replies_to, step_finding}
-use Rattle.run_rules.specs.Told.{is_several, kept_past}
+use Rattle.run_rules.specs.Nodes.{any_decision, node_asked, text_told}
+use Rattle.run_rules.specs.Telling.{FindKeys}
+use Rattle.run_rules.specs.Told.{is_several}
 use Rattle.run_law.specs.Asking.{colours_in}
 use Rattle.run_law.specs.Keepings.{Counted, IsCounted, start_at}
 use Rattle.run_law.specs.TextsSaid.{tells_node}
-use Rattle.run_law.specs.Walking.{Walked, log_walked, places_printed}
 
 -- TABLES
 

@@ -1,5 +1,4 @@
-use Rattle.std.proofs.Common.{◌≡◌, ◌∙◌, ◌<◌, ◌≤◌, ◌++◌, List, [], ap, append-nil, arith, sym}
-use Rattle.lawful_run.specs.Callers.{commands_of}
+use Rattle.std.proofs.Common.{◌∙◌, ◌++◌, ap, append-nil, arith, sym}
 use Rattle.run_rules.specs.Telling.{replies_to}
 use Rattle.run_law.specs.Finds.{decision_at}
 use Rattle.run_law.proofs.GoingLemmas.{all_drafts, draft_list, drafts_begun, drafts_counted, drafts_few, drafts_on}
@@ -45,9 +44,9 @@ loop-place-preserved c =
     c.in_ok-made.made c.next.new.self.keeping c.next.new.self.places c.in_ok-made.ensures.step c.in_ok-made.ensures.ids
     c.in_ok-made.ensures.rows c.match-made.drafts (elim c.match-made.branch [
       | in-Some+in_ok-push w ↦
-        w.drafts-is ∙ (w.in_ok-push.ensures.ok ∙ ap (λ o. c.loop-place.drafts ++ draft_list o) (sym w.in-Some.is))
+          w.drafts-is ∙ (w.in_ok-push.ensures.ok ∙ ap (λ o. c.loop-place.drafts ++ draft_list o) (sym w.in-Some.is))
       | in_default w ↦
-        w.drafts-is ∙ (sym (append-nil c.loop-place.drafts) ∙ ap (λ o. c.loop-place.drafts ++ draft_list o) (sym w.in_default.is))
+          w.drafts-is ∙ (sym (append-nil c.loop-place.drafts) ∙ ap (λ o. c.loop-place.drafts ++ draft_list o) (sym w.in_default.is))
     ])
 
 pub returns : goal.returns

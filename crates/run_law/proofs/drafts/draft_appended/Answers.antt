@@ -1,19 +1,12 @@
-use Rattle.std.proofs.Common.{◌≡◌, ◌∙◌, ◌<◌, Bool, List, Option, ℕ, ap, length, refl, sym, subst}
+use Rattle.std.proofs.Common.{◌∙◌, ◌<◌, List, ℕ, ap, length, refl, sym, subst}
 use Rattle.std.specs.Prelude.{nat_lt}
 use Rattle.std.specs.List.{All}
 use Rattle.std.specs.Option.{option_copied}
 use Rattle.log_node.specs.declared.limits.TheConstants.{MAX_COLOURS}
-use Rattle.script_text.specs.declared.script.Kind.{Kind}
 use Rattle.script_text.specs.declared.script.Script.{Script}
-use Rattle.script_text.specs.Commands.{use_of}
-use Rattle.lawful_run.specs.Asks.{kind_asked, object_colours}
 use Rattle.lawful_run.specs.Callers.{Caller, caller_of}
-use Rattle.lawful_run.specs.Deeds.{found_by, saying_of}
-use Rattle.col_core.specs.Keeping.{nothing_kept}
-use Rattle.run_rules.specs.Told.{colours_asked}
 use Rattle.run_law.specs.Asking.{HaveLowColours}
-use Rattle.run_law.specs.Finds.{node_with, set_asked, text_of}
-use Rattle.run_law.proofs.AppendedNodes.{appended_none, asked_low, says_draft}
+use Rattle.run_law.proofs.AppendedNodes.{asked_low, says_draft}
 use Rattle.run_law.proofs.FirstLemmas.{low_objects}
 use Rattle.run_law.proofs.drafts.draft_appended.Goals as goal
 

@@ -1,4 +1,4 @@
-use Rattle.std.proofs.Common.{◌<◌, ◌≤◌, [], ap, arith, length}
+use Rattle.std.proofs.Common.{arith}
 use Rattle.run_law.specs.Finds.{decision_at}
 use Rattle.run_law.proofs.GoingLemmas.{have_all, have_more}
 use Rattle.run_law.proofs.drafts.drafts_of.Goals as goal

@@ -1,4 +1,4 @@
-use Rattle.std.proofs.Common.{◌∙◌, ◌∷◌, [], List, Option, Some, ℕ, ap, sym}
+use Rattle.std.proofs.Common.{◌∙◌, ◌∷◌, [], List, Option, ℕ, ap, sym}
 use Rattle.log_node.specs.declared.ids.Colours.{Colours}
 use Rattle.log_node.specs.declared.node.Node.{Node}
 use Rattle.lawful_run.specs.Callers.{node_of}

@@ -1,4 +1,4 @@
-use Rattle.std.proofs.Common.{◌∙◌, ◌<◌, ◌≤◌, ap, sym, subst, length, ℕ}
+use Rattle.std.proofs.Common.{◌<◌, ◌≤◌, sym, subst, length, ℕ}
 use Rattle.std.specs.Prelude.{nat_lt}
 use Rattle.std.proofs.lemmas.Bool.{le-ltb, lt-ltb}
 use Rattle.col_core.proofs.CallerLemmas.{if_false, if_true}

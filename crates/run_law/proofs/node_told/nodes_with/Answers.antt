@@ -1,4 +1,4 @@
-use Rattle.std.proofs.Common.{◌≡◌, ◌∙◌, ◌<◌, ◌≤◌, [], ap, arith, refl, sym}
+use Rattle.std.proofs.Common.{arith}
 use Rattle.run_rules.specs.Nodes.{nodes_with}
 use Rattle.run_law.specs.Finds.{decision_at, finds_at}
 use Rattle.run_law.proofs.GoingLemmas.{has_all, has_more, no_client}

@@ -1,21 +1,14 @@
-use Rattle.std.proofs.Common.{◌≡◌, ◌∙◌, List, Option, Some, ap, refl, subst, sym}
-use Rattle.std.specs.Prelude.{IfOk, slice_get}
-use Rattle.std.specs.Option.{option_copied}
-use Rattle.log_node.specs.declared.node.Node.{Node}
+use Rattle.std.proofs.Common.{◌∙◌, refl, subst, sym}
 use Rattle.log_node.proofs.CallerLemmas.{same_some}
-use Rattle.col_core.specs.Keeping.{Kept}
 use Rattle.script_text.specs.declared.script.Command.{Command}
-use Rattle.script_text.specs.Commands.{use_of}
 use Rattle.report_text.specs.declared.report.ReplyLine.{ReplyLine}
 use Rattle.part_fold.specs.declared.decision.Decision.{Decision}
 use Rattle.lawful_run.specs.Callers.{caller_of, commands_of}
-use Rattle.lawful_run.specs.Deeds.{found_by}
 use Rattle.lawful_run.specs.Refusals.{kept_before}
 use Rattle.run_rules.specs.Told.{kept_appending}
 use Rattle.run_rules.specs.Telling.{replies_to}
 use Rattle.run_law.specs.Drafts.{SaysDraft, StepsOn}
-use Rattle.run_law.specs.Finds.{decision_at, finds_at, node_appended, node_list}
-use Rattle.run_law.specs.Keepings.{IsCounted}
+use Rattle.run_law.specs.Finds.{decision_at}
 use Rattle.run_law.specs.Walking.{log_walked, places_printed}
 use Rattle.run_law.proofs.FindingLemmas.{command_within, left_out, on, used_same, written_at}
 use Rattle.run_law.proofs.drafts.Going.next.Goals as goal
