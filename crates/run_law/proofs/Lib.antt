@@ -1,5 +1,6 @@
 mod AllReplies
 mod AskedIs
+mod AppendedNodes
 mod AskedNodes
 mod BaseLemmas
 mod BehindLemmas
@@ -16,13 +17,16 @@ mod EndedRows
 mod EnteringLemmas
 mod FifthLaws
 mod FinalLemmas
+mod FindingLemmas
 mod FirstLemmas
 mod FourthLemmas
 mod GuardLemmas
 mod FrontLemmas
+mod GoingLemmas
 mod HeadLemmas
 mod JudgingLaws
 mod LeastLemmas
+mod JoinedTexts
 mod LeftLemmas
 mod LineOrder
 mod ListedLaws

@@ -34,7 +34,7 @@ mapped_twice : {X Y Z : Type 0} (f : Y → Z) (g : X → Y) (xs : List X) → ma
 mapped_twice f g [] = refl
 mapped_twice f g (x ∷ xs) = ap (λ l. f (g x) ∷ l) (mapped_twice f g xs)
 
-keys_unnamed : (answer : Answer) → AreKeysFound (unnamed answer) answer
+pub keys_unnamed : (answer : Answer) → AreKeysFound (unnamed answer) answer
 keys_unnamed (answers.GotKeys stamp shown raises syncs) = mapped_twice (λ (v : Version). v.key) _ shown
 keys_unnamed _ = tt
 
@@ -49,7 +49,7 @@ keys_at now log caller (answers.GotKeys stamp shown raises syncs) found k =
     (λ f. ap (map (λ (v : Version). v.key)) (if_false (stamp == now) (versions_told log caller stamp shown syncs) found f) ∙ k)
 keys_at now log caller _ found k = k
 
-find_keys : (found : ℕ → List Version) (rs : List ReplyLine)
+pub find_keys : (found : ℕ → List Version) (rs : List ReplyLine)
     → ((k : ℕ) → AreKeysFound (found k) (answer_in (slice_get rs k))) → FindKeys found rs
 find_keys found [] f = tt
 find_keys found (r ∷ rs) f = (f 0, find_keys (λ k. found (suc k)) rs (λ k. f (suc k)))

@@ -3,9 +3,11 @@ pub mod Asking
 pub mod Bases
 pub mod Behind
 pub mod Columns
+pub mod Drafts
 pub mod Eleventh
 pub mod Fifth
 pub mod Fourth
+pub mod Finds
 pub mod Journals
 pub mod Judging
 pub mod Keepings
