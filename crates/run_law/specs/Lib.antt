@@ -30,6 +30,7 @@ pub mod ShownTexts
 pub mod Sixth
 pub mod Subjects
 pub mod Tables
+pub mod Tenth
 pub mod TextsSaid
 pub mod Third
 pub mod Twelfth
