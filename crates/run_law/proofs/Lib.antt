@@ -64,6 +64,7 @@ mod SixthLaws
 mod SixthLemmas
 mod SubjectLemmas
 mod TableLemmas
+mod TenthLaws
 mod ThirdLemmas
 mod ToldLemmas
 mod TwelfthLaws

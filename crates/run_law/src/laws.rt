@@ -2,8 +2,12 @@
 ghost use Rattle.run_law.specs.Eleventh.{EleventhIsCauses};
 ghost use Rattle.run_law.specs.Fifth.{FifthIsEntering};
 ghost use Rattle.run_law.specs.Ninth.{NinthIsShown};
+ghost use Rattle.run_law.specs.Tenth.{ShownFindsAreRight, TenthIsRight};
 ghost use Rattle.run_law.specs.Twelfth.{TwelfthIsBare};
 
+use col_core::region_order_is_unique;
+use lawful_run::read_items_last;
+use playback::region_order_is_lawful;
 use run_rules::{computed_account_agrees, finds_tell, nodes_are_told, nodes_change_no_step};
 
 /// A report that keeps the first four rules enters the nodes of its commands where the first five hold at the account with these.
@@ -38,4 +42,15 @@ pub fn twelfth_is_bare()
 {
     finds_tell();
     computed_account_agrees();
+}
+
+/// The tenth rule holds there where the answer to each step is right by the nodes of that account.
+pub fn tenth_is_right()
+    ensures { ShownFindsAreRight → TenthIsRight }
+{
+    finds_tell();
+    computed_account_agrees();
+    region_order_is_lawful();
+    region_order_is_unique();
+    read_items_last();
 }
