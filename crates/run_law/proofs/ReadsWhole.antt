@@ -197,7 +197,7 @@ module _ (log : Log) (caller : Caller) (stamp : ℕ) where
     rising : (l : List Key) → Contains (whole_lines log caller.own colours) l → AreRising l
     rising l c =
         let m = in_map (λ colour. line (log.histories caller.own colour)) colours l
-            (in_contains (whole_lines log caller.own colours) l c) in
+        (in_contains (whole_lines log caller.own colours) l c) in
         subst AreRising m.2 (line_rising caller.own caller.regions (log.histories caller.own m.0) (lawful m.0 m.1))
 
     -- what is in the order of the region up to the stamp is what a stamped read of the colours goes over
@@ -212,8 +212,8 @@ module _ (log : Log) (caller : Caller) (stamp : ℕ) where
               let k = among m.0 m.1 in
               let here = stays m.0.colour m.0.events k key (subst (λ (ks : List Key). In key ks) (sym m.2) (in_contains l key inside)) in
               o.all (line (log.histories caller.own m.0.colour)) key
-                  (contains_in (whole_lines log caller.own colours) _ (in_map-back (λ c. line (log.histories caller.own c)) colours m.0.colour k))
-                  (contains_in _ key here) le;
+              (contains_in (whole_lines log caller.own colours) _ (in_map-back (λ c. line (log.histories caller.own c)) colours m.0.colour k))
+              (contains_in _ key here) le;
           no_other = λ key has.
               let of = o.no_other key has in
               let m = in_map (λ c. line (log.histories caller.own c)) colours of.1 (in_contains _ of.1 of.2) in
@@ -221,10 +221,10 @@ module _ (log : Log) (caller : Caller) (stamp : ℕ) where
               let h = log.histories caller.own s.0.colour in
               let clear = clear_syncs kept colours raises syncs after r s.0 s.1 in
               let here = last caller.own caller.regions (take s.0.events h) (drop s.0.events h) stamp
-                  (parted s.0.colour s.0.events (among s.0 s.1)) clear.0 clear.1 key of.0
-                  (subst (λ (es : List Entry). Contains (line es) key) (sym (take-append-drop s.0.events h))
-                  (subst (λ (c : ℕ). Contains (line (log.histories caller.own c)) key) (sym s.2)
-                  (subst (λ (ks : List Key). Contains ks key) (sym m.2) of.3))) in
+              (parted s.0.colour s.0.events (among s.0 s.1)) clear.0 clear.1 key of.0
+              (subst (λ (es : List Entry). Contains (line es) key) (sym (take-append-drop s.0.events h))
+              (subst (λ (c : ℕ). Contains (line (log.histories caller.own c)) key) (sym s.2)
+              (subst (λ (ks : List Key). Contains ks key) (sym m.2) of.3))) in
               (of.0, looked s.0, contains_in (lines_read log caller syncs) (looked s.0) (in_map-back looked syncs s.0 s.1), here);
         } where
           looked : SyncPiece → List Key
@@ -275,10 +275,10 @@ played_begin log caller kept sync few lawful s =
     let h = take sync.events whole in
     let within = reached_within (chain own (first log own sync.colour sync.events)) s.cut.reached own few in
     let long : length (chain own (dated own h) own) ≡ length (line h) =
-        ap length (if_true (own == own) _ _ (eq-eqb own own refl))
-        ∙ (length-map (line (entries_of (dated own h)))
-        (λ (key : Key). record { key = key; needs = needs_of (dated own h) key.id })
-        ∙ ap (λ (es : List Entry). length (line es)) (entries_dated own h)) in
+    ap length (if_true (own == own) _ _ (eq-eqb own own refl))
+    ∙ (length-map (line (entries_of (dated own h)))
+    (λ (key : Key). record { key = key; needs = needs_of (dated own h) key.id })
+    ∙ ap (λ (es : List Entry). length (line es)) (entries_dated own h)) in
     let legal = subst (λ (x : List Entry). IsColumnHistory own caller.regions (dated own x)) (sym (take-append-drop sync.events whole)) lawful in
     let more = grown_line own caller.regions h (drop sync.events whole) legal in
     let prefix : IsPrefix (line h) (line whole) = (more.0, more.1 ∙ ap line (take-append-drop sync.events whole)) in

@@ -16,6 +16,7 @@ pub mod Looks
 pub mod Moving
 pub mod Ninth
 pub mod NodeTables
+pub mod ObjectAnswers
 pub mod ObjectPlays
 pub mod PlaceTables
 pub mod Playing

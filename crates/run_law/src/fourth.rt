@@ -85,12 +85,7 @@ fn names_decided(
 }
 
 // Whether a dequeue names what is there.
-fn names_took(
-    subject: &Subject<'_>,
-    seen: &mut OwnSeen,
-    point: PointPiece,
-    sync: SyncPiece,
-) -> bool
+fn names_took(subject: &Subject<'_>, seen: &mut OwnSeen, point: PointPiece, sync: SyncPiece) -> bool
     ensures { (caller : Caller) (kept : Kept) (untold : Untold) (stamp : ℕ) → Sees caller kept seen.old
         → point.colour < MAX_COLOURS → sync.colour < MAX_COLOURS → Tells result
         (NamesAppend (log_walked subject.now) untold caller kept None (point ∷ [])
@@ -182,7 +177,13 @@ fn names_pull(
         return false;
     }
     let carried = Kind::Carry(*region);
-    is_named(subject.journal(own, *colour), client, keeping.seen(own, *colour), carried, carry)
+    is_named(
+        subject.journal(own, *colour),
+        client,
+        keeping.seen(own, *colour),
+        carried,
+        carry,
+    )
 }
 
 // Whether a trim names what is there.
@@ -198,7 +199,13 @@ fn names_trim(subject: &Subject<'_>, client: u8, keeping: &Keeping, what: &What,
     };
     subject.agrees();
     let own = subject.own(client);
-    is_named(subject.journal(own, *colour), client, keeping.seen(own, *colour), Kind::Trim, at)
+    is_named(
+        subject.journal(own, *colour),
+        client,
+        keeping.seen(own, *colour),
+        Kind::Trim,
+        at,
+    )
 }
 
 // Whether an answer to a client that keeps this names what is there.
@@ -358,11 +365,7 @@ fn has_made(subject: &Subject<'_>, client: u8, keeping: &Keeping) -> bool
 }
 
 // Whether a client's replies name what is there, and its own events are those of its commands.
-fn is_client_named(
-    alloc: Global,
-    subject: &Subject<'_>,
-    client: u8,
-) -> Result<bool, AllocError>
+fn is_client_named(alloc: Global, subject: &Subject<'_>, client: u8) -> Result<bool, AllocError>
     requires walker { client < length subject.now.report.clients }
     ensures { IfOk result (λ b. Tells b (IsClientNamed subject.now client)) }
 {

@@ -222,7 +222,11 @@ impl OwnSeen {
         ensures { (caller : Caller) (kept : Kept) → Sees caller kept self.now → colour < MAX_COLOURS
             → Tells result (NamesLook (log_walked subject.now) kept caller.own colour events) }
     {
-        is_look(subject.journal(self.region, colour), self.seen(colour), events)
+        is_look(
+            subject.journal(self.region, colour),
+            self.seen(colour),
+            events,
+        )
     }
 
     /// Whether a point is where an id of the client's entered, and its position behind all that the client knew to stand there.
@@ -232,7 +236,13 @@ impl OwnSeen {
     {
         let journal = subject.journal(self.region, point.colour);
         let kind = Kind::Entry(self.client);
-        if !is_named(journal, self.client, self.seen(point.colour), kind, point.at) {
+        if !is_named(
+            journal,
+            self.client,
+            self.seen(point.colour),
+            kind,
+            point.at,
+        ) {
             return false;
         }
         self.known(point.colour) <= point.position as u128
