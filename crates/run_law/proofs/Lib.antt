@@ -34,6 +34,7 @@ mod NextRows
 mod NinthLaws
 mod NodeRows
 mod NumeralLemmas
+mod ObjectOrders
 mod Once
 mod OrderLemmas
 mod PastLemmas

@@ -20,6 +20,7 @@ mod going_on;
 mod helpers;
 mod journals;
 mod keeping;
+mod key_order;
 mod keys_read;
 mod laws;
 mod left_open;
@@ -56,6 +57,7 @@ mod synced;
 mod texts;
 mod third;
 mod turn;
+mod tx_plays;
 mod walking;
 mod writers;
 
