@@ -1,4 +1,5 @@
 mod AllReplies
+mod AnswerLemmas
 mod AskedIs
 mod AskedNodes
 mod BaseLemmas

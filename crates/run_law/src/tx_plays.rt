@@ -1,5 +1,6 @@
 // Transactional maps that are played from read to read.
 ghost use Rattle.std.specs.Prelude.{◌≡◌, ◌≤◌, ℕ, List, length, take, IfOk, OnOk};
+ghost use Rattle.std.specs.Option.{option_copied};
 ghost use Rattle.log_node.specs.declared.node.Node.{Node as Appended};
 ghost use Rattle.object_fold.specs.Nodes.{ObjectNode};
 ghost use Rattle.object_fold.specs.States.{IsTxState};
@@ -27,6 +28,13 @@ pub(crate) struct TxPlay {
     play: RegionPlay<TxState>,
 }
 
+// Whether an answer is this key with the value that is found.
+fn is_answer(answer: &KeyAnswer, key: &Text, found: Option<&Text>) -> bool
+    ensures { Tells result ((answer.now.key ≡ key.now) × (answer.now.value ≡ option_copied found.entry)) }
+{
+    same_text(&answer.key, key) && is_found(&answer.value, found)
+}
+
 // Whether these are the keys that are asked for, each with its value.
 fn are_values(state: &TxState, asked: &[Text], shown: &[KeyAnswer]) -> bool
     ensures { (nodes : List ObjectNode) → IsTxState state.now nodes
@@ -36,10 +44,8 @@ fn are_values(state: &TxState, asked: &[Text], shown: &[KeyAnswer]) -> bool
         return false;
     }
     for at in 0..asked.len() {
-        if !same_text(&shown[at].key, &asked[at]) {
-            return false;
-        }
-        if !is_found(&shown[at].value, state.value(asked[at].as_bytes())) {
+        let key = &asked[at];
+        if !is_answer(&shown[at], key, state.value(key.as_bytes())) {
             return false;
         }
     }
