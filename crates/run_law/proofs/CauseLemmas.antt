@@ -1,6 +1,6 @@
 -- What is told of the cause of a refusal, by what is looked up.
-use Rattle.std.proofs.Common.{◌≡◌, ◌⊎◌, ◌∙◌, refl, ap, sym, subst, Bool, true, false, ℕ, zero, suc, ◌+◌, ◌<◌, ◌≤◌, List, [], ◌∷◌, ◌++◌, length, take, drop, Option, Some, None, inl, inr, arith}
-use Rattle.std.specs.Prelude.{IsFalse, IsTrue, is_some, not, slice_get}
+use Rattle.std.proofs.Common.{◌≡◌, ◌⊎◌, ◌∙◌, refl, ap, sym, subst, Bool, true, false, ℕ, ◌+◌, ◌<◌, ◌≤◌, List, [], ◌∷◌, ◌++◌, length, take, drop, Option, Some, None, inl, inr, arith}
+use Rattle.std.specs.Prelude.{is_some, not, slice_get}
 use Rattle.std.proofs.lemmas.Bool.{true≢false}
 use Rattle.std.proofs.lemmas.List.{length-append, take-append-drop, take_all}
 use Rattle.log_node.specs.declared.forms.Pair.{Pair}
@@ -34,7 +34,7 @@ use Rattle.run_law.specs.declared.row_table.RowTable.{RowTable}
 use Rattle.run_law.specs.Bases.{WasBase, base_after}
 use Rattle.run_law.specs.Eleventh.{AreOpenIds, HasEnd, HasEndedRow, HasNoTx, Lookups}
 use Rattle.run_law.specs.Fifth.{next_id}
-use Rattle.run_law.specs.Keepings.{Counted, IsCell, IsCounted, IsFoundAt, read_at, seen_at, start_at}
+use Rattle.run_law.specs.Keepings.{Counted, IsCell, IsCounted, IsFoundAt, seen_at}
 use Rattle.run_law.specs.LeftOpen.{has_id, is_open_among}
 use Rattle.run_law.specs.Walking.{Walked, journal_walked, log_walked}
 use Rattle.run_law.proofs.SubjectLemmas.{few_regions}

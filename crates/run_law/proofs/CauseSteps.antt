@@ -1,16 +1,13 @@
 -- From the causes of refusals, as they are looked up, to what is told of a step and of the report.
 use mathlib.Core.Path.{fun_ext}
-use Rattle.std.proofs.Common.{◌≡◌, ◌⊎◌, ◌∙◌, refl, ap, sym, subst, Bool, true, false, ℕ, ◌<◌, ◌≤◌, List, [], ◌∷◌, length, Option, Some, None, inl, inr, arith}
-use Rattle.std.specs.Prelude.{◌↔◌, ◌==◌, ◌&&◌, IsTrue, slice_get}
-use Rattle.std.specs.List.{All, Contains}
+use Rattle.std.proofs.Common.{◌≡◌, ◌∙◌, refl, ap, sym, subst, Bool, false, ℕ, ◌<◌, ◌≤◌, List, Option, Some, None, inl, inr, arith}
+use Rattle.std.specs.Prelude.{◌==◌, ◌&&◌, IsTrue, slice_get}
 use Rattle.std.proofs.lemmas.Bool.{cases_Bool, cases_lt, eqb-true}
 use Rattle.std.proofs.lemmas.List.Elements.{All-contains}
 use Rattle.std.proofs.lemmas.Option.{slice_get_within}
 use Rattle.log_node.specs.declared.ids.Id.{Id}
-use Rattle.log_node.specs.declared.node.Node.{Node}
 use Rattle.log_node.specs.Seen.{PlacedNode}
 use Rattle.log_node.proofs.CallerLemmas.{get_within, same_some}
-use Rattle.col_core.specs.Log.{Log}
 use Rattle.col_core.specs.Keeping.{Kept}
 use Rattle.col_core.proofs.CallerLemmas.{In, contains_in, in_contains, in_filter, slice_in}
 use Rattle.script_text.specs.declared.commands.What.{What}
@@ -24,7 +21,6 @@ use Rattle.report_text.specs.declared.report.Ended.{Ended}
 use Rattle.report_text.specs.declared.report.Ended.TheVariants as ends
 use Rattle.report_text.specs.declared.report.ReplyLine.{ReplyLine}
 use Rattle.report_text.specs.declared.report.Report.{Report}
-use Rattle.report_text.specs.declared.report.RowReport.{RowReport}
 use Rattle.lawful_run.specs.Callers.{Caller, caller_of, commands_of}
 use Rattle.lawful_run.specs.Asks.{home_asked}
 use Rattle.lawful_run.specs.Deeds.{colours_synced}
@@ -40,10 +36,9 @@ use Rattle.run_law.specs.declared.eleventh.Causes.{Causes}
 use Rattle.run_law.specs.declared.row_table.RowTable.{RowTable}
 use Rattle.run_law.specs.Columns.{AreAllColumns}
 use Rattle.run_law.specs.Eleventh.{AreOpenIds, EleventhIsCauses, HasItsCause, HasLowColour, HasLowEnd, IsCaused, Lookups, is_left, is_put, lookups_of, looks_in}
-use Rattle.run_law.specs.Fifth.{Finding, finding_in}
+use Rattle.run_law.specs.Fifth.{Finding}
 use Rattle.run_law.specs.Keepings.{Counted}
 use Rattle.run_law.specs.LeftOpen.{is_open_among, is_open_in}
-use Rattle.run_law.specs.PlaceTables.{row_with}
 use Rattle.run_law.specs.RowPlaces.{AreRowPlaces}
 use Rattle.run_law.specs.Walking.{DecidesEachStep, IsSeen, MayWalk, Walked, log_walked}
 use Rattle.run_law.proofs.ColumnPlaces.{column_within}

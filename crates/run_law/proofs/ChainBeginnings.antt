@@ -1,14 +1,12 @@
 -- What a column holds of chains after some events is the beginning of the lines of their regions.
-use Rattle.std.proofs.Common.{◌≡◌, ◌∙◌, refl, ap, sym, subst, ℕ, zero, suc, ◌<◌, ◌≤◌, Bool, true, false, List, [], ◌∷◌, ◌++◌, length, map, take, drop, take-append-drop, append_assoc, Some, None, ◌⊎◌, inl, inr, arith, append-nil}
+use Rattle.std.proofs.Common.{◌≡◌, ◌∙◌, refl, ap, sym, subst, ℕ, ◌<◌, ◌≤◌, List, [], ◌∷◌, ◌++◌, length, take, drop, take-append-drop, append_assoc, inl, inr, arith, append-nil}
 use Rattle.std.specs.Prelude.{slice_get, ◌==◌}
-use Rattle.std.specs.List.{AllPairs, flat_map}
+use Rattle.std.specs.List.{flat_map}
 use Rattle.std.proofs.lemmas.Bool.{both_ways, cases_lt, eq-eqb, eqb-true}
 use Rattle.std.proofs.lemmas.List.{length-append}
 use Rattle.std.proofs.lemmas.Option.{slice_get-get_or}
 use mathlib.Core.List.{IsPrefix}
-use Rattle.log_node.specs.declared.ids.Key.{Key}
 use Rattle.log_node.specs.declared.node.Head.{Head}
-use Rattle.log_node.specs.Order.{key_below}
 use Rattle.col_core.specs.declared.Event.{Event}
 use Rattle.col_core.specs.declared.Event.TheVariants as events
 use Rattle.col_core.specs.declared.Entry.{Entry}
@@ -20,7 +18,6 @@ use Rattle.col_core.proofs.CallerLemmas.{In, by_test, chains_grow, dates_longer,
 use Rattle.column_track.specs.Tracks.{Tracked}
 use Rattle.playback.specs.Merging.{AreRising}
 use Rattle.run_law.specs.Playing.{lines_of}
-use Rattle.run_law.specs.Proposals.{line_heads}
 use Rattle.run_law.specs.Walking.{MayWalk, Walked, journal_walked}
 use Rattle.run_law.proofs.HeadLemmas.{own_chain}
 

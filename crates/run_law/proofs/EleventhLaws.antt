@@ -1,6 +1,6 @@
 -- The eleventh rule, at the account with what reads found and node lines show, is what is looked at of each step.
-use Rattle.std.proofs.Common.{◌≡◌, ◌⊎◌, ◌∙◌, refl, ap, sym, subst, Bool, true, false, ℕ, zero, suc, ◌+◌, ◌<◌, ◌≤◌, List, [], ◌∷◌, length, map, Option, Some, None, inl, inr, arith}
-use Rattle.std.specs.Prelude.{◌↔◌, ◌≢◌, IsTrue, nat_lt, slice_get}
+use Rattle.std.proofs.Common.{◌≡◌, ◌⊎◌, ◌∙◌, refl, ap, sym, subst, Bool, true, false, ℕ, ◌<◌, ◌≤◌, List, [], ◌∷◌, length, map, Option, Some, None, inl, inr, arith}
+use Rattle.std.specs.Prelude.{IsTrue, nat_lt, slice_get}
 use Rattle.std.specs.List.{All, Contains}
 use Rattle.std.proofs.lemmas.Bool.{lt-ltb, ltb-true}
 use Rattle.std.proofs.lemmas.List.Elements.{All-contains}
@@ -15,7 +15,6 @@ use Rattle.col_core.specs.Keeping.{Kept}
 use Rattle.col_core.specs.Rows.{BegunRow}
 use Rattle.col_core.proofs.CallerLemmas.{In, contains_in, in_contains, in_map, in_map-back}
 use Rattle.script_text.specs.declared.commands.What.{What}
-use Rattle.script_text.specs.declared.commands.What.TheVariants as whats
 use Rattle.script_text.specs.declared.script.Command.{Command}
 use Rattle.script_text.specs.declared.script.Script.{Script}
 use Rattle.script_text.specs.Fitting.{IsFitting, IsWithin, UsesObject}
@@ -44,7 +43,7 @@ use Rattle.run_rules.specs.Keeping.{RulesTo}
 use Rattle.run_rules.specs.Laws.{ComputedAccountAgrees, FindsTell}
 use Rattle.run_rules.specs.Naming.{Names, NamesSteps}
 use Rattle.run_rules.specs.Rules.{HasNode, IsReplyTo, Rule1, Rule2, Rule3, Rule4, Rule5, UsesNode, with_room}
-use Rattle.run_rules.specs.Shown.{EndHasCause, HasCause, Rule11, begins_row}
+use Rattle.run_rules.specs.Shown.{EndHasCause, HasCause, begins_row}
 use Rattle.run_rules.proofs.CallerLemmas.{rule1, rule2, rule3, rule4, rule5}
 use Rattle.run_law.specs.Columns.{AreAllColumns}
 use Rattle.run_law.specs.Eleventh.{EleventhIsCauses, HasEnd, HasEndedRow, HasItsCause, HasLateEnd, IsCaused, Lookups, lookups_of}

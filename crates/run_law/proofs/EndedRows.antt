@@ -1,37 +1,32 @@
 -- The row of an append to several colours that was refused for the stamps' end, beside the rows of the log.
-use Rattle.std.proofs.Common.{◌≡◌, ◌⊎◌, ◌∙◌, refl, ap, sym, subst, Bool, true, false, cond, ℕ, zero, suc, ◌+◌, ◌<◌, ◌≤◌, List, [], ◌∷◌, ◌++◌, length, map, take, drop, Option, Some, None, inl, inr, arith}
-use Rattle.std.specs.Prelude.{◌≢◌, ◌==◌, ◌&&◌, IsTrue, slice_get}
+use Rattle.std.proofs.Common.{◌≡◌, ◌⊎◌, ◌∙◌, refl, ap, sym, subst, Bool, true, false, cond, ℕ, zero, suc, ◌+◌, ◌<◌, List, [], ◌∷◌, ◌++◌, map, take, drop, Option, Some, None, inl, inr, arith}
+use Rattle.std.specs.Prelude.{◌≢◌, ◌==◌, IsTrue}
 use Rattle.std.specs.List.{All, Contains, filter, list_any, range_with_len}
-use Rattle.std.proofs.lemmas.Bool.{and_parts, cases_Bool, cases_order, eqb-true, eq-eqb, ne_eqb, true≢false}
+use Rattle.std.proofs.lemmas.Bool.{cases_order, eq-eqb, ne_eqb, true≢false}
 use Rattle.std.proofs.lemmas.List.{take-append-drop}
 use Rattle.std.proofs.lemmas.List.Elements.{All-contains}
 use Rattle.log_node.specs.declared.ids.Id.{Id}
-use Rattle.log_node.specs.declared.ids.Counts.{Counts}
 use Rattle.log_node.specs.declared.limits.TheConstants.{MAX_COLOURS}
 use Rattle.log_node.specs.declared.node.Node.{Node}
 use Rattle.log_node.specs.declared.marks.Mark.{Mark}
 use Rattle.log_node.specs.declared.marks.Mark.TheVariants as marks
-use Rattle.log_node.specs.declared.marks.Outcome.{Outcome}
-use Rattle.log_node.specs.declared.marks.Outcome.TheVariants.{Open, Gone, Final}
+use Rattle.log_node.specs.declared.marks.Outcome.TheVariants.{Open, Gone}
 use Rattle.log_node.specs.declared.marks.Why.{Why}
 use Rattle.log_node.specs.declared.marks.Why.TheVariants.{Memory, StampEnd}
 use Rattle.log_node.specs.declared.marks.ColourMark.{ColourMark}
 use Rattle.log_node.specs.Outcomes.{is_missing, is_stamp_end_fence, outcome_of}
 use Rattle.log_node.specs.Sets.{has, members}
 use Rattle.log_node.specs.Standings.{Standing, open_entry}
-use Rattle.log_node.proofs.CallerLemmas.{same_some}
-use Rattle.col_core.specs.declared.Event.{Event}
 use Rattle.col_core.specs.declared.Entry.{Entry}
-use Rattle.col_core.specs.Appending.{EndsAtColour, IsClosedFor}
+use Rattle.col_core.specs.Appending.{EndsAtColour}
 use Rattle.col_core.specs.Computed.{dated}
 use Rattle.col_core.specs.History.{enters, entries, has_entered}
 use Rattle.col_core.specs.Ids.{IsOver, Proposes, alone, settled}
 use Rattle.col_core.specs.Legal.{IsColumnHistory}
-use Rattle.col_core.specs.Log.{Log, HasMark, HasOutcome, IsBegunFor}
-use Rattle.col_core.specs.Rows.{BegunRow, FitsMarks, FitsRow, IsMarkOf}
+use Rattle.col_core.specs.Log.{Log, HasMark, IsBegunFor}
+use Rattle.col_core.specs.Rows.{BegunRow, FitsMarks, IsMarkOf}
 use Rattle.col_core.proofs.CallerLemmas.{In, all_in, any_in, contains_in, entered_is_over, if_true, in_contains, in_filter, in_map, in_map-back, in_range, lawful_beginning, open_is_proposed, same_id-refl, settled_stays, singles_stay, slice_in}
 use Rattle.script_text.specs.declared.script.Script.{Script}
-use Rattle.report_text.specs.declared.report.ColumnReport.{ColumnReport}
 use Rattle.report_text.specs.declared.report.Report.{Report}
 use Rattle.report_text.specs.declared.report.RowReport.{RowReport}
 use Rattle.lawful_run.specs.Callers.{Caller}

@@ -1,7 +1,7 @@
 -- What answers name, by parts.
 use Rattle.std.proofs.Common.{◌≡◌, ◌≢◌, ◌⊎◌, ◌∙◌, refl, ap, sym, subst, inl, inr, ℕ, zero, suc, ◌+◌, ◌<◌, ◌≤◌, Bool, true, false, ◌&&◌, ◌==◌, cond, List, [], ◌∷◌, ◌++◌, length, map, take, get_or, Option, Some, None, arith, flat_map}
 use Rattle.std.specs.Prelude.{IsTrue, is_some, not, slice_get, slice_index, Result, Ok, Err, IfOk, nat_le}
-use Rattle.std.specs.List.{All, filter, fold}
+use Rattle.std.specs.List.{All, fold}
 use Rattle.std.proofs.lemmas.Bool.{and_parts, cases_lt, eq-eqb, eqb-true, leb-true, leb-false, true≢false}
 use Rattle.std.proofs.lemmas.List.{length-map}
 use Rattle.std.proofs.lemmas.List.Elements.{All-cons, All-contains, All-head, All-nil, All-weaker}
@@ -9,7 +9,6 @@ use Rattle.log_node.specs.declared.ids.Id.{Id}
 use Rattle.log_node.specs.declared.node.At.{At}
 use Rattle.log_node.specs.declared.node.At.TheVariants as ats
 use Rattle.log_node.specs.declared.limits.TheConstants.{MAX_COLOURS, MAX_REGIONS}
-use Rattle.log_node.specs.Order.{same_id}
 use Rattle.log_node.specs.Vectors.{at}
 use Rattle.log_node.specs.declared.ids.Key.{Key}
 use Rattle.log_node.specs.declared.node.Head.{Head}
@@ -33,7 +32,7 @@ use Rattle.lawful_run.specs.Appends.{kept_after_points}
 use Rattle.lawful_run.specs.Callers.{Caller, caller_of}
 use Rattle.lawful_run.specs.Reads.{events_until, kept_after_piece, kept_after_place}
 use Rattle.column_track.specs.Tracks.{Tells}
-use Rattle.run_rules.specs.Told.{Untold, kept_after_append, kept_after_raises, kept_after_syncs}
+use Rattle.run_rules.specs.Told.{Untold, kept_after_append}
 use Rattle.run_rules.specs.Telling.{is_among, is_step_at, is_step_of, step_places}
 use Rattle.run_rules.specs.Naming.{Has, IsRaise, NamesAppend, NamesEnd, NamesPlace, NamesPoint, NamesRaises, NamesSteps, NamesSync, NamesSyncs}
 use Rattle.run_law.specs.Behind.{HasColumn, LeavesOutSteps, steps_untold}
@@ -43,6 +42,35 @@ use Rattle.report_text.specs.declared.report.ReplyLine.{ReplyLine}
 use Rattle.run_law.specs.Walking.{Walked, journal_walked, log_walked}
 use Rattle.column_track.specs.Tracks.{Tracked}
 use Rattle.run_law.specs.Walking.{MayWalk, places_printed}
+use Rattle.std.specs.Prelude.{slice_index_or, ◌*◌}
+use Rattle.std.specs.List.{Contains}
+use Rattle.std.proofs.lemmas.List.{get_or_append_left, get_or_push, length-append}
+use Rattle.std.proofs.lemmas.Option.{slice_get_within}
+use Rattle.log_node.proofs.CallerLemmas.{get_within}
+use Rattle.col_core.proofs.CallerLemmas.{in_contains, in_slice, slice_in}
+use Rattle.script_text.specs.Fitting.{IsFitting, IsWithin}
+use Rattle.script_text.specs.declared.commands.What.{What}
+use Rattle.script_text.specs.declared.commands.What.TheVariants as whats
+use Rattle.script_text.specs.declared.script.Command.{Command}
+use Rattle.script_text.specs.declared.script.Script.{Script}
+use Rattle.report_text.specs.declared.report.Answer.{Answer}
+use Rattle.report_text.specs.declared.report.Answer.TheVariants as answers
+use Rattle.report_text.specs.declared.report.ColumnReport.{ColumnReport}
+use Rattle.lawful_run.specs.Asks.{may_help}
+use Rattle.lawful_run.specs.Callers.{commands_of}
+use Rattle.lawful_run.specs.Deeds.{manner_of}
+use Rattle.lawful_run.specs.Lawful.{HasHelping}
+use Rattle.run_rules.specs.Told.{Account, Step, kept_at, kept_deciding}
+use Rattle.run_rules.specs.Telling.{account_of, journal_among, no_nodes, replies_to, untold_told}
+use Rattle.run_rules.specs.Naming.{CarriesOf, GivesTo, Names, NamesRead}
+use Rattle.run_rules.specs.Rules.{IsLawfulColumn, Rule4}
+use Rattle.run_rules.proofs.CallerLemmas.{reports_tell}
+use Rattle.run_law.specs.Fourth.{AreHelpers, AreNamed, ArePointsLow, AreRaisesLow, AreSyncsLow, HasMade, IsAsked, IsClientNamed, MayHelp, NamesAll}
+use Rattle.run_law.specs.Keepings.{IsCell}
+use Rattle.run_law.specs.Walking.{IsSeen, WalksTo}
+use Rattle.run_law.proofs.ColumnPlaces.{column_there, column_within}
+use Rattle.run_law.proofs.NamedColours.{can_low}
+use Rattle.run_law.proofs.SubjectLemmas.{few_regions}
 use Rattle.run_law.proofs.Lists.{told_not, told_so}
 use Rattle.run_law.proofs.SubjectLemmas.{column_none}
 use Rattle.run_law.proofs.ThirdLemmas.{few_colours}
@@ -266,10 +294,10 @@ line_held own history lt =
       heads : List Key → List Head
       heads keys = map (λ (key : Key). record { key = key; needs = needs_of (dated own history) key.id }) keys
 
-pub column_within : (walked : Walked) (region colour : ℕ) (b : Bool) → HasColumn walked region colour b → b ≡ true
+pub cell_within : (walked : Walked) (region colour : ℕ) (b : Bool) → HasColumn walked region colour b → b ≡ true
     → region < MAX_REGIONS
-column_within walked region colour true has t = has.2.0
-column_within walked region colour false has t = absurd (true≢false (sym t))
+cell_within walked region colour true has t = has.2.0
+cell_within walked region colour false has t = absurd (true≢false (sym t))
 
 -- OWN STEPS
 
@@ -461,3 +489,270 @@ StepsTold walked count old new b own = (kept after : Kept) (untold : Untold) →
     → Sees (caller_of walked.script own.client) after old → count ≡ kept.ids → LeavesOutSteps walked own.client count untold
     → AndThen b (NamesSteps (log_walked walked) (caller_of walked.script own.client) kept untold.places)
     (Sees (caller_of walked.script own.client) (with_made after (caller_of walked.script own.client).own untold.places) new)
+
+-- ANSWERS
+
+module _ (walked : Walked) (client : ℕ) where
+  abbrev by_client : Caller
+  by_client = caller_of walked.script client
+
+  pub asked_sees : (tracks : List Tracked) → MayWalk walked.script walked.report tracks → (what : What) (answer : Answer) (kept : Kept)
+      (untold : Untold) (counted : Counted) (own : Sighted) (region : ℕ) → region ≡ by_client.own → region < walked.script.shape.regions
+      → own.client ≡ client → own.region ≡ region
+      → ((colour : ℕ) → colour < MAX_COLOURS → slice_index own.seen colour ≡ seen_at counted region colour)
+      → ((colour : ℕ) → colour < MAX_COLOURS → slice_index own.known colour ≡ known_at counted colour)
+      → IsAsked walked client what answer kept untold counted → Sees by_client kept own
+  asked_sees tracks may what answer kept untold counted own region is within is_client is_region seen known asked =
+      let few = few_regions walked.script may.fitting in
+      sees_counted by_client (replies_to walked.report client) kept counted own (omega (arith, is, within, few)) asked.counts is_client
+      (is_region ∙ is) (λ colour low. seen colour low ∙ ap (λ (r : ℕ). seen_at counted r colour) is) known
+
+  pub left_out_of : (what : What) (answer : Answer) (kept : Kept) (untold : Untold) (count : ℕ) → count ≡ kept.ids
+      → untold ≡ untold_told (log_walked walked) by_client (places_printed walked client) kept what answer
+      → LeavesOutSteps walked client count untold
+  left_out_of what answer kept untold count ids told =
+      subst (λ (k : ℕ). LeavesOutSteps walked client k untold) (sym ids) (λ colour. ap (λ (u : Untold). u.places colour) told)
+
+-- what is told of an append of a client
+abbrev pub AppendTold : {E : Type 0} → Walked → ℕ → Option ℕ → List PointPiece → Sighted → Sighted → Result Bool E → ℕ → Type 0
+AppendTold walked count row points old new r client = (kept : Kept) (untold : Untold) (stamp : ℕ)
+    → Sees (caller_of walked.script client) kept old → count ≡ kept.ids → LeavesOutSteps walked client count untold
+    → ArePointsLow points → IfOk r (λ b. AndThen b
+    (NamesAppend (log_walked walked) untold (caller_of walked.script client) kept row points)
+    (Sees (caller_of walked.script client) (kept_after_append untold (caller_of walked.script client) kept stamp row points) new))
+
+-- and of a commit
+abbrev pub CommitTold : {E : Type 0} → Walked → ℕ → Option ℕ → List PointPiece → List RaisePiece → List SyncPiece → Sighted
+    → Result Bool E → ℕ → Type 0
+CommitTold walked count row points raises syncs old r client = (kept : Kept) (untold : Untold) (stamp : ℕ)
+    → Sees (caller_of walked.script client) kept old → count ≡ kept.ids → LeavesOutSteps walked client count untold
+    → ArePointsLow points → AreRaisesLow raises → AreSyncsLow syncs → IfOk r (λ b. Tells b
+    (NamesAppend (log_walked walked) untold (caller_of walked.script client) kept row points
+    × NamesRead (log_walked walked) (caller_of walked.script client)
+    (kept_after_append untold (caller_of walked.script client) kept stamp row points) raises syncs))
+
+-- and of own steps
+abbrev pub BegunTold : {E : Type 0} → Walked → ℕ → Sighted → Result Bool E → ℕ → Type 0
+BegunTold walked count own r client = (kept : Kept) (untold : Untold) → Sees (caller_of walked.script client) kept own
+    → count ≡ kept.ids → LeavesOutSteps walked client count untold → IfOk r (λ b. Tells b
+    (NamesSteps (log_walked walked) (caller_of walked.script client) kept untold.places))
+
+pub stopped_told : (log : Log) (untold : Untold) (by : Caller) (kept : Kept) (what : What) (steps : ℕ) (b : Bool) → (steps ≡ 0 → ⊥)
+    → Tells b (NamesSteps log by kept untold.places) → Tells b (Names log untold by kept what (answers.Stopped steps))
+stopped_told log untold by kept what zero b some told = absurd (some refl)
+stopped_told log untold by kept what (suc n) b some told = told
+
+pub read_arm : (log : Log) (caller : Caller) (kept : Kept) (raises : List RaisePiece) (syncs : List SyncPiece) (own : Sighted)
+    (seen_raises : List RaisePiece) (seen_syncs : List SyncPiece) (b : Bool) → seen_raises ≡ raises → seen_syncs ≡ syncs
+    → (Behind : Caller → Kept → ℕ → Type 0)
+    → ((by : Caller) (k : Kept) (stamp : ℕ) → Sees by k own → AreRaisesLow seen_raises → AreSyncsLow seen_syncs
+    → AndThen b (NamesRead log by k seen_raises seen_syncs) (Behind by k stamp))
+    → Sees caller kept own → AreRaisesLow raises × AreSyncsLow syncs → Tells b (NamesRead log caller kept raises syncs)
+read_arm log caller kept raises syncs own seen_raises seen_syncs b is_raises is_syncs Behind told s low =
+    subst (λ (l : List RaisePiece). Tells b (NamesRead log caller kept l syncs)) is_raises
+    (subst (λ (l : List SyncPiece). Tells b (NamesRead log caller kept seen_raises l)) is_syncs
+    (and_told (NamesRead log caller kept seen_raises seen_syncs) (Behind caller kept 0) b
+    (told caller kept 0 s (subst AreRaisesLow (sym is_raises) low.0) (subst AreSyncsLow (sym is_syncs) low.1))))
+
+-- what is told of a decide
+abbrev pub DecideTold : Walked → SyncPiece → List RaisePiece → List SyncPiece → Ended → Sighted → Bool → Type 0
+DecideTold walked sync raises syncs ended own b = (caller : Caller) (kept : Kept) (untold : Untold) (stamp : ℕ) → Sees caller kept own
+    → sync.colour < MAX_COLOURS → AreRaisesLow raises → AreSyncsLow syncs → IsEndLow ended → Tells b
+    (NamesSync (log_walked walked) caller kept sync
+    × NamesRead (log_walked walked) caller (kept_after_piece (log_walked walked) caller kept sync) raises syncs
+    × NamesEnd (log_walked walked) untold caller (kept_deciding (log_walked walked) caller kept sync stamp raises syncs) ended)
+
+pub decide_as : (walked : Walked) (sync : SyncPiece) (raises seen_raises : List RaisePiece) (syncs seen_syncs : List SyncPiece)
+    (ended : Ended) (own : Sighted) (b : Bool) → seen_raises ≡ raises → seen_syncs ≡ syncs
+    → DecideTold walked sync seen_raises seen_syncs ended own b → DecideTold walked sync raises syncs ended own b
+decide_as walked sync raises seen_raises syncs seen_syncs ended own b is_raises is_syncs told =
+    subst (λ (l : List RaisePiece). DecideTold walked sync l syncs ended own b) is_raises
+    (subst (λ (l : List SyncPiece). DecideTold walked sync seen_raises l ended own b) is_syncs told)
+
+pub cell_of : (script : Script) → IsFitting script → (region colour : ℕ) → region < script.shape.regions
+    → colour < script.shape.colours → IsCell region colour
+cell_of script fits region colour lt low =
+    let f = few_regions script fits in
+    let g = few_colours script fits in (omega (arith, lt, f), omega (arith, low, g))
+
+pub gives_told : (log : Log) (caller : Caller) (region colour : ℕ) (history : List Entry) (own : ℕ) (places low : List ℕ) (b : Bool)
+    → history ≡ log.histories region colour → own ≡ caller.own → places ≡ low
+    → Tells b (All (Has caller.client history (GivesTo own)) places)
+    → Tells b (All (Has caller.client (log.histories region colour) (GivesTo caller.own)) low)
+gives_told log caller region colour history own places low b is_history is_own is told =
+    subst (λ (l : List ℕ). Tells b (All (Has caller.client (log.histories region colour) (GivesTo caller.own)) l)) is
+    (subst (λ (n : ℕ). Tells b (All (Has caller.client (log.histories region colour) (GivesTo n)) places)) is_own
+    (subst (λ (h : List Entry). Tells b (All (Has caller.client h (GivesTo own)) places)) is_history told))
+
+-- a pull of this client, whose gives that were too low are told
+pub pull_told : (log : Log) (untold : Untold) (caller : Caller) (kept : Kept) (what : What) (region colour count : ℕ) (give carry : At)
+    (b : Bool) → what ≡ whats.Pull region colour
+    → All (Has caller.client (log.histories region colour) (GivesTo caller.own)) untold.too_low
+    → NamesPlace log caller kept region colour (GivesTo caller.own) give
+    → Tells b (NamesPlace log caller kept caller.own colour (CarriesOf region) carry)
+    → Tells b (Names log untold caller kept what (answers.Pulled count give carry))
+pull_told log untold caller kept what region colour count give carry true is low given carried =
+    (region, colour, is, (low, given, carried))
+pull_told log untold caller kept what region colour count give carry false is low given fails = λ names.
+    let same : (let w : What = whats.Pull names.0 names.1 in w) ≡ whats.Pull region colour = sym names.2 ∙ is in
+    let r : names.0 ≡ region = cc (same) in
+    let k : names.1 ≡ colour = cc (same) in
+    fails (subst (λ (n : ℕ). NamesPlace log caller kept caller.own colour (CarriesOf n) carry) r
+    (subst (λ (n : ℕ). NamesPlace log caller kept caller.own n (CarriesOf names.0) carry) k names.3.2))
+
+pub pull_low : (log : Log) (untold : Untold) (caller : Caller) (kept : Kept) (what : What) (region colour count : ℕ) (give carry : At)
+    → what ≡ whats.Pull region colour → Names log untold caller kept what (answers.Pulled count give carry)
+    → All (Has caller.client (log.histories region colour) (GivesTo caller.own)) untold.too_low
+pull_low log untold caller kept what region colour count give carry is names =
+    let same : (let w : What = whats.Pull names.0 names.1 in w) ≡ whats.Pull region colour = sym names.2 ∙ is in
+    let r : names.0 ≡ region = cc (same) in
+    let k : names.1 ≡ colour = cc (same) in
+    subst (λ (n : ℕ). All (Has caller.client (log.histories n colour) (GivesTo caller.own)) untold.too_low) r
+    (subst (λ (n : ℕ). All (Has caller.client (log.histories names.0 n) (GivesTo caller.own)) untold.too_low) k names.3.0)
+
+-- CLIENTS
+
+pub client_named : (walked : Walked) (tracks : List Tracked) → MayWalk walked.script walked.report tracks → (client : ℕ)
+    (counted : Counted) (b : Bool)
+    → WalksTo walked client (NamesAll walked (caller_of walked.script client)) (Some counted)
+    → Tells b (HasMade walked client counted) → Tells b (IsClientNamed walked client)
+client_named walked tracks may client counted b to = by b where
+  cell : (region colour : ℕ) → region < walked.script.shape.regions → colour < walked.script.shape.colours → IsCell region colour
+  cell region colour lt low = cell_of walked.script may.fitting region colour lt low
+
+  by : (t : Bool) → Tells t (HasMade walked client counted) → Tells t (IsClientNamed walked client)
+  by true made = record {
+    named = to.0;
+    made = λ region colour lt low. made region lt colour low ∙ to.1.made region colour (cell region colour lt low);
+  }
+  by false fails = λ is. fails (λ region lt colour low.
+      is.made region colour lt low ∙ sym (to.1.made region colour (cell region colour lt low)))
+
+pub client_stops : (walked : Walked) (client : ℕ) → WalksTo walked client (NamesAll walked (caller_of walked.script client)) None
+    → IsClientNamed walked client → ⊥
+client_stops walked client to is = to is.named
+
+-- HELPERS
+
+pub none_helps : (script : Script) (client n : ℕ) → length (commands_of script client) ≤ n
+    → ((k : ℕ) (x : Command) → k < n → slice_get (commands_of script client) k ≡ Some x → may_help (manner_of x.what) ≡ false)
+    → HasHelping script client → ⊥
+none_helps script client n ge none has =
+    let i = in_slice (commands_of script client) has.0 (in_contains (commands_of script client) has.0 has.1) in
+    let lt = slice_get_within (commands_of script client) i.0 has.0 i.1 in
+    true≢false (sym has.2 ∙ none i.0 has.0 (omega (arith, lt, ge)) i.1)
+
+pub helping_more : (script : Script) (xs ys : List Bool) (b : Bool) (n : ℕ)
+    → (length xs ≡ n) × ((client : ℕ) → client < n → Tells (slice_index_or xs client false) (HasHelping script client))
+    → Tells b (HasHelping script n) → ys ≡ xs ++ b ∷ []
+    → (length ys ≡ n + 1) × ((client : ℕ) → client < n + 1 → Tells (slice_index_or ys client false) (HasHelping script client))
+helping_more script xs ys b n so told is = (
+  ap length is ∙ (length-append xs (b ∷ []) ∙ ap (λ (k : ℕ). k + 1) so.0),
+  λ client lt. subst (λ (l : List Bool). Tells (slice_index_or l client false) (HasHelping script client)) (sym is)
+      (by client (cases_lt client n) lt),
+) where
+  by : (client : ℕ) → (client < n) ⊎ (n ≤ client) → client < n + 1
+      → Tells (slice_index_or (xs ++ b ∷ []) client false) (HasHelping script client)
+  by client (inl less) lt =
+      let long = so.0 in
+      subst (λ (t : Bool). Tells t (HasHelping script client))
+      (sym (get_or_append_left xs (b ∷ []) false client (omega (arith, less, long)))) (so.1 client less)
+  by client (inr ge) lt =
+      let e : n ≡ client = omega (arith, lt, ge) in
+      subst (λ (k : ℕ). Tells (slice_index_or (xs ++ b ∷ []) k false) (HasHelping script k)) e
+      (subst (λ (t : Bool). Tells t (HasHelping script n)) (sym (get_or_push xs b false n so.0)) told)
+
+-- THE RULE
+
+module _ (walked : Walked) (tracks : List Tracked) (may : MayWalk walked.script walked.report tracks) where
+  abbrev account : Account
+  account = account_of walked.script walked.report no_nodes
+
+  journal_is : (c : ColumnReport) → In c walked.report.columns → c.journal ≡ journal_among walked.report.columns c.region c.colour
+  journal_is c i =
+      All-contains (λ (d : ColumnReport). d.journal ≡ journal_among walked.report.columns d.region d.colour) walked.report.columns c
+      (reports_tell walked.script walked.report no_nodes may.formed).histories (contains_in walked.report.columns c i)
+
+  pub rule_from : AreNamed walked → All (AreHelpers walked.script) walked.report.columns → Rule4 walked.script walked.report account
+  rule_from named helpers = record {
+    named = λ n c at. (named n (slice_get_within walked.report.clients n c at)).named;
+    made = λ n c at region colour lt low. (named n (slice_get_within walked.report.clients n c at)).made region colour lt low;
+    helpers = λ region colour e lt low there help.
+        let c = column_there walked.script.shape.regions walked.script.shape.colours walked.report.columns may.first.columns region
+        colour lt low in
+        let i = slice_in walked.report.columns (region * walked.script.shape.colours + colour) c.0 c.1 in
+        let same : journal_among walked.report.columns region colour ≡ c.0.journal =
+        ap (λ (r : ℕ). journal_among walked.report.columns r colour) (sym c.2)
+        ∙ (ap (journal_among walked.report.columns c.0.region) (sym c.3) ∙ sym (journal_is c.0 i)) in
+        let all = All-contains (AreHelpers walked.script) walked.report.columns c.0 helpers (contains_in walked.report.columns c.0 i) in
+        subst (λ (r : ℕ). HasHelping walked.script e.by × ((caller_of walked.script e.by).own ≡ r)) c.2
+        (All-contains (MayHelp walked.script c.0.region) c.0.journal e all (subst (λ (l : List Entry). Contains l e) same there) help);
+  }
+
+  pub rule_named : Rule4 walked.script walked.report account → AreNamed walked
+  rule_named rule client lt =
+      let c = get_within walked.report.clients client lt in record {
+        named = rule.named client c.0 c.1;
+        made = rule.made client c.0 c.1;
+      }
+
+  pub rule_helpers : Rule4 walked.script walked.report account → All (AreHelpers walked.script) walked.report.columns
+  rule_helpers rule = all_in (AreHelpers walked.script) walked.report.columns (λ c i.
+      let in_shape = column_within walked.script.shape.regions walked.script.shape.colours walked.report.columns may.first.columns c i in
+      all_in (MayHelp walked.script c.region) c.journal (λ e j help.
+      rule.helpers c.region c.colour e in_shape.0 in_shape.1
+      (subst (λ (l : List Entry). Contains l e) (journal_is c i) (contains_in c.journal e j)) help))
+
+  pub rule_told : AreNamed walked → (b : Bool) → Tells b (All (AreHelpers walked.script) walked.report.columns)
+      → Tells b (Rule4 walked.script walked.report account)
+  rule_told named true helpers = rule_from named helpers
+  rule_told named false fails = λ rule. fails (rule_helpers rule)
+
+-- makers of a column's events are clients of the script
+pub makers_at : (walked : Walked) (tracks : List Tracked) → MayWalk walked.script walked.report tracks → (c : ColumnReport)
+    → Contains walked.report.columns c → All (λ (e : Entry). e.by < length walked.script.shape.homes) c.journal
+makers_at walked tracks may c there =
+    let many = may.fitting.clients in
+    All-weaker (λ (e : Entry). e.by < length walked.script.clients) (λ (e : Entry). e.by < length walked.script.shape.homes)
+    (λ e lt. omega (arith, lt, many)) c.journal
+    (All-contains (IsLawfulColumn walked.script) walked.report.columns c may.second.each there).makers
+
+-- commands of the script name what its shape has
+pub command_within : (walked : Walked) (tracks : List Tracked) → MayWalk walked.script walked.report tracks
+    → (client place : ℕ) (x : Command) → slice_get (commands_of walked.script client) place ≡ Some x
+    → IsWithin walked.script.shape.regions walked.script.shape.colours x.what
+command_within walked tracks may client place x at =
+    All-contains (λ (y : Command). IsWithin walked.script.shape.regions walked.script.shape.colours y.what) walked.script.commands x
+    may.fitting.commands
+    (contains_in walked.script.commands x
+    (in_filter (λ (y : Command). y.client == client) x walked.script.commands
+    (slice_in (commands_of walked.script client) place x at)).0)
+
+-- a step that is seen is asked, and what is told of its answer is told of it
+pub seen_told : (walked : Walked) (tracks : List Tracked) → MayWalk walked.script walked.report tracks → (client place : ℕ)
+    (counted : Counted) (step : Step) → IsSeen walked client place counted step
+    → (x : Command) → slice_get (commands_of walked.script client) place ≡ Some x
+    → (r : ReplyLine) → slice_get (replies_to walked.report client) place ≡ Some r → (b : Bool)
+    → ((kept : Kept) (untold : Untold) → IsAsked walked client x.what r.answer kept untold counted
+    → Tells b (Names (log_walked walked) untold (caller_of walked.script client) kept x.what r.answer))
+    → Tells b (NamesAll walked (caller_of walked.script client) step)
+seen_told walked tracks may client place counted step seen x at_x r at_r b told =
+    by x r (same_some (sym at_x ∙ seen.command)) (same_some (sym at_r ∙ seen.reply)) told where
+      asked : IsAsked walked client step.command.what step.reply.answer (kept_at step) step.untold counted
+      asked = record {
+        counts = seen.kept;
+        told = seen.untold;
+        low = can_low walked.script may.fitting client (kept_at step) step.command.what
+            (command_within walked tracks may client place step.command seen.command) step.reply.nodes step.reply.answer seen.can.answer;
+      }
+
+      by : (x : Command) (r : ReplyLine) → x ≡ step.command → r ≡ step.reply
+          → ((kept : Kept) (untold : Untold) → IsAsked walked client x.what r.answer kept untold counted
+          → Tells b (Names (log_walked walked) untold (caller_of walked.script client) kept x.what r.answer))
+          → Tells b (NamesAll walked (caller_of walked.script client) step)
+      by x r is_x is_r tell =
+          subst (λ (y : Command). (kept : Kept) (untold : Untold) → IsAsked walked client y.what step.reply.answer kept untold counted
+          → Tells b (Names (log_walked walked) untold (caller_of walked.script client) kept y.what step.reply.answer)) is_x
+          (subst (λ (q : ReplyLine). (kept : Kept) (untold : Untold) → IsAsked walked client x.what q.answer kept untold counted
+          → Tells b (Names (log_walked walked) untold (caller_of walked.script client) kept x.what q.answer)) is_r tell)
+          (kept_at step) step.untold asked

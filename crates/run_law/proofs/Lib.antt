@@ -6,8 +6,8 @@ mod BaseLemmas
 mod BehindLemmas
 mod CanTold
 mod CauseLemmas
-mod ChainBeginnings
 mod CauseSteps
+mod ChainBeginnings
 mod ClosingLemmas
 mod ColumnPlaces
 mod CopiesLemmas
@@ -18,8 +18,9 @@ mod EnteringLemmas
 mod FifthLaws
 mod FinalLemmas
 mod FirstLemmas
-mod FrontLemmas
 mod FourthLemmas
+mod GuardLemmas
+mod FrontLemmas
 mod HeadLemmas
 mod LeftLemmas
 mod LineOrder
@@ -37,6 +38,7 @@ mod NodeRows
 mod NumeralLemmas
 mod ObjectOrders
 mod Once
+mod OpenLemmas
 mod OrderLemmas
 mod PastLemmas
 mod PlaceLemmas
@@ -45,6 +47,7 @@ mod PlayedLemmas
 mod PlayedShown
 mod PrintLemmas
 mod ProposalLemmas
+mod PullLemmas
 mod ReadDecides
 mod ReadingLemmas
 mod ReadsWhole
@@ -56,10 +59,15 @@ mod RowPlaceLemmas
 mod SameKeeping
 mod SayingLemmas
 mod ScanLemmas
+mod SeenAnswers
 mod SeventhLaws
 mod SeventhLemmas
 mod ShapeColours
 mod Shards
+mod ShowingLaws
+mod ShowingLemmas
+mod ShownAnswers
+mod ShownFinds
 mod ShownSteps
 mod ShownTextLemmas
 mod SixthLaws

@@ -1,20 +1,26 @@
 -- Pulls: what a column held, and for which number a give asked.
-use Rattle.std.proofs.Common.{◌≡◌, ◌∙◌, refl, ap, sym, subst, ℕ, zero, suc, ◌+◌, ◌-◌, ◌/◌, ◌<◌, ◌≤◌, min, Bool, true, false, List, [], ◌∷◌, ◌++◌, length, take, Option, Some, None, ◌⊎◌, inl, inr, arith}
-use Rattle.std.specs.Prelude.{nat_eq}
-use Rattle.std.proofs.lemmas.Bool.{cases_lt, eqb-true, eqb-false}
+use Rattle.std.proofs.Common.{◌≡◌, ◌∙◌, refl, ap, sym, subst, ℕ, zero, suc, ◌+◌, ◌<◌, ◌≤◌, min, Bool, true, false, List, [], ◌∷◌, length, take, Option, Some, None, ◌⊎◌, inl, inr, arith}
+use Rattle.std.specs.Prelude.{nat_eq, nat_lt, slice_get, ◌==◌, ◌&&◌}
+use Rattle.std.proofs.lemmas.Bool.{and_from, and_parts, cases_lt, eq-eqb, eqb-true, eqb-false, ltb-false, ltb-true}
 use Rattle.std.proofs.lemmas.List.{length-append, take_all}
-use Rattle.log_node.specs.declared.node.Head.{Head}
 use Rattle.log_node.specs.declared.node.Node.{Node}
 use Rattle.col_core.specs.declared.Entry.{Entry}
 use Rattle.col_core.specs.Computed.{dated}
-use Rattle.col_core.specs.Cuts.{chain}
+use Rattle.col_core.specs.Cuts.{base, chain}
+use Rattle.col_core.specs.declared.Event.{Event}
+use Rattle.col_core.specs.declared.Event.TheVariants as events
+use Rattle.col_core.specs.Log.{Log, first}
+use Rattle.col_core.proofs.CallerLemmas.{by_test, if_false, if_true}
+use Rattle.log_node.specs.Vectors.{at}
+use Rattle.log_node.proofs.CallerLemmas.{same_some}
 use Rattle.col_core.specs.History.{line}
 use Rattle.col_core.specs.Legal.{IsColumnHistory}
 use Rattle.column_track.specs.Tracks.{Tells}
 use Rattle.lawful_run.specs.Callers.{Caller}
-use Rattle.lawful_run.specs.Moves.{AsksFor}
+use Rattle.lawful_run.specs.Moves.{AsksFor, GivesFrom, GivesTooLow}
 use Rattle.run_rules.specs.Telling.{log_of}
-use Rattle.run_law.specs.Moving.{IsFirstHolding, held_of}
+use Rattle.run_law.specs.Looks.{event_by}
+use Rattle.run_law.specs.Moving.{IsFirstHolding, given_by, given_in, held_of}
 use Rattle.run_law.specs.Walking.{Walked, journal_walked}
 use Rattle.run_law.proofs.ChainBeginnings.{beginning_legal, chain_begins}
 
@@ -146,3 +152,75 @@ module _ (walked : Walked) (own colour of : ℕ)
         → (b : Bool) → nat_eq from bound ≡ b → Tells b (AsksFor (log_of walked.report told) caller of colour seen until place from)
     asks_told bound is_bound true e = asked (eqb-true from bound e ∙ is_bound)
     asks_told bound is_bound false e = λ x. eqb-false from bound e (asked_back x ∙ sym is_bound)
+
+-- EVENTS
+
+given_own : (own from : ℕ) → given_in own (events.Give own from) ≡ Some from
+given_own own from = if_true (own == own) (Some from) None (eq-eqb own own refl)
+
+pub given_of : (journal : List Entry) (client own place from : ℕ)
+    → slice_get journal place ≡ Some (record { by = client; event = events.Give own from; stamp = 0 })
+    → given_by own (event_by client (slice_get journal place)) ≡ Some from
+given_of journal client own place from there =
+    ap (λ (o : Option Entry). given_by own (event_by client o)) there
+    ∙ (ap (given_by own) (if_true ((client == client) && (0 == 0)) (Some (events.Give own from)) None
+    (and_from (client == client) (0 == 0) (eq-eqb client client refl) refl)) ∙ given_own own from)
+
+give_is : (own from : ℕ) (event : Event) → given_in own event ≡ Some from → event ≡ events.Give own from
+give_is own from (events.Single id floor wants) e = absurd (let f : ⊥ = cc (e) in f)
+give_is own from (events.Propose id floor wants) e = absurd (let f : ⊥ = cc (e) in f)
+give_is own from (events.Settle id outcome) e = absurd (let f : ⊥ = cc (e) in f)
+give_is own from (events.Raise to) e = absurd (let f : ⊥ = cc (e) in f)
+give_is own from (events.Give to number) e =
+    by_test (events.Give to number ≡ events.Give own from) (to == own)
+    (λ t.
+    let same : number ≡ from = same_some (sym (if_true (to == own) (Some number) None t) ∙ e) in
+    ap (λ (r : ℕ). events.Give r number) (eqb-true to own t) ∙ ap (events.Give own) same)
+    (λ f. absurd (let n : Option ℕ = None in let g : n ≡ Some from = sym (if_false (to == own) (Some number) None f) ∙ e in
+    let h : ⊥ = cc (g) in h))
+give_is own from (events.Carry of start heads) e = absurd (let f : ⊥ = cc (e) in f)
+give_is own from (events.Trim counts) e = absurd (let f : ⊥ = cc (e) in f)
+
+pub of_given : (journal : List Entry) (client own place from : ℕ)
+    → given_by own (event_by client (slice_get journal place)) ≡ Some from
+    → slice_get journal place ≡ Some (record { by = client; event = events.Give own from; stamp = 0 })
+of_given journal client own place from e = turn (slice_get journal place) refl where
+  turn : (o : Option Entry) → slice_get journal place ≡ o
+      → slice_get journal place ≡ Some (record { by = client; event = events.Give own from; stamp = 0 })
+  turn None n =
+      absurd (let o : Option ℕ = None in let f : o ≡ Some from = sym (ap (λ (x : Option Entry). given_by own (event_by client x)) n) ∙ e in
+      let g : ⊥ = cc (f) in g)
+  turn (Some entry) n =
+      let here = sym (ap (λ (x : Option Entry). given_by own (event_by client x)) n) ∙ e in
+      by_test _ ((entry.by == client) && (entry.stamp == 0))
+      (λ t.
+      let both = and_parts (entry.by == client) (entry.stamp == 0) t in
+      let event = give_is own from entry.event
+      (sym (ap (given_by own) (if_true ((entry.by == client) && (entry.stamp == 0)) (Some entry.event) None t)) ∙ here) in
+      n ∙ (ap (λ (b : ℕ). let o : Option Entry = Some (record { by = b; event = entry.event; stamp = entry.stamp }) in o)
+      (eqb-true entry.by client both.0)
+      ∙ (ap (λ (v : Event). let o : Option Entry = Some (record { by = client; event = v; stamp = entry.stamp }) in o) event
+      ∙ ap (λ (k : ℕ). let o : Option Entry = Some (record { by = client; event = events.Give own from; stamp = k }) in o)
+      (eqb-true entry.stamp 0 both.1))))
+      (λ f. absurd (let o : Option ℕ = None in let g : o ≡ Some from =
+      sym (ap (given_by own) (if_false ((entry.by == client) && (entry.stamp == 0)) (Some entry.event) None f)) ∙ here in
+      let h : ⊥ = cc (g) in h))
+
+-- one give at a place
+pub one_give : (log : Log) (caller : Caller) (region colour place a b : ℕ) → GivesFrom log caller region colour place a
+    → GivesFrom log caller region colour place b → a ≡ b
+one_give log caller region colour place a b one other =
+    same_some (sym (given_of (log.histories region colour) caller.client caller.own place a one)
+    ∙ given_of (log.histories region colour) caller.client caller.own place b other)
+
+pub too_low_told : (log : Log) (caller : Caller) (region colour seen until place from limit : ℕ)
+    → GivesFrom log caller region colour place from → AsksFor log caller region colour seen until place from
+    → limit ≡ at (base region caller.regions (first log region colour place)) region → (b : Bool) → nat_lt from limit ≡ b
+    → Tells b (GivesTooLow log caller region colour seen until place)
+too_low_told log caller region colour seen until place from limit gives asks is true t =
+    let lt = ltb-true from limit t in (from, gives, asks, omega (arith, lt, is))
+too_low_told log caller region colour seen until place from limit gives asks is false f = λ x.
+    let same = one_give log caller region colour place x.0 from x.1 gives in
+    let ge = ltb-false from limit f in
+    let lt = x.3 in
+    let g : ⊥ = omega (arith, same, ge, lt, is) in g

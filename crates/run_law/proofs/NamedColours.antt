@@ -1,10 +1,10 @@
 -- An answer that a command of a script can have names colours that a log can have.
-use Rattle.std.proofs.Common.{◌≡◌, ◌⊎◌, ◌∙◌, refl, ap, sym, subst, inl, inr, ℕ, ◌+◌, ◌<◌, ◌≤◌, Bool, true, false, List, [], ◌∷◌, length, map, Option, Some, None, arith}
-use Rattle.std.specs.Prelude.{slice_get}
-use Rattle.std.specs.List.{All, filter, range_with_len}
+use Rattle.std.proofs.Common.{◌≡◌, refl, sym, subst, inl, inr, ℕ, ◌<◌, Bool, List, [], ◌∷◌, map, Option, Some, None, arith}
+use Rattle.std.specs.Prelude.{slice_get, ◌==◌}
+use Rattle.std.specs.List.{All, list_any, range_with_len}
 use Rattle.std.specs.Option.{option_map}
 use Rattle.std.proofs.lemmas.List.{get_or-map, length-map}
-use Rattle.std.proofs.lemmas.List.Elements.{All-contains, All-nil, All-cons, All-head}
+use Rattle.std.proofs.lemmas.List.Elements.{All-nil, All-cons, All-head}
 use Rattle.std.proofs.lemmas.Option.{get_or_from_slice_get, slice_get_within}
 use Rattle.log_node.specs.declared.forms.Version.{Version}
 use Rattle.log_node.specs.declared.limits.TheConstants.{MAX_COLOURS}
@@ -12,8 +12,9 @@ use Rattle.log_node.specs.Seen.{PlacedNode}
 use Rattle.log_node.specs.Sets.{members}
 use Rattle.log_node.proofs.CallerLemmas.{members_low}
 use Rattle.col_core.specs.Keeping.{Kept}
-use Rattle.col_core.proofs.CallerLemmas.{In, all_in, in_filter, in_range}
+use Rattle.col_core.proofs.CallerLemmas.{all_in, in_filter, in_range}
 use Rattle.object_fold.specs.Maps.{Value}
+use Rattle.object_fold.specs.Nodes.{shard_of}
 use Rattle.tree_fold.specs.declared.change.Change.{Change}
 use Rattle.tree_fold.specs.Readings.{below_root_of, make_of, move_of, remove_of}
 use Rattle.script_text.specs.Commands.{use_of}
@@ -39,7 +40,7 @@ use Rattle.lawful_run.specs.Deeds.{NoColours, Named, One, ShardsOf, Whole, Liste
 use Rattle.lawful_run.specs.Parts.{AsksToDecide}
 use Rattle.run_rules.specs.Told.{colours_asked, colours_said}
 use Rattle.run_rules.specs.Answering.{CanEnd, CanGet, CanHave, HasPoints, HasReads}
-use Rattle.run_law.specs.Asking.{AreLow, HaveLowColours}
+use Rattle.run_law.specs.Asking.{AreLow}
 use Rattle.run_law.specs.Fourth.{ArePointsLow, AreRaisesLow, AreSyncsLow, IsEndLow, NamesLow}
 use Rattle.run_law.proofs.FirstLemmas.{low_objects}
 use Rattle.run_law.proofs.Shards.{shard_low}
@@ -53,6 +54,9 @@ where_low test = all_in (λ c. c < MAX_COLOURS) (colours_where test) (λ c i.
     let r = in_range 0 MAX_COLOURS c (in_filter test c (range_with_len 0 MAX_COLOURS) i).0 in
     let lt = r.1 in omega (arith, lt))
 
+rising_low : (own : List ℕ) → AreLow (rising own)
+rising_low own = where_low (λ c. list_any (λ d. d == c) own)
+
 -- a reach of one colour is of one that a log can have
 abbrev IsOneLow : Reach → Type 0
 IsOneLow (One colour) = colour < MAX_COLOURS
@@ -62,11 +66,11 @@ reached_low : (own : List ℕ) → AreLow own → (reach : Reach) → IsOneLow r
 reached_low own low NoColours one = All-nil (λ c. c < MAX_COLOURS)
 reached_low own low (Named colours) one = members_low colours
 reached_low own low (One colour) one = one_low colour one
-reached_low own low (ShardsOf keys) one = where_low _
-reached_low own low Whole one = where_low _
+reached_low own low (ShardsOf keys) one = where_low (λ c. list_any (λ key. shard_of own key == c) keys)
+reached_low own low Whole one = rising_low own
 reached_low own low Listed one = low
 reached_low own low (ShardThenWhole key) one =
-    All-cons (λ c. c < MAX_COLOURS) _ (rising own) (shard_low own key low) (where_low _)
+    All-cons (λ c. c < MAX_COLOURS) (shard_of own key) (rising own) (shard_low own key low) (rising_low own)
 
 module _ (script : Script) (fits : IsFitting script) (client : ℕ) where
   abbrev caller : Caller
@@ -203,7 +207,7 @@ module _ (script : Script) (fits : IsFitting script) (client : ℕ) where
       reads_low (colours_synced caller what) (synced_low what w) raises syncs can.4
   can_low kept what w nodes (answers.Undecided stamp sync) can = sync_low what w sync can.4.3
   can_low kept what w nodes (answers.Decided commits stamp sync read_stamp raises syncs ended) can =
-      let reads = reads_low (rising can.1) (where_low _) raises syncs can.3 in (
+      let reads = reads_low (rising can.1) (rising_low can.1) raises syncs can.3 in (
         decides_low what sync can.1 can.2,
         reads.0,
         reads.1,

@@ -1,5 +1,5 @@
 -- The ninth rule is what is looked at of each step.
-use Rattle.std.proofs.Common.{◌≡◌, ◌∙◌, refl, ap, sym, subst, ℕ, ◌<◌, List, [], ◌∷◌, length, map, take, Option, Some, None, inl, inr}
+use Rattle.std.proofs.Common.{◌≡◌, ◌∙◌, refl, ap, sym, subst, ℕ, ◌<◌, List, [], ◌∷◌, map, take, Option, Some, None, inl, inr}
 use Rattle.std.specs.Prelude.{slice_get}
 use Rattle.std.specs.List.{All, AllZip}
 use Rattle.std.proofs.lemmas.List.Elements.{All-contains}
@@ -7,7 +7,6 @@ use Rattle.std.proofs.lemmas.Option.{slice_get-map}
 use Rattle.std.specs.Option.{option_map}
 use Rattle.log_node.specs.declared.ids.Id.{Id}
 use Rattle.log_node.specs.declared.ids.Key.{Key}
-use Rattle.log_node.specs.declared.ids.Counts.{Counts}
 use Rattle.log_node.specs.declared.node.Head.{Head}
 use Rattle.log_node.specs.declared.node.Node.{Node}
 use Rattle.log_node.specs.Seen.{PlacedNode}
@@ -29,18 +28,18 @@ use Rattle.report_text.specs.declared.report.Report.{Report}
 use Rattle.report_text.specs.declared.report.SyncPiece.{SyncPiece}
 use Rattle.lawful_run.specs.Callers.{Caller, caller_of}
 use Rattle.lawful_run.specs.Deeds.{colours_synced}
-use Rattle.lawful_run.specs.Reads.{AreKeysRead, ShowsKey, ShowsNode, ShowsPlayed, lines_read}
+use Rattle.lawful_run.specs.Reads.{AreKeysRead, ShowsKey, ShowsNode, lines_read}
 use Rattle.run_rules.specs.Told.{Account, IsTold, OfEachStep, Step, Untold, kept_at}
-use Rattle.run_rules.specs.Telling.{IsWellFormed, account_of, log_of}
+use Rattle.run_rules.specs.Telling.{IsWellFormed, account_of}
 use Rattle.run_rules.specs.Answering.{CanHave}
 use Rattle.run_rules.specs.Nodes.{nodes_told}
 use Rattle.run_rules.specs.Rules.{Rule1, Rule4}
-use Rattle.run_rules.specs.Shown.{Rule9, Shows}
+use Rattle.run_rules.specs.Shown.{Shows}
 use Rattle.run_rules.specs.Said.{node_lines, nodes_shown, shown_text, with_text}
 use Rattle.run_rules.specs.Keeping.{RulesTo, all_replies}
 use Rattle.run_rules.specs.Laws.{NodesChangeNoStep}
-use Rattle.run_rules.proofs.CallerLemmas.{IsAbove, MovesNamed, NamesMoves, Obeys, head_above, home_within, key_above, obeys, reports_tell, rule1, rule2, rule3, rule4, rule5, shows_moves, shows_text, synced_within, zip_before, zip_mapped}
-use Rattle.run_law.specs.Ninth.{IsTextFirst, NinthIsShown, PlaysKeys, ShowsFirst, ShowsPlace, StepShows, key_shown, log_shown}
+use Rattle.run_rules.proofs.CallerLemmas.{IsAbove, MovesNamed, NamesMoves, Obeys, head_above, home_within, key_above, obeys, reports_tell, rule1, rule2, rule3, rule4, rule5, shows_text, synced_within, zip_before, zip_mapped}
+use Rattle.run_law.specs.Ninth.{IsTextFirst, NinthIsShown, ShowsFirst, ShowsPlace, StepShows, key_shown, log_shown}
 
 -- TEXTS
 

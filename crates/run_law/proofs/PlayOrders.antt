@@ -4,7 +4,6 @@ use Rattle.std.specs.Prelude.{slice_get, sum, map, is_some, not, nat_eq, nat_lt,
 use Rattle.std.specs.List.{AllZip}
 use Rattle.std.specs.Option.{option_map_or}
 use Rattle.std.proofs.lemmas.Bool.{and_from, and_parts, cases_eq, eq-eqb, eqb-true, ltb-true, true≢false}
-use Rattle.std.proofs.lemmas.Option.{slice_get_within}
 use mathlib.Core.List.{IsPrefix}
 use Rattle.log_node.specs.declared.ids.Counts.{Counts}
 use Rattle.log_node.specs.declared.ids.Key.{Key}
@@ -13,9 +12,9 @@ use Rattle.log_node.specs.Order.{same_id, same_key}
 use Rattle.log_node.specs.Reach.{Chains, Reachable, is_covered}
 use Rattle.log_node.specs.Seen.{PlacedNode}
 use Rattle.log_node.specs.Vectors.{IsWithin, all_regions, at, least, one_more}
-use Rattle.log_node.proofs.CallerLemmas.{at-one_more, at-vector, each_region, get_longer, get_within, reached_within, same_id-refl, same_some, same_tests}
+use Rattle.log_node.proofs.CallerLemmas.{at-one_more, at-vector, get_longer, get_within, reached_within, same_id-refl, same_some, same_tests}
 use Rattle.col_core.specs.Laws.{PlayOrderIsUnique}
-use Rattle.col_core.specs.PlayOrder.{IsPlayOrder, Place, Stands, WaitsFor, goes_first, is_between}
+use Rattle.col_core.specs.PlayOrder.{IsPlayOrder, Place, Stands, is_between}
 use Rattle.col_core.proofs.CallerLemmas.{Between, In, between_is, by_test, if_false, if_true, in_order-between, is_in_between, reachable_grows, within, within-at}
 use Rattle.lawful_run.proofs.CallerLemmas.{regions_in}
 use Rattle.playback.specs.Laws.{PlayOrderIsLawful}

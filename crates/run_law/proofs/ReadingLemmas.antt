@@ -1,8 +1,7 @@
 -- Syncs and stamped reads, part after part.
-use Rattle.std.proofs.Common.{◌≡◌, ◌∙◌, refl, ap, sym, subst, ℕ, zero, suc, ◌+◌, ◌<◌, ◌≤◌, Bool, true, false, List, [], ◌∷◌, ◌++◌, length, map, take, get_or, Some, ◌⊎◌, inl, inr, arith}
-use Rattle.std.specs.Prelude.{slice_get}
-use Rattle.std.specs.List.{All, Contains}
-use Rattle.std.proofs.lemmas.List.{take_more, take_all}
+use Rattle.std.proofs.Common.{◌≡◌, ◌∙◌, refl, ap, sym, subst, ℕ, zero, suc, ◌+◌, ◌<◌, ◌≤◌, Bool, true, false, List, [], ◌∷◌, ◌++◌, length, map, take, get_or, inl, inr, arith}
+use Rattle.std.specs.List.{All}
+use Rattle.std.proofs.lemmas.List.{take_more}
 use Rattle.std.proofs.lemmas.List.Elements.{All-contains}
 use Rattle.std.proofs.lemmas.List.Sums.{fold_more}
 use Rattle.std.proofs.lemmas.Option.{slice_get-get_or}
@@ -10,14 +9,14 @@ use Rattle.log_node.specs.declared.ids.Counts.{Counts}
 use Rattle.log_node.specs.declared.node.Node.{Node}
 use Rattle.log_node.specs.Reach.{IsGreatestReachable}
 use Rattle.log_node.specs.Vectors.{IsWithin, at}
-use Rattle.log_node.proofs.CallerLemmas.{at-vector, same_some}
+use Rattle.log_node.proofs.CallerLemmas.{at-vector}
 use Rattle.col_core.specs.declared.Entry.{Entry}
 use Rattle.col_core.specs.Computed.{cut, dated}
 use Rattle.col_core.specs.Cuts.{Dated, base, chain, held}
 use Rattle.col_core.specs.History.{line}
 use Rattle.col_core.specs.Keeping.{Kept}
 use Rattle.col_core.specs.Log.{Log}
-use Rattle.col_core.proofs.CallerLemmas.{In, all_in, contains_in, cut-is_greatest, cut_unique, in_contains, in_map, in_map-back, slice_in}
+use Rattle.col_core.proofs.CallerLemmas.{all_in, contains_in, cut-is_greatest, cut_unique, in_map, in_map-back, slice_in}
 use Rattle.column_track.specs.declared.marks.Mark.{Mark}
 use Rattle.column_track.specs.Tracks.{Tells, mark_after}
 use Rattle.script_text.specs.declared.script.Script.{Script}
@@ -26,9 +25,9 @@ use Rattle.report_text.specs.declared.report.SyncPiece.{SyncPiece}
 use Rattle.report_text.specs.declared.report.ReplyLine.{ReplyLine}
 use Rattle.run_law.specs.Ninth.{PassesTo}
 use Rattle.lawful_run.specs.Callers.{Caller, caller_of}
-use Rattle.lawful_run.specs.Reads.{ClearSyncs, IsAboveClocks, IsReadStamp, Raises, RaisesClock, Syncs, kept_after_piece, kept_after_place}
+use Rattle.lawful_run.specs.Reads.{ClearSyncs, IsReadStamp, Raises, RaisesClock, kept_after_piece, kept_after_place}
 use Rattle.run_rules.specs.Answering.{HasReads}
-use Rattle.run_rules.specs.Told.{kept_after_raises, kept_after_read, kept_after_syncs}
+use Rattle.run_rules.specs.Told.{kept_after_raises, kept_after_syncs}
 use Rattle.run_rules.specs.Telling.{log_of, replies_to}
 use Rattle.run_rules.specs.Shown.{ReadsColours, SyncsAsTold}
 use Rattle.run_law.specs.Keepings.{Counted, IsCell, IsCounted, known_at, seen_at, start_at}
@@ -209,6 +208,11 @@ passes_so {Asked} replies after counted b passes is = subst (PassesTo replies As
 pub passes_not : {Asked : Type 0} (replies : List ReplyLine) (after : Kept) (counted : Counted) (b : Bool)
     → PassesTo replies Asked after counted b → b ≡ false → Asked → ⊥
 passes_not {Asked} replies after counted b passes is = subst (PassesTo replies Asked after counted) is passes
+
+pub passes_as : {Asked Other : Type 0} (replies : List ReplyLine) (after : Kept) (counted : Counted) → (Asked → Other) → (Other → Asked)
+    → (b : Bool) → PassesTo replies Asked after counted b → PassesTo replies Other after counted b
+passes_as replies after counted to back true passes = (to passes.0, passes.1)
+passes_as replies after counted to back false passes = λ other. passes (back other)
 
 pub synced_more : (log : Log) (caller : Caller) (kept : Kept) (xs : List SyncPiece) (i : ℕ) (d : SyncPiece) → i < length xs
     → kept_after_syncs log caller kept (take (i + 1) xs)

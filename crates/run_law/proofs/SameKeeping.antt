@@ -1,5 +1,5 @@
 -- What is asked of what a client keeps, by two accounts by which it keeps the same.
-use Rattle.std.proofs.Common.{◌≡◌, ◌∙◌, refl, ap, sym, subst, Bool, true, false, cond, ℕ, ◌<◌, ◌≤◌, List, length, map, take, Option, Some, None}
+use Rattle.std.proofs.Common.{◌≡◌, refl, ap, sym, subst, Bool, true, false, cond, ℕ, ◌<◌, ◌≤◌, List, length, map, take, Option, Some, None}
 use Rattle.std.specs.Prelude.{IsFalse, ◌==◌, ◌++◌}
 use Rattle.log_node.specs.declared.forms.Version.{Version}
 use Rattle.log_node.specs.declared.ids.Counts.{Counts}
@@ -25,7 +25,7 @@ use Rattle.lawful_run.specs.Deeds.{found_by, saying_of}
 use Rattle.lawful_run.specs.Reads.{IsTrimmed}
 use Rattle.lawful_run.specs.Refusals.{before_by, kept_before}
 use Rattle.run_rules.specs.Told.{colours_asked, colours_said}
-use Rattle.run_rules.specs.Agreeing.{HasColumn, KeepSame, keys_found}
+use Rattle.run_rules.specs.Agreeing.{KeepSame, keys_found}
 
 -- the other way round
 pub turned : {script : Script} {a b : Kept} → KeepSame script a b → KeepSame script b a

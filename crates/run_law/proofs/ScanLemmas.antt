@@ -1,15 +1,12 @@
 -- Keys beside node lines, and lines of which a scan is merged.
-use Rattle.std.proofs.Common.{◌≡◌, ◌∙◌, refl, ap, sym, subst, ℕ, zero, suc, ◌+◌, ◌*◌, ◌<◌, ◌≤◌, min, Bool, true, false, List, [], ◌∷◌, ◌++◌, length, map, take, get_or, Some, None, ◌⊎◌, inl, inr, arith}
+use Rattle.std.proofs.Common.{◌≡◌, ◌∙◌, refl, ap, sym, subst, ℕ, zero, suc, ◌+◌, ◌*◌, ◌<◌, ◌≤◌, min, Bool, true, false, List, [], ◌∷◌, ◌++◌, length, map, take, get_or, Some, ◌⊎◌, inl, inr, arith}
 use Rattle.std.specs.Prelude.{nat_eq, slice_get}
 use Rattle.std.proofs.lemmas.Bool.{and_from, cases_lt, eq-eqb, true≢false}
 use Rattle.std.proofs.lemmas.List.{take_all, take_more}
 use Rattle.std.proofs.lemmas.List.Elements.{All-contains}
 use Rattle.std.proofs.lemmas.Option.{slice_get-get_or}
-use Rattle.std.specs.List.{Contains, fold}
-use Rattle.std.proofs.lemmas.List.Sums.{fold_more}
+use Rattle.std.specs.List.{fold}
 use Rattle.log_node.specs.declared.ids.Key.{Key}
-use Rattle.log_node.specs.declared.node.Head.{Head}
-use Rattle.log_node.specs.declared.node.Node.{Node}
 use Rattle.log_node.specs.Order.{same_id, same_key}
 use Rattle.log_node.specs.Seen.{PlacedNode}
 use Rattle.log_node.proofs.CallerLemmas.{get_map, same_id-refl, same_key-is, same_some}
@@ -19,7 +16,7 @@ use Rattle.col_core.specs.History.{line}
 use Rattle.col_core.specs.Laws.{RegionOrderIsUnique}
 use Rattle.col_core.specs.Legal.{IsColumnHistory}
 use Rattle.col_core.specs.RegionOrder.{IsRegionOrder}
-use Rattle.col_core.proofs.CallerLemmas.{In, contains_in, in_contains, in_map, slice_in}
+use Rattle.col_core.proofs.CallerLemmas.{contains_in, in_contains, in_map, slice_in}
 use Rattle.column_track.specs.Tracks.{Tells, Tracked}
 use Rattle.playback.specs.Laws.{RegionOrderIsLawful}
 use Rattle.playback.specs.Merging.{AreRising, merged, region_order, up_to}
@@ -28,7 +25,6 @@ use Rattle.lawful_run.specs.Callers.{Caller}
 use Rattle.lawful_run.specs.Reads.{AreKeysRead, lines_read}
 use Rattle.col_core.specs.Log.{Log}
 use Rattle.run_law.specs.Ninth.{key_shown}
-use Rattle.run_law.specs.Proposals.{line_heads}
 use Rattle.report_text.specs.declared.report.ColumnReport.{ColumnReport}
 use Rattle.run_rules.specs.Rules.{IsLawfulColumn}
 use Rattle.run_law.specs.Walking.{MayWalk, Walked, journal_walked}

@@ -1,8 +1,7 @@
 -- The steps of the account by which reports are judged from the tenth rule on, beside those of the one with no nodes.
-use Rattle.std.proofs.Common.{◌≡◌, ◌∙◌, refl, ap, sym, subst, ℕ, zero, suc, ◌<◌, List, [], ◌∷◌, length, map, Option, Some, None, inl, inr, arith}
+use Rattle.std.proofs.Common.{◌≡◌, ◌∙◌, refl, ap, subst, ℕ, zero, suc, ◌<◌, List, [], ◌∷◌, length, map, Some, inl, inr, arith}
 use Rattle.std.specs.Prelude.{◌==◌, slice_get}
 use Rattle.std.specs.List.{All, AllZip}
-use Rattle.std.specs.Option.{option_map}
 use Rattle.std.proofs.lemmas.List.{length-map}
 use Rattle.std.proofs.lemmas.List.Elements.{All-nil, All-cons, All-head, All-tail, All-contains}
 use Rattle.std.proofs.lemmas.Option.{slice_get_within}
@@ -10,7 +9,6 @@ use Rattle.log_node.specs.declared.forms.Version.{Version}
 use Rattle.col_core.specs.Log.{Log}
 use Rattle.col_core.specs.Keeping.{Kept, nothing_kept}
 use Rattle.col_core.proofs.CallerLemmas.{In, by_test, contains_in, if_false, if_true, in_filter, in_map-back}
-use Rattle.script_text.specs.declared.commands.What.{What}
 use Rattle.script_text.specs.declared.script.Command.{Command}
 use Rattle.script_text.specs.declared.script.Script.{Script}
 use Rattle.script_text.specs.Fitting.{IsFitting, IsWithin, UsesObject}
@@ -20,14 +18,13 @@ use Rattle.report_text.specs.declared.report.ClientReport.{ClientReport}
 use Rattle.report_text.specs.declared.report.KeyAnswer.{KeyAnswer}
 use Rattle.report_text.specs.declared.report.ReplyLine.{ReplyLine}
 use Rattle.report_text.specs.declared.report.Report.{Report}
-use Rattle.lawful_run.specs.Callers.{Caller, caller_of, commands_of}
+use Rattle.lawful_run.specs.Callers.{Caller, caller_of}
 use Rattle.run_rules.specs.Told.{Account, AreKeysFound, Follow, IsTold, Step, kept_past}
 use Rattle.run_rules.specs.Telling.{FindKeys, IsWellFormed, account_of, no_nodes, replies_in, replies_to, unnamed}
 use Rattle.run_rules.specs.Computing.{account_finding, answer_in, answer_to, any_decisions, finds_below, finds_of, found_at, keys_shown, last_read, versions_told}
 use Rattle.run_rules.specs.Deciding.{account_showing, nodes_showing}
 use Rattle.run_rules.specs.Keeping.{RulesTo, all_replies}
 use Rattle.run_rules.specs.Laws.{ComputedAccountAgrees, FindsTell}
-use Rattle.run_rules.specs.Rules.{Rule1}
 use Rattle.run_rules.specs.Agreeing.{Agree, AreStepsAlike, KeepSame}
 use Rattle.run_rules.proofs.CallerLemmas.{reports_tell, rule1}
 

@@ -1,6 +1,6 @@
 -- The twelfth rule at the account with what reads found and node lines show, and at the one with no nodes.
-use Rattle.std.proofs.Common.{◌≡◌, ◌∙◌, refl, ap, sym, subst, ℕ, ◌<◌, ◌≤◌, List, [], ◌∷◌, map, Option, Some, None, ◌⊎◌, inl, inr}
-use Rattle.std.specs.Prelude.{◌↔◌, ◌≢◌, slice_get}
+use Rattle.std.proofs.Common.{◌≡◌, ◌∙◌, refl, ap, sym, subst, ℕ, ◌<◌, List, map, Option, Some, None, inl, inr}
+use Rattle.std.specs.Prelude.{◌↔◌, slice_get}
 use Rattle.std.specs.List.{All}
 use Rattle.std.proofs.lemmas.List.Elements.{All-contains}
 use Rattle.log_node.specs.declared.ids.Counts.{Counts}
@@ -9,7 +9,6 @@ use Rattle.col_core.specs.Log.{Log}
 use Rattle.col_core.specs.Keeping.{Kept}
 use Rattle.col_core.proofs.CallerLemmas.{In, all_in, contains_in, in_map-back}
 use Rattle.script_text.specs.declared.commands.What.{What}
-use Rattle.script_text.specs.declared.commands.What.TheVariants as whats
 use Rattle.script_text.specs.declared.script.Command.{Command}
 use Rattle.script_text.specs.declared.script.Script.{Script}
 use Rattle.script_text.specs.Fitting.{IsFitting, IsWithin}
@@ -20,7 +19,7 @@ use Rattle.report_text.specs.declared.report.PointPiece.{PointPiece}
 use Rattle.report_text.specs.declared.report.ReplyLine.{ReplyLine}
 use Rattle.report_text.specs.declared.report.Report.{Report}
 use Rattle.lawful_run.specs.Callers.{Caller, caller_of}
-use Rattle.lawful_run.specs.Appends.{IsSoLong, WasNext}
+use Rattle.lawful_run.specs.Appends.{WasNext}
 use Rattle.lawful_run.specs.Refusals.{kept_before}
 use Rattle.log_node.specs.Seen.{PlacedNode}
 use Rattle.run_rules.specs.Told.{Account, Step, colours_asked, kept_at}
@@ -39,7 +38,7 @@ use Rattle.run_law.proofs.ShapeColours.{appended_within}
 use Rattle.run_law.proofs.ShownSteps.{home_low, its_within, to_bare, to_shown}
 
 -- a point's colour is one of those on which a command appends
-point_asked : (colours : List ℕ) (row : Option ℕ) (points : List PointPiece) → HasPoints colours row points → (p : PointPiece)
+pub point_asked : (colours : List ℕ) (row : Option ℕ) (points : List PointPiece) → HasPoints colours row points → (p : PointPiece)
     → In p points → In p.colour colours
 point_asked colours row points h p i =
     subst (In p.colour) (by row h) (in_map-back (λ (k : PointPiece). k.colour) points p i) where

@@ -27,6 +27,7 @@ pub mod Replies
 pub mod RowPlaces
 pub mod RowsBeside
 pub mod Seventh
+pub mod Showing
 pub mod ShownTexts
 pub mod Sixth
 pub mod Subjects

@@ -1,5 +1,5 @@
 -- Parts of what pulls and trims say of the log.
-use Rattle.std.specs.Prelude.{◌≡◌, ◌⊎◌, Bool, ℕ, ◌==◌, ◌<◌, ◌≤◌, List, length, Option, Some, None, if◌then◌else◌}
+use Rattle.std.specs.Prelude.{◌≡◌, ◌⊎◌, ℕ, ◌==◌, ◌<◌, ◌≤◌, List, length, Option, Some, None, if◌then◌else◌}
 use Rattle.col_core.specs.declared.Event.{Event}
 use Rattle.col_core.specs.declared.Event.TheVariants as events
 use Rattle.col_core.specs.Cuts.{chain}
@@ -48,9 +48,8 @@ IsGiven log caller region colour seen until place None =
 IsGiven log caller region colour seen until place (Some from) =
     GivesFrom log caller region colour place from × AsksFor log caller region colour seen until place from
 
--- the client carried so many nodes, and had seen so many events of its own column then, all of which are there; or it did not
+-- the client carried so many nodes, and had seen so many events of its own column then; or it did not
 abbrev pub IsCarried : Log → Caller → Kept → ℕ → ℕ → ℕ → At → Option ℕ → Type 0
 IsCarried log caller kept region colour nodes carry None = CarriesNodes log caller kept region colour nodes carry → ⊥
 IsCarried log caller kept region colour nodes carry (Some events) =
     CarriesNodes log caller kept region colour nodes carry × (events ≡ seen_after carry)
-    × (events ≤ length (log.histories caller.own colour))

@@ -1,5 +1,5 @@
 -- Parts of what syncs and stamped reads say of the log.
-use Rattle.std.specs.Prelude.{◌≡◌, ℕ, ◌<◌, ◌≤◌, List, length, take, map}
+use Rattle.std.specs.Prelude.{◌≡◌, ℕ, ◌<◌, ◌≤◌, List, length, take}
 use Rattle.std.specs.List.{All}
 use Rattle.col_core.specs.History.{clock}
 use Rattle.col_core.specs.Keeping.{Kept}

@@ -61,7 +61,7 @@ impl Keeping {
     }
 
     // Behind an answer to the command in this place.
-    fn answered(
+    pub(crate) fn answered(
         &mut self,
         alloc: Global,
         subject: &Subject<'_>,

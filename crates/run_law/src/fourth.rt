@@ -316,6 +316,7 @@ impl Check for NamesAll {
         place: usize,
         keeping: &mut Keeping,
     ) -> Result<bool, AllocError> {
+        subject.agrees();
         let what = &subject.command(client, place).what;
         let answer = &subject.reply(client, place).answer;
         if !names(alloc, subject, client, keeping, what, answer)? {
@@ -369,6 +370,7 @@ fn is_client_named(alloc: Global, subject: &Subject<'_>, client: u8) -> Result<b
     requires walker { client < length subject.now.report.clients }
     ensures { IfOk result (λ b. Tells b (IsClientNamed subject.now client)) }
 {
+    subject.agrees();
     match walk(alloc, subject, client, &NamesAll)? {
         Some(keeping) => Ok(has_made(subject, client, &keeping)),
         None => Ok(false),

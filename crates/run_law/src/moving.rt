@@ -1,5 +1,5 @@
 // Whether pulls and trims are as the log says.
-ghost use Rattle.std.specs.Prelude.{◌≡◌, ◌<◌, ◌≤◌, ℕ, List, Some, length};
+ghost use Rattle.std.specs.Prelude.{◌≡◌, ◌<◌, ◌≤◌, ℕ, IfSome, List, Some, length};
 ghost use Rattle.std.specs.List.{All};
 ghost use Rattle.std.specs.Option.{option_copied};
 ghost use Rattle.log_node.specs.declared.node.Node.{Node};
@@ -208,8 +208,10 @@ impl Keeping {
     ) -> Option<u64>
         requires walker { client < length subject.now.report.clients }
         requires own { IsOfShape subject.now (caller_of subject.now.script client).own colour }
-        ensures { (told : ℕ → List Node) (kept : Kept) → IsCounted (replies_to subject.now.report client) kept self.now → IsCarried
+        ensures carried { (told : ℕ → List Node) (kept : Kept) → IsCounted (replies_to subject.now.report client) kept self.now → IsCarried
             (log_of subject.now.report told) (caller_of subject.now.script client) kept region colour nodes carry result }
+        ensures within { IfSome result (λ events. events
+            ≤ length (journal_walked subject.now (caller_of subject.now.script client).own colour)) }
     {
         let own = subject.own(client);
         let all = subject.event_count(own, colour);

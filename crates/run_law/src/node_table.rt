@@ -45,6 +45,16 @@ impl NodeTable {
         }
     }
 
+    /// The nodes of a client.
+    pub(crate) fn of_client(&self, client: u8) -> &[Node]
+        ensures { result.now ≡ nodes_at self.now client }
+    {
+        match self.lists.get(client as usize) {
+            Some(list) => list.as_slice(),
+            None => &[],
+        }
+    }
+
     /// One node more of a client, where the table has it.
     pub(crate) fn add(&mut self, client: u8, node: Node) -> Result<(), AllocError>
         ensures many { OnOk result (length self.new ≡ length self.old) }

@@ -12,7 +12,7 @@ ghost use Rattle.run_rules.specs.Answering.{HasReads};
 ghost use Rattle.run_rules.specs.Told.{kept_after_raises, kept_after_read, kept_after_syncs};
 ghost use Rattle.run_rules.specs.Telling.{log_of, replies_to};
 ghost use Rattle.run_rules.specs.Shown.{ReadsColours, SyncsAsTold};
-ghost use Rattle.run_law.specs.Keepings.{IsCounted};
+ghost use Rattle.run_law.specs.Keepings.{IsCounted, KeepsCount};
 ghost use Rattle.run_law.specs.Ninth.{PassesTo};
 ghost use Rattle.run_law.specs.Reading.{AreBelow, IsAboveClock, IsClearSync, WasClockOf};
 
@@ -81,13 +81,14 @@ impl Keeping {
         syncs: &[SyncPiece],
     ) -> bool
         requires { client < length subject.now.report.clients }
-        ensures { (nodes : ℕ → List Node) (kept : Kept) → AreBelow subject.now.script (λ (s : Synced). s.colour) syncs.now
+        ensures kept { (nodes : ℕ → List Node) (kept : Kept) → AreBelow subject.now.script (λ (s : Synced). s.colour) syncs.now
             → IsCounted (replies_to subject.now.report client) kept self.old
             → PassesTo (replies_to subject.now.report client)
             (ClearSyncs (log_of subject.now.report nodes) (caller_of subject.now.script client) stamp kept syncs.now
             (kept_after_syncs (log_of subject.now.report nodes) (caller_of subject.now.script client) kept syncs.now))
             (kept_after_syncs (log_of subject.now.report nodes) (caller_of subject.now.script client) kept syncs.now) self.new
             result }
+        ensures count { KeepsCount self.old self.new }
     {
         for sync in syncs {
             if !self.is_clear_sync(subject, client, stamp, *sync) {
@@ -138,12 +139,13 @@ impl Keeping {
         raises: &[RaisePiece],
     ) -> Result<bool, AllocError>
         requires { client < length subject.now.report.clients }
-        ensures { (nodes : ℕ → List Node) (kept : Kept) → AreBelow subject.now.script (λ (r : Raised). r.colour) raises.now
+        ensures kept { (nodes : ℕ → List Node) (kept : Kept) → AreBelow subject.now.script (λ (r : Raised). r.colour) raises.now
             → IsCounted (replies_to subject.now.report client) kept self.old
             → IfOk result (PassesTo (replies_to subject.now.report client)
             (Raises (log_of subject.now.report nodes) (caller_of subject.now.script client) stamp kept raises.now
             (kept_after_raises (caller_of subject.now.script client) kept raises.now))
             (kept_after_raises (caller_of subject.now.script client) kept raises.now) self.new) }
+        ensures count { IfOk result (λ b. KeepsCount self.old self.new) }
     {
         let own = subject.own(client);
         for raise in raises {
@@ -249,7 +251,7 @@ impl Keeping {
         syncs: &[SyncPiece],
     ) -> Result<bool, AllocError>
         requires { client < length subject.now.report.clients }
-        ensures { (nodes : ℕ → List Node) (kept : Kept) (colours : List ℕ) → HasReads colours raises.now syncs.now
+        ensures kept { (nodes : ℕ → List Node) (kept : Kept) (colours : List ℕ) → HasReads colours raises.now syncs.now
             → All (λ c. c < subject.now.script.shape.colours) colours
             → IsCounted (replies_to subject.now.report client) kept self.old
             → IfOk result (PassesTo (replies_to subject.now.report client)
@@ -257,6 +259,7 @@ impl Keeping {
             syncs.now)
             (kept_after_read (log_of subject.now.report nodes) (caller_of subject.now.script client) kept stamp raises.now syncs.now)
             self.new) }
+        ensures count { IfOk result (λ b. KeepsCount self.old self.new) }
     {
         if stamp < self.floor() {
             return Ok(false);

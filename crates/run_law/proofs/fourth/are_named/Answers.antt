@@ -1,28 +1,19 @@
-use Rattle.std.proofs.Common.{rules, ◌≡◌, ◌<◌, ◌∷◌, [], ℕ, IfOk, IsTrue, None, length, ◌+◌, ◌-◌, ◌*◌, ◌≤◌, ◌/◌, ◌%◌, Bool, true, false, nat_eq, nat_lt, List, ◌++◌, slice_index_or, slice_set, bit_and, bit_or, Fits, w8, w32, w64, Bor, MutBor}
-use Rattle.log_node.specs.declared.ids.Counts.{Counts as NodeCounts}
-use Rattle.log_node.specs.declared.limits.TheConstants.{MAX_COLOURS}
-use Rattle.col_core.specs.Keeping.{Kept}
-use Rattle.script_text.specs.Fitting.{IsWithin}
-use Rattle.report_text.specs.declared.report.Answer.TheVariants as answers
-use Rattle.lawful_run.specs.Callers.{Caller, caller_of}
-use Rattle.lawful_run.specs.Reads.{kept_after_piece}
-use Rattle.column_track.specs.Tracks.{Tells}
-use Rattle.run_rules.specs.Told.{Untold, is_several, kept_after_append, kept_deciding}
-use Rattle.run_rules.specs.Telling.{account_of, low_told, no_nodes, replies_to}
-use Rattle.run_rules.specs.Naming.{Names, NamesAppend, NamesEnd, NamesRead, NamesSteps, NamesSync}
-use Rattle.run_rules.specs.Rules.{Rule4}
-use Rattle.run_law.specs.Behind.{LeavesOutSteps}
-use Rattle.run_law.specs.Fourth.{AreNamed, ArePointsLow, AreRaisesLow, AreSyncsLow, HasMade, HasMadeIn, IsAsked, IsClientNamed, IsEndLow}
-use Rattle.run_law.specs.Fourth.{NamesAll as AllNamed}
-use Rattle.run_law.specs.Fourth.{Sees}
-use Rattle.run_law.specs.Keepings.{IsCounted}
-use Rattle.run_law.specs.Walking.{log_walked}
+use Rattle.std.proofs.Common.{◌≡◌, inl, inr, subst, arith}
+use Rattle.std.proofs.lemmas.Bool.{cases_lt}
+use Rattle.run_law.specs.Fourth.{IsClientNamed}
+use Rattle.run_law.proofs.Lists.{told_not, told_so}
 use Rattle.run_law.proofs.fourth.are_named.Goals as goal
 
--- src/fourth.rt:381:13
 pub returns-then-not-branch : goal.returns-then-not-branch
-returns-then-not-branch c = ?
+returns-then-not-branch c = λ all.
+    let less = c.loop-client-test.true in
+    let many = c.clients-client-end.ensures in
+    told_not c.in_ok-is_client_named.field-0 c.in_ok-is_client_named.ensures c.if-not-branch.true
+    (all c.loop-client.client (omega (arith, less, many)))
 
--- src/fourth.rt:379:5
 pub loop-client-preserved : goal.loop-client-preserved
-loop-client-preserved c = ?
+loop-client-preserved c = λ n lt. elim (cases_lt n c.loop-client.client) [
+  | inl less ↦ c.loop-client.invariant n less
+  | inr ge ↦ subst (IsClientNamed c.args.subject.now) (let e : c.loop-client.client ≡ n = omega (arith, lt, ge) in e)
+      (told_so c.in_ok-is_client_named.field-0 c.in_ok-is_client_named.ensures c.if-not-branch.false)
+]

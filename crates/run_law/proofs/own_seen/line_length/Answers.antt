@@ -5,14 +5,14 @@ use Rattle.col_core.specs.Computed.{dated}
 use Rattle.col_core.specs.Cuts.{held}
 use Rattle.col_core.specs.History.{line}
 use Rattle.column_track.specs.declared.marks.Mark.{Mark}
-use Rattle.run_law.proofs.FourthLemmas.{column_within, line_held}
+use Rattle.run_law.proofs.FourthLemmas.{cell_within, line_held}
 use Rattle.run_law.proofs.own_seen.line_length.Goals as goal
 
 pub returns : goal.returns
 returns c =
     let t = c.track.result.now in
     let region = c.args.region in
-    let within = column_within c.args.subject.now region c.args.colour c.has_column.result c.has_column.ensures
+    let within = cell_within c.args.subject.now region c.args.colour c.has_column.result c.has_column.ensures
     c.if-not-has_column.false in
     c.of_region.ensures
     ∙ (ap (λ (m : Mark). at m.held region) c.mark.ensures

@@ -1,4 +1,4 @@
-use Rattle.std.proofs.Common.{◌≡◌, ◌∙◌, sym, subst, ap, ℕ, ◌<◌, ◌≤◌, length}
+use Rattle.std.proofs.Common.{◌∙◌, sym, subst, ap, ℕ, ◌<◌, ◌≤◌, length}
 use Rattle.lawful_run.specs.Callers.{caller_of}
 use Rattle.run_rules.specs.Told.{colours_asked}
 use Rattle.run_law.specs.Eleventh.{looks_in}

@@ -1,32 +1,24 @@
-use Rattle.std.proofs.Common.{rules, ◌≡◌, ◌<◌, ◌∷◌, [], ℕ, IfOk, IsTrue, None, length, ◌+◌, ◌-◌, ◌*◌, ◌≤◌, ◌/◌, ◌%◌, Bool, true, false, nat_eq, nat_lt, List, ◌++◌, slice_index_or, slice_set, bit_and, bit_or, Fits, w8, w32, w64, Bor, MutBor}
-use Rattle.log_node.specs.declared.ids.Counts.{Counts as NodeCounts}
-use Rattle.log_node.specs.declared.limits.TheConstants.{MAX_COLOURS}
-use Rattle.col_core.specs.Keeping.{Kept}
-use Rattle.script_text.specs.Fitting.{IsWithin}
-use Rattle.report_text.specs.declared.report.Answer.TheVariants as answers
-use Rattle.lawful_run.specs.Callers.{Caller, caller_of}
-use Rattle.lawful_run.specs.Reads.{kept_after_piece}
-use Rattle.column_track.specs.Tracks.{Tells}
-use Rattle.run_rules.specs.Told.{Untold, is_several, kept_after_append, kept_deciding}
-use Rattle.run_rules.specs.Telling.{account_of, low_told, no_nodes, replies_to}
-use Rattle.run_rules.specs.Naming.{Names, NamesAppend, NamesEnd, NamesRead, NamesSteps, NamesSync}
-use Rattle.run_rules.specs.Rules.{Rule4}
-use Rattle.run_law.specs.Behind.{LeavesOutSteps}
-use Rattle.run_law.specs.Fourth.{AreNamed, ArePointsLow, AreRaisesLow, AreSyncsLow, HasMade, HasMadeIn, IsAsked, IsClientNamed, IsEndLow}
-use Rattle.run_law.specs.Fourth.{NamesAll as AllNamed}
-use Rattle.run_law.specs.Fourth.{Sees}
-use Rattle.run_law.specs.Keepings.{IsCounted}
-use Rattle.run_law.specs.Walking.{log_walked}
+use Rattle.run_law.proofs.FourthLemmas.{command_within, seen_told}
+use Rattle.run_law.proofs.Lists.{told_not, told_so}
 use Rattle.run_law.proofs.fourth.NamesAllCheck.go_on.Goals as goal
 
--- src/fourth.rt:314:13
 pub names-requires-clause-within : goal.names-requires-clause-within
-names-requires-clause-within c = ?
+names-requires-clause-within c =
+    command_within c.args.subject.now c.agrees.ensures.may.0 c.agrees.ensures.may.1 c.args.client c.args.place c.command.result.now
+    c.command.ensures
 
--- src/fourth.rt:315:13
 pub returns-then-not-branch : goal.returns-then-not-branch
-returns-then-not-branch c = ?
+returns-then-not-branch c = λ step seen.
+    told_not c.in_ok-names.field-0
+    (seen_told c.args.subject.now c.agrees.ensures.may.0 c.agrees.ensures.may.1 c.args.client c.args.place c.args.keeping.now step seen
+    c.command.result.now c.command.ensures c.reply.result.now c.reply.ensures c.in_ok-names.field-0 c.in_ok-names.ensures)
+    c.if-not-branch.true
 
--- src/fourth.rt:304:5
 pub returns : goal.returns
-returns c = ?
+returns c = λ step seen. (
+  told_so c.in_ok-names.field-0
+      (seen_told c.args.subject.now c.agrees.ensures.may.0 c.agrees.ensures.may.1 c.args.client c.args.place c.args.keeping.now step
+      seen c.command.result.now c.command.ensures c.reply.result.now c.reply.ensures c.in_ok-names.field-0 c.in_ok-names.ensures)
+      c.if-not-branch.false,
+  c.in_ok-go_on.ensures.kept step seen,
+)

@@ -1,18 +1,11 @@
-use Rattle.std.proofs.Common.{◌≡◌, ◌∙◌, ap, sym, subst, ℕ, List, take, get_or}
-use Rattle.std.specs.List.{All}
+use Rattle.std.proofs.Common.{◌∙◌, sym}
 use Rattle.std.proofs.lemmas.List.Elements.{All-more}
-use Rattle.col_core.specs.Keeping.{Kept}
 use Rattle.report_text.specs.declared.report.RaisePiece.{RaisePiece}
-use Rattle.report_text.specs.declared.report.SyncPiece.{SyncPiece}
 use Rattle.lawful_run.specs.Callers.{caller_of}
-use Rattle.lawful_run.specs.Reads.{ClearSyncs, Raises, kept_after_piece, kept_after_place}
-use Rattle.run_rules.specs.Told.{kept_after_raises, kept_after_syncs}
-use Rattle.run_rules.specs.Telling.{log_of, replies_to}
-use Rattle.run_law.specs.Keepings.{IsCounted}
-use Rattle.run_law.specs.Reading.{IsAboveClock, WasClockOf}
-use Rattle.run_law.proofs.Lists.{all_end, all_next, all_step, all_stop, told_not, told_so}
-use Rattle.run_law.proofs.PastLemmas.{take_all_of}
-use Rattle.run_law.proofs.ReadingLemmas.{clocks_of, raised_behind, raised_more, raises_at, raises_below, raises_more, raises_of, reads_so, stamp_by, stamp_none, synced_more, syncs_at, syncs_below, syncs_more, syncs_of}
+use Rattle.run_rules.specs.Telling.{log_of}
+use Rattle.run_law.specs.Reading.{WasClockOf}
+use Rattle.run_law.proofs.Lists.{all_end, told_not, told_so}
+use Rattle.run_law.proofs.ReadingLemmas.{stamp_by, stamp_none}
 use Rattle.run_law.proofs.keeping.Keeping.is_read_stamp.Goals as goal
 
 pub returns-then-was_clock : goal.returns-then-was_clock

@@ -3,13 +3,10 @@ use Rattle.std.specs.List.{All}
 use Rattle.log_node.specs.declared.node.Node.{Node}
 use Rattle.col_core.specs.Keeping.{Kept}
 use Rattle.report_text.specs.declared.report.RaisePiece.{RaisePiece}
-use Rattle.report_text.specs.declared.report.SyncPiece.{SyncPiece}
 use Rattle.lawful_run.specs.Callers.{caller_of}
-use Rattle.lawful_run.specs.Reads.{ClearSyncs, Raises}
-use Rattle.run_rules.specs.Told.{kept_after_raises, kept_after_syncs}
 use Rattle.run_rules.specs.Telling.{log_of, replies_to}
 use Rattle.run_law.specs.Keepings.{IsCounted}
-use Rattle.run_law.specs.Reading.{AreBelow, IsAboveClock, WasClockOf}
+use Rattle.run_law.specs.Reading.{AreBelow, WasClockOf}
 use Rattle.run_law.proofs.keeping.Keeping.is_read_stamp.Given as goal
 
 -- none so far

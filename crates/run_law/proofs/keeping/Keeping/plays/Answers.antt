@@ -1,13 +1,6 @@
-use Rattle.std.proofs.Common.{◌≡◌, ◌∙◌, ap, sym, subst, ℕ, List, take, rules}
+use Rattle.std.proofs.Common.{sym, subst, rules}
 use Rattle.log_node.specs.declared.ids.Counts.{Counts}
-use Rattle.log_node.specs.Vectors.{IsWithin, least}
-use Rattle.col_core.specs.Computed.{dated}
-use Rattle.col_core.specs.Cuts.{chain}
-use Rattle.col_core.proofs.CallerLemmas.{within}
-use Rattle.lawful_run.specs.Callers.{caller_of}
-use Rattle.run_rules.specs.Telling.{replies_to}
-use Rattle.run_law.specs.Playing.{lines_of}
-use Rattle.run_law.specs.Walking.{journal_walked}
+use Rattle.log_node.specs.Vectors.{IsWithin}
 use Rattle.run_law.proofs.PlayOrders.{least_short}
 use Rattle.run_law.proofs.PlayedShown.{played_told}
 use Rattle.run_law.proofs.keeping.Keeping.plays.Goals as goal

@@ -1,7 +1,6 @@
 use Rattle.std.proofs.Common.{◌∙◌, subst, sym}
 use Rattle.lawful_run.specs.Appends.{kept_after_points}
 use Rattle.lawful_run.specs.Callers.{caller_of}
-use Rattle.run_law.specs.Fourth.{Sees, Sighted}
 use Rattle.run_law.specs.Walking.{log_walked}
 use Rattle.run_law.proofs.FourthLemmas.{StepsTold, append_points, append_several, append_single}
 use Rattle.run_law.proofs.Lists.{told_not, told_so}

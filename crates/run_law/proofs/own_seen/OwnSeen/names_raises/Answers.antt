@@ -1,4 +1,4 @@
-use Rattle.std.proofs.Common.{subst, sym, List, take, get_or}
+use Rattle.std.proofs.Common.{subst, sym, List, take}
 use Rattle.std.proofs.lemmas.List.Sums.{fold_more}
 use Rattle.col_core.specs.Keeping.{Kept}
 use Rattle.report_text.specs.declared.report.RaisePiece.{RaisePiece}

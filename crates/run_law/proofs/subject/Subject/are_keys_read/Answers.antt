@@ -1,4 +1,4 @@
-use Rattle.std.proofs.Common.{◌≡◌, ◌∙◌, ap, sym, subst, rules}
+use Rattle.std.proofs.Common.{◌∙◌}
 use Rattle.lawful_run.specs.Callers.{caller_of}
 use Rattle.run_rules.specs.Telling.{log_of}
 use Rattle.run_law.proofs.ScanLemmas.{lines_rise, scan_told}

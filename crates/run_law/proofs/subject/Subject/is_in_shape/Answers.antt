@@ -1,4 +1,4 @@
-use Rattle.std.proofs.Common.{◌<◌, ◌≤◌, arith, rules}
+use Rattle.std.proofs.Common.{rules}
 use Rattle.run_law.proofs.ReadingLemmas.{in_shape}
 use Rattle.run_law.proofs.subject.Subject.is_in_shape.Goals as goal
 

@@ -1,11 +1,4 @@
-use Rattle.std.proofs.Common.{◌≡◌, ◌∙◌, ap, sym, subst, ℕ, ◌<◌, ◌≤◌, List, length, take, min, arith, rules}
-use Rattle.std.proofs.lemmas.List.{length-take-le}
-use Rattle.log_node.specs.declared.ids.Key.{Key}
-use Rattle.col_core.specs.declared.Entry.{Entry}
-use Rattle.col_core.specs.Computed.{dated}
-use Rattle.col_core.specs.History.{line}
-use Rattle.col_core.specs.Legal.{IsColumnHistory}
-use Rattle.playback.specs.Merging.{AreRising}
+use Rattle.std.proofs.Common.{rules}
 use Rattle.run_law.specs.Walking.{journal_walked}
 use Rattle.run_law.proofs.ScanLemmas.{line_cut, line_cut_short, line_cut_rises}
 use Rattle.run_law.proofs.subject.Subject.line_until.Goals as goal

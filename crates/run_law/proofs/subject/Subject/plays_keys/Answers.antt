@@ -1,4 +1,4 @@
-use Rattle.std.proofs.Common.{◌≡◌, ◌∙◌, ap, sym, subst, ◌+◌, length, refl}
+use Rattle.std.proofs.Common.{◌∙◌, ap, sym, subst, ◌+◌, length, refl}
 use Rattle.std.proofs.lemmas.Option.{slice_get_read}
 use Rattle.log_node.specs.Order.{same_key}
 use Rattle.log_node.specs.Seen.{PlacedNode}
