@@ -1,4 +1,5 @@
 mod AllReplies
+mod AmongLemmas
 mod AnswerLemmas
 mod AskedIs
 mod AskedNodes

@@ -1,3 +1,4 @@
+pub mod AmongMaps
 pub mod Answered
 pub mod Asking
 pub mod Bases

@@ -10,7 +10,9 @@ use Rattle.script_text.specs.declared.script.Script.{Script}
 use Rattle.lawful_run.specs.Asks.{object_colours}
 use Rattle.run_law.specs.declared.key_order.KeyOrder.{KeyOrder}
 use Rattle.run_law.specs.declared.queue_plays.QueuePlay.{QueuePlay}
+use Rattle.run_law.specs.declared.several_plays.SeveralPlay.{SeveralPlay}
 use Rattle.run_law.specs.declared.shard_plays.ShardPlay.{ShardPlay}
+use Rattle.run_law.specs.AmongMaps.{IsAmongMap}
 use Rattle.run_law.specs.KeysRead.{whole_order}
 use Rattle.run_law.specs.declared.tx_plays.TxPlay.{TxPlay}
 use Rattle.run_law.specs.ObjectPlays.{HoldsKeys, HoldsLine}
@@ -40,3 +42,9 @@ pub record IsKeyOrder (walked : Walked) (o : KeyOrder) : Type 0 where
 pub record IsTxPlay (walked : Walked) (table : List (List Node)) (p : TxPlay) : Type 0 where
   pub order : IsKeyOrder walked p.order
   pub holds : HoldsKeys IsTxState table p.order.keys.items p.play
+
+-- and so is a map of several keys at once
+pub record IsSeveralPlay (walked : Walked) (table : List (List Node)) (p : SeveralPlay) : Type 0 where
+  pub order : IsKeyOrder walked p.order
+  pub colours : p.play.fold.colours ≡ p.own
+  pub holds : HoldsLine IsAmongMap table p.order.keys.items p.play

@@ -1,6 +1,7 @@
 //! Which rule of a lawful run a report is the first to break.
 #![tactic(auto)]
 
+mod among_map;
 mod appended;
 mod asked;
 mod bases;
@@ -50,6 +51,7 @@ mod row_table;
 mod rows;
 mod scanning;
 mod seventh;
+mod several_plays;
 mod shard_plays;
 mod showing;
 mod shown_parts;

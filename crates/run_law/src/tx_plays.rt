@@ -28,8 +28,8 @@ pub(crate) struct TxPlay {
     play: RegionPlay<TxState>,
 }
 
-// Whether an answer is this key with the value that is found.
-fn is_answer(answer: &KeyAnswer, key: &Text, found: Option<&Text>) -> bool
+/// Whether an answer is this key with the value that is found.
+pub(crate) fn is_answer(answer: &KeyAnswer, key: &Text, found: Option<&Text>) -> bool
     ensures { Tells result ((answer.now.key ≡ key.now) × (answer.now.value ≡ option_copied found.entry)) }
 {
     same_text(&answer.key, key) && is_found(&answer.value, found)
