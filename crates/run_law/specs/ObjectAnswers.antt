@@ -1,5 +1,5 @@
 -- What objects answer that are played from answer to answer.
-use Rattle.std.specs.Prelude.{◌≡◌, ℕ, ◌<◌, List, slice_get}
+use Rattle.std.specs.Prelude.{◌≡◌, ℕ, ◌<◌, List, Some, slice_get}
 use Rattle.std.specs.List.{All}
 use Rattle.std.specs.Option.{option_map}
 use Rattle.log_node.specs.declared.node.Node.{Node}
@@ -11,7 +11,9 @@ use Rattle.lawful_run.specs.Asks.{object_colours}
 use Rattle.run_law.specs.declared.key_order.KeyOrder.{KeyOrder}
 use Rattle.run_law.specs.declared.queue_plays.QueuePlay.{QueuePlay}
 use Rattle.run_law.specs.declared.several_plays.SeveralPlay.{SeveralPlay}
+use Rattle.run_law.specs.declared.shard_plays.ShardId.{ShardId}
 use Rattle.run_law.specs.declared.shard_plays.ShardPlay.{ShardPlay}
+use Rattle.run_law.specs.declared.shard_plays.ShardPlays.{ShardPlays}
 use Rattle.run_law.specs.AmongMaps.{IsAmongMap}
 use Rattle.run_law.specs.KeysRead.{whole_order}
 use Rattle.run_law.specs.declared.tx_plays.TxPlay.{TxPlay}
@@ -28,7 +30,19 @@ pub record IsShardPlay (walked : Walked) (table : List (List Node)) (p : ShardPl
   pub colours : p.play.fold.colours ≡ colours_used walked.script p.object
   pub shard : p.play.fold.shard ≡ p.colour
 
--- and a queue over that of its colour
+-- so are all of these
+abbrev pub AreShardPlays : Walked → List (List Node) → ShardPlays → Type 0
+AreShardPlays walked table all = All (IsShardPlay walked table) all.plays.items
+
+-- the map of this shard stands at the place
+pub record IsShardAt (all : ShardPlays) (id : ShardId) (place : ℕ) : Type 0 where
+  pub play : ShardPlay
+  pub there : slice_get all.plays.items place ≡ Some play
+  pub object : play.object ≡ id.object
+  pub region : play.region ≡ id.region
+  pub colour : play.colour ≡ id.colour
+
+-- and a queue is played over the own line of its colour
 abbrev pub IsQueuePlay : Walked → List (List Node) → QueuePlay → Type 0
 IsQueuePlay walked table p = HoldsLine IsValueQueue table (line (journal_walked walked p.region p.colour)) p.play
 

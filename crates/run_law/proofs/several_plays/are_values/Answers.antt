@@ -18,9 +18,12 @@ returns-then-not-is_answer c = λ nodes is are.
     let key = at_place c.args.asked.now c.loop-at.at c.index-asked-at.result less c.index-asked-at.is in
     let there = at_place c.args.shown.now c.loop-at.at c.index-shown-at.result (omega (arith, same, less)) c.index-shown-at.is in
     let one = answers_at value c.args.asked.now c.args.shown.now are c.loop-at.at c.index-asked-at.result c.index-shown-at.result
-        key there in
-    c.if-not-is_answer.ensures (one.0, one.1
-        ∙ sym (c.get.ensures nodes is (shard_low own c.as_bytes.result.now c.requires) ∙ ap value c.as_bytes.ensures))
+    key there in
+    c.if-not-is_answer.ensures (
+      one.0,
+      one.1
+          ∙ sym (c.get.ensures nodes is (shard_low own c.as_bytes.result.now c.requires) ∙ ap value c.as_bytes.ensures),
+    )
 
 pub loop-at-preserved : goal.loop-at-preserved
 loop-at-preserved c = λ nodes is.
