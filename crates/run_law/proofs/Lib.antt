@@ -1,4 +1,6 @@
 mod AllReplies
+mod AmongLemmas
+mod AnswerLemmas
 mod AskedIs
 mod AppendedNodes
 mod AskedNodes
@@ -41,6 +43,7 @@ mod NextRows
 mod NinthLaws
 mod NodeRows
 mod NumeralLemmas
+mod ObjectOrders
 mod Once
 mod OpenLemmas
 mod OrderLemmas
@@ -71,12 +74,14 @@ mod Shards
 mod ShowingLaws
 mod ShowingLemmas
 mod ShownAnswers
+mod ShownFinds
 mod ShownSteps
 mod ShownTextLemmas
 mod SixthLaws
 mod SixthLemmas
 mod SubjectLemmas
 mod TableLemmas
+mod TenthLaws
 mod ThirdLemmas
 mod ToldLemmas
 mod TwelfthLaws

@@ -1,3 +1,4 @@
+pub mod AmongMaps
 pub mod Answered
 pub mod Asking
 pub mod Bases
@@ -20,6 +21,7 @@ pub mod Looks
 pub mod Moving
 pub mod Ninth
 pub mod NodeTables
+pub mod ObjectAnswers
 pub mod ObjectPlays
 pub mod PlaceTables
 pub mod Playing
@@ -35,6 +37,7 @@ pub mod ShownTexts
 pub mod Sixth
 pub mod Subjects
 pub mod Tables
+pub mod Tenth
 pub mod TextsSaid
 pub mod Third
 pub mod Twelfth

@@ -1,6 +1,7 @@
 //! Which rule of a lawful run a report is the first to break.
 #![tactic(auto)]
 
+mod among_map;
 mod appended;
 mod asked;
 mod bases;
@@ -9,8 +10,8 @@ mod can_have;
 mod column_places;
 mod copies;
 mod could_say;
-mod eleventh;
 mod drafts;
+mod eleventh;
 mod entering;
 mod fifth;
 mod finals;
@@ -24,6 +25,7 @@ mod journals;
 mod judged;
 mod judging;
 mod keeping;
+mod key_order;
 mod keys_read;
 mod laws;
 mod left_open;
@@ -46,6 +48,7 @@ mod played;
 mod playing;
 mod points;
 mod printed;
+mod queue_plays;
 mod read_places;
 mod reading;
 mod region_play;
@@ -55,6 +58,8 @@ mod row_table;
 mod rows;
 mod scanning;
 mod seventh;
+mod several_plays;
+mod shard_plays;
 mod showing;
 mod shown_parts;
 mod shown_texts;
@@ -67,6 +72,7 @@ mod texts_written;
 mod third;
 mod turn;
 mod twelfth;
+mod tx_plays;
 mod walking;
 mod writers;
 
