@@ -1,5 +1,5 @@
 -- The beginning of the order of some colours of a region up to a stamp.
-use Rattle.std.proofs.Common.{◌≡◌, sym, subst, ℕ, ◌-◌, ◌^◌, ◌<◌, List, take, arith}
+use Rattle.std.proofs.Common.{◌≡◌, subst, ℕ, ◌-◌, ◌^◌, ◌<◌, List, take, arith}
 use Rattle.std.specs.List.{All, Contains}
 use Rattle.std.proofs.lemmas.List.Elements.{All-contains}
 use Rattle.log_node.specs.declared.ids.Key.{Key}

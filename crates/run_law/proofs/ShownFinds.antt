@@ -31,7 +31,7 @@ use Rattle.col_core.specs.Keeping.{Kept, nothing_kept}
 use Rattle.run_rules.specs.Answering.{CanHave}
 use Rattle.run_rules.specs.Computing.{account_finding, any_decisions, finds_of}
 use Rattle.run_rules.specs.Deciding.{account_showing}
-use Rattle.run_rules.specs.Finding.{HasItsFinds, IsFound}
+use Rattle.run_rules.specs.Finding.{IsFound}
 use Rattle.run_rules.specs.Keeping.{Keeps, RulesTo}
 use Rattle.run_rules.specs.Laws.{ComputedAccountAgrees, ComputedFindsAreRight, FindsTell}
 use Rattle.run_rules.specs.Rules.{IsReplyTo, Rule1}

@@ -1,6 +1,6 @@
 -- The tenth rule, at the account with what reads found and node lines show, is what is looked at of each step.
 use mathlib.Core.Path.{fun_ext}
-use Rattle.std.proofs.Common.{◌≡◌, ◌⊎◌, ◌∙◌, refl, ap, sym, subst, ℕ, ◌<◌, List, [], ◌∷◌, length, map, Option, Some, None, inl, inr, arith}
+use Rattle.std.proofs.Common.{◌≡◌, ◌∙◌, refl, ap, sym, subst, ℕ, ◌<◌, List, [], ◌∷◌, length, Option, Some, None, inl, inr, arith}
 use Rattle.std.specs.Prelude.{◌↔◌, slice_get}
 use Rattle.std.specs.List.{All, find}
 use Rattle.std.proofs.lemmas.List.{length-map}
@@ -22,7 +22,7 @@ use Rattle.col_core.specs.Keeping.{Kept, with_read}
 use Rattle.col_core.specs.Laws.{RegionOrderIsUnique}
 use Rattle.col_core.specs.Log.{Log}
 use Rattle.col_core.specs.Rows.{BegunRow}
-use Rattle.col_core.proofs.CallerLemmas.{In, all_in, contains_in, in_contains, in_map-back}
+use Rattle.col_core.proofs.CallerLemmas.{In, all_in, contains_in}
 use Rattle.playback.specs.Laws.{RegionOrderIsLawful}
 use Rattle.script_text.specs.Commands.{use_of}
 use Rattle.script_text.specs.Fitting.{IsFitting, IsWithin}
@@ -32,7 +32,6 @@ use Rattle.script_text.specs.declared.script.Command.{Command}
 use Rattle.script_text.specs.declared.script.Kind.{Kind}
 use Rattle.script_text.specs.declared.script.Kind.TheVariants as kinds
 use Rattle.script_text.specs.declared.script.Script.{Script}
-use Rattle.script_text.specs.declared.uses.Use.TheVariants.{OfObject}
 use Rattle.report_text.specs.declared.report.Answer.{Answer}
 use Rattle.report_text.specs.declared.report.Answer.TheVariants as answers
 use Rattle.report_text.specs.declared.report.ClientReport.{ClientReport}
@@ -42,14 +41,14 @@ use Rattle.report_text.specs.declared.report.RaisePiece.{RaisePiece}
 use Rattle.report_text.specs.declared.report.ReplyLine.{ReplyLine}
 use Rattle.report_text.specs.declared.report.Report.{Report}
 use Rattle.report_text.specs.declared.report.SyncPiece.{SyncPiece}
-use Rattle.lawful_run.specs.Asks.{kind_asked, kind_of_object, kind_used}
+use Rattle.lawful_run.specs.Asks.{kind_asked, kind_used}
 use Rattle.lawful_run.specs.Callers.{Caller, caller_of}
 use Rattle.lawful_run.specs.Deeds.{AsksForKey, Deed, colours_synced}
 use Rattle.lawful_run.specs.Explains.{AnswersKeys, ShowsVerdict}
 use Rattle.lawful_run.specs.Laws.{ReadItemsLast}
-use Rattle.lawful_run.specs.Objects.{AreObjectNodes, GetsValues, TakesFront}
-use Rattle.lawful_run.specs.Parts.{AnswersGet, AsksOf, HasValue, OfNodesPlayed}
-use Rattle.lawful_run.specs.Reads.{AreKeysRead, ReadsAt, Syncs}
+use Rattle.lawful_run.specs.Objects.{GetsValues, TakesFront}
+use Rattle.lawful_run.specs.Parts.{AnswersGet, HasValue}
+use Rattle.lawful_run.specs.Reads.{ReadsAt, Syncs}
 use Rattle.lawful_run.specs.Refusals.{kept_before}
 use Rattle.run_rules.specs.Agreeing.{AreStepsAlike}
 use Rattle.run_rules.specs.Answering.{CanGet, CanHave}
@@ -58,14 +57,14 @@ use Rattle.run_rules.specs.Finding.{HasItsFinds, IsFound}
 use Rattle.run_rules.specs.Keeping.{RulesTo}
 use Rattle.run_rules.specs.Laws.{ComputedAccountAgrees, FindsTell}
 use Rattle.run_rules.specs.Rules.{IsReplyTo, Rule1}
-use Rattle.run_rules.specs.Shown.{AnswersRight, GetsRight, OfMap, OfNodesRead, Rule10, Rule9, Shows, own_key}
+use Rattle.run_rules.specs.Shown.{AnswersRight, GetsRight, OfMap, OfNodesRead, Rule9, Shows, own_key}
 use Rattle.run_rules.specs.Telling.{IsWellFormed, account_of, log_of, no_nodes}
-use Rattle.run_rules.specs.Told.{Account, IsTold, Step, Untold, colours_asked, kept_after_read, kept_at, last_of, stamp_told, with_found}
+use Rattle.run_rules.specs.Told.{Account, Step, Untold, colours_asked, kept_after_read, kept_at, last_of, stamp_told, with_found}
 use Rattle.run_rules.proofs.CallerLemmas.{rule1, rule9, stamp_one}
 use Rattle.run_law.specs.NodeTables.{AreNodes, nodes_at}
-use Rattle.run_law.specs.ReadNodes.{AreNodesPlayed, AreNodesRead, HasTable, TakingDecides}
+use Rattle.run_law.specs.ReadNodes.{AreNodesPlayed, AreNodesRead, HasTable}
 use Rattle.run_law.specs.Tenth.{AnswersSo, AreValuesAsked, IsMapValue, IsRightAnswer, OfKeyAsked, ShownFindsAreRight, TenthIsRight, line_nodes, stamped_nodes}
-use Rattle.run_law.specs.Walking.{Walked, log_walked}
+use Rattle.run_law.specs.Walking.{Walked}
 use Rattle.run_law.proofs.ReadDecides.{playing_decides, stamped, taking_decides}
 use Rattle.run_law.proofs.SameKeeping.{before_same}
 use Rattle.run_law.proofs.ShapeColours.{appended_within, synced_within}

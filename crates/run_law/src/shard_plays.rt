@@ -108,7 +108,8 @@ struct ShardId {
     colour: u8,
 }
 
-/// The maps of all shards that gets asked for so far.
+/// The maps of all shards that gets asked for so far. The table says at which place each stands; what stands there says itself what
+/// it is of.
 #[derive(Drop)]
 pub(crate) struct ShardPlays {
     plays: Vec<ShardPlay>,

@@ -1,7 +1,5 @@
-use Rattle.std.proofs.Common.{◌∙◌, ◌<◌, ap, sym, subst, arith, ℕ, List}
-use Rattle.log_node.specs.declared.limits.TheConstants.{MAX_COLOURS}
+use Rattle.std.proofs.Common.{◌∙◌, ap, sym, arith}
 use Rattle.object_fold.specs.Maps.{value_among}
-use Rattle.object_fold.specs.Nodes.{shard_of}
 use Rattle.run_law.proofs.AnswerLemmas.{answer_more, answer_none, answers_all, answers_at, at_place}
 use Rattle.run_law.proofs.Shards.{shard_low}
 use Rattle.run_law.proofs.several_plays.are_values.Goals as goal

@@ -1,5 +1,4 @@
 use Rattle.std.proofs.Common.{◌≡◌, ◌++◌, ◌∷◌, [], ℕ, List, ◌∙◌, ap}
-use Rattle.object_form.specs.Readings.{form_of}
 use Rattle.object_fold.specs.Nodes.{keyed_node}
 use Rattle.object_fold.specs.Tables.{value_at}
 use Rattle.run_law.specs.AmongMaps.{IsAmongMap, counted_with}
