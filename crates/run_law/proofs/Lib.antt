@@ -68,6 +68,7 @@ mod SixthLaws
 mod SixthLemmas
 mod SubjectLemmas
 mod TableLemmas
+mod TenthLaws
 mod ThirdLemmas
 mod ToldLemmas
 mod TwelfthLaws

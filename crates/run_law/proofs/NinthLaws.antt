@@ -119,9 +119,13 @@ module _ (script : Script) (report : Report) (untold : Untold) (caller : Caller)
   looks among (answers.Synced sync plays) x = (
     x.0,
     x.1,
-    (x.2.order, x.2.played, zip_mapped (ShowsNode log caller sync.colour sync.events)
-        (ShowsPlace (chain caller.own (first log caller.own sync.colour sync.events))) x.2.order nodes
-        (λ place item i j r. (r.head, r.stands, r.key)) x.2.lines),
+    (
+      x.2.order,
+      x.2.played,
+      zip_mapped (ShowsNode log caller sync.colour sync.events)
+          (ShowsPlace (chain caller.own (first log caller.own sync.colour sync.events))) x.2.order nodes
+          (λ place item i j r. (r.head, r.stands, r.key)) x.2.lines,
+    ),
     all_in (IsTextFirst report) nodes (λ item i.
         let z = zip_before (ShowsNode log caller sync.colour sync.events) x.2.order nodes x.2.lines item i in
         shows_first script report item (among item i) z.2.head.key.id (ap (λ (k : Key). k.id) (sym z.2.key)) z.2.text),

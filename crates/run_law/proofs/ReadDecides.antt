@@ -17,9 +17,10 @@ use Rattle.col_core.specs.Keeping.{Kept}
 use Rattle.col_core.specs.Laws.{RegionOrderIsUnique}
 use Rattle.col_core.specs.Legal.{IsColumnHistory}
 use Rattle.col_core.specs.Log.{Log}
+use Rattle.col_core.specs.RegionOrder.{IsRegionOrder}
 use Rattle.col_core.proofs.CallerLemmas.{In, contains_in, in_contains, in_map, in_take}
 use Rattle.playback.specs.Laws.{RegionOrderIsLawful}
-use Rattle.playback.specs.Merging.{AreRising, up_to}
+use Rattle.playback.specs.Merging.{AreRising, region_order, up_to}
 use Rattle.script_text.specs.declared.script.Script.{Script}
 use Rattle.script_text.proofs.CallerLemmas.{regions_few}
 use Rattle.report_text.specs.declared.report.PointPiece.{PointPiece}
@@ -38,7 +39,7 @@ use Rattle.run_law.specs.KeysRead.{whole_lines, whole_order}
 use Rattle.run_law.specs.NodeTables.{node_in, nodes_at, nodes_under}
 use Rattle.run_law.specs.ReadNodes.{AreNodesPlayed, AreNodesRead, HasTable, PlayingDecides, ReadingDecides, TakingDecides, first_nodes, ordered_nodes}
 use Rattle.run_law.proofs.LineOrder.{line_rising}
-use Rattle.run_law.proofs.ReadsWhole.{played_begin, reads_begin}
+use Rattle.run_law.proofs.ReadsWhole.{keys_ordered, played_begin, reads_begin}
 
 -- THE NODES OF KEYS
 
@@ -53,7 +54,7 @@ same_nodes log (k ∷ ks) (x ∷ xs) [] a b = absurd b
 same_nodes log (k ∷ ks) (x ∷ xs) (y ∷ ys) a b =
     let n : a.0.appended ≡ b.0.appended = let p = a.0.there in let q = b.0.there in cc (p, q) in
     let e : x ≡ y = node_is (a.0.key_is ∙ sym b.0.key_is) (a.0.colours ∙ (ap (λ (m : Node). m.colours) n ∙ sym b.0.colours))
-        (a.0.text ∙ (ap (λ (m : Node). m.text) n ∙ sym b.0.text)) in
+    (a.0.text ∙ (ap (λ (m : Node). m.text) n ∙ sym b.0.text)) in
     ap (λ (z : ObjectNode). z ∷ xs) e ∙ ap (λ (zs : List ObjectNode). y ∷ zs) (same_nodes log ks xs ys a.1 b.1) where
       node_is : x.key ≡ y.key → x.colours ≡ y.colours → x.text ≡ y.text → x ≡ y
       node_is k c t i = record { key = k i; colours = c i; text = t i }
@@ -97,8 +98,8 @@ module _ (script : Script) (report : Report) (a : Account) (table : List (List N
       let r = has.rules in
       let h = a.log.histories region colour in
       let above = key_above script report a has.fitting has.told (rule1 r.0.0.0.0.0.0.0.0.1) (rule2 r.0.0.0.0.0.0.0.1)
-          (rule3 r.0.0.0.0.0.0.1) (rule4 r.0.0.0.0.0.1) (rule5 r.0.0.0.0.1) (moves_named script report a (rule9 r.1)) region colour c key
-          (length h) (subst (λ (es : List Entry). In key (line es)) (sym (take_all (length h) h (omega arith))) i) in
+      (rule3 r.0.0.0.0.0.0.1) (rule4 r.0.0.0.0.0.1) (rule5 r.0.0.0.0.1) (moves_named script report a (rule9 r.1)) region colour c key
+      (length h) (subst (λ (es : List Entry). In key (line es)) (sym (take_all (length h) h (omega arith))) i) in
       (above.node, above.there, above.its_id)
 
   home : (client : ℕ) → client < length script.shape.homes → (caller_of script client).own < script.shape.regions
@@ -120,19 +121,49 @@ module _ (script : Script) (report : Report) (a : Account) (table : List (List N
       rising : (l : List Key) → Contains (whole_lines a.log region colours) l → AreRising l
       rising l c =
           let m = in_map (λ colour. line (a.log.histories region colour)) colours l
-              (in_contains (whole_lines a.log region colours) l c) in
+          (in_contains (whole_lines a.log region colours) l c) in
           subst AreRising m.2 (line_rising region script.shape.regions (a.log.histories region m.0) (lawful region m.0 (low, below m.0 m.1)))
 
-      -- the first in the order have their nodes
+      -- the keys in their order up to a stamp have their nodes
+      order_stands : (stamp : ℕ) (keys : List Key) → IsRegionOrder (whole_lines a.log region colours) stamp keys
+          → (k : Key) → In k keys → IsThere a.log k
+      order_stands stamp keys o k i =
+          let of = o.no_other k (contains_in keys k i) in
+          let m = in_map (λ c. line (a.log.histories region c)) colours of.1 (in_contains (whole_lines a.log region colours) of.1 of.2) in
+          stands region m.0 (low, below m.0 m.1) k (subst (λ (ks : List Key). In k ks) (sym m.2) (in_contains of.1 k of.3))
+
+      -- the first in the order have theirs
       ordered_stand : (count : ℕ)
           → AreObjectNodes a.log (take count (whole_order a.log region colours)) (ordered_nodes a table region colours count)
       ordered_stand count =
           nodes_there a.log table has.nodes (take count (whole_order a.log region colours))
-          (λ k i.
-          let o = ordered (2 ^ 64 - 1) (whole_lines a.log region colours) rising in
-          let of = o.no_other k (contains_in (whole_order a.log region colours) k (in_take count (whole_order a.log region colours) k i)) in
-          let m = in_map (λ c. line (a.log.histories region c)) colours of.1 (in_contains (whole_lines a.log region colours) of.1 of.2) in
-          stands region m.0 (low, below m.0 m.1) k (subst (λ (ks : List Key). In k ks) (sym m.2) (in_contains of.1 k of.3)))
+          (λ k i. order_stands (2 ^ 64 - 1) (whole_order a.log region colours)
+          (ordered (2 ^ 64 - 1) (whole_lines a.log region colours) rising) k (in_take count (whole_order a.log region colours) k i))
+
+    -- the nodes of a stamped read are those of the whole lines up to its stamp
+    pub stamped : (client : ℕ) → client < length script.shape.homes
+        → (kept : Kept) (colours : List ℕ) (stamp : ℕ) (raises : List RaisePiece) (syncs : List SyncPiece) (after : Kept)
+        → All (λ colour. colour < script.shape.colours) colours
+        → ReadsAt a.log (caller_of script client) kept colours stamp raises syncs after
+        → AreNodesRead a.log (caller_of script client) stamp syncs
+        (nodes_under table (region_order stamp (whole_lines a.log (caller_of script client).own colours)))
+    stamped client is kept colours stamp raises syncs after within reads =
+        let caller = caller_of script client in
+        let low = home client is in
+        let keys = region_order stamp (whole_lines a.log caller.own colours) in
+        let order = ordered stamp (whole_lines a.log caller.own colours) (rising caller.own low colours within) in
+        let are = keys_ordered a.log caller stamp ordered last colours
+        (λ colour i. lawful caller.own colour (low, below caller.own low colours within colour i)) kept raises syncs after keys
+        reads order in
+        let nodes = nodes_there a.log table has.nodes keys (order_stands caller.own low colours within stamp keys order) in record {
+          keys = keys;
+          are_keys = are;
+          are_nodes = nodes;
+          only = λ ks others k o.
+              let one = unique (lines_read a.log caller syncs) stamp ks keys k are in
+              same_nodes a.log keys others (nodes_under table keys)
+              (subst (λ (l : List Key). AreObjectNodes a.log l others) one o) nodes;
+        }
 
     reading : (client : ℕ) → client < length script.shape.homes
         → (kept : Kept) (colours : List ℕ) (stamp : ℕ) (raises : List RaisePiece) (syncs : List SyncPiece) (after : Kept) (count : ℕ)
@@ -146,8 +177,8 @@ module _ (script : Script) (report : Report) (a : Account) (table : List (List N
         let low = home client is in
         let order = whole_order a.log caller.own colours in
         let keys = reads_begin ordered last a.log caller kept colours stamp raises syncs after count
-            (λ colour c. lawful caller.own colour (low, below caller.own low colours within colour (in_contains colours colour c)))
-            small reads same in
+        (λ colour c. lawful caller.own colour (low, below caller.own low colours within colour (in_contains colours colour c)))
+        small reads same in
         let nodes = ordered_stand caller.own low colours within count in record {
           keys = take count order;
           are_keys = keys;
@@ -170,7 +201,7 @@ module _ (script : Script) (report : Report) (a : Account) (table : List (List N
       let count = at sync.counts caller.own in
       let begin = played_begin a.log caller kept sync (omega (arith, low, few)) (lawful caller.own sync.colour (low, small)) syncs in
       let nodes = subst (λ (ks : List Key). AreObjectNodes a.log ks (first_nodes a table caller.own sync.colour count)) begin.0
-          (first_stand caller.own sync.colour count (low, small)) in record {
+      (first_stand caller.own sync.colour count (low, small)) in record {
         are_nodes = nodes;
         only = λ others o. same_nodes a.log (own_played a.log caller sync) others (first_nodes a table caller.own sync.colour count) o nodes;
       }

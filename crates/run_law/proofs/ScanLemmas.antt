@@ -138,10 +138,10 @@ module _ (walked : Walked) (tracks : List Tracked) (may : MayWalk walked.script 
   lines_rise events = elim (cases_lt region walked.script.shape.regions) [
     | inr ge ↦ none (inl ge)
     | inl lt ↦ elim (cases_lt colour walked.script.shape.colours) [
-        | inr ge ↦ none (inr ge)
-        | inl low ↦ line_rising region walked.script.shape.regions (take events (journal_walked walked region colour))
-            (beginning_legal region walked.script.shape.regions (journal_walked walked region colour) events (journal_legal lt low))
-      ]
+      | inr ge ↦ none (inr ge)
+      | inl low ↦ line_rising region walked.script.shape.regions (take events (journal_walked walked region colour))
+          (beginning_legal region walked.script.shape.regions (journal_walked walked region colour) events (journal_legal lt low))
+    ]
   ] where
     none : (walked.script.shape.regions ≤ region) ⊎ (walked.script.shape.colours ≤ colour)
         → AreRising (line (take events (journal_walked walked region colour)))

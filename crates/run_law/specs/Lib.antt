@@ -16,6 +16,7 @@ pub mod Looks
 pub mod Moving
 pub mod Ninth
 pub mod NodeTables
+pub mod ObjectAnswers
 pub mod ObjectPlays
 pub mod PlaceTables
 pub mod Playing
@@ -31,6 +32,7 @@ pub mod ShownTexts
 pub mod Sixth
 pub mod Subjects
 pub mod Tables
+pub mod Tenth
 pub mod TextsSaid
 pub mod Third
 pub mod Twelfth

@@ -6,9 +6,9 @@ ghost use Rattle.run_law.specs.ReadNodes.{PlayingDecides, ReadingDecides, Taking
 ghost use Rattle.run_law.specs.Walking.{log_walked};
 
 use crate::subject::Subject;
-use log_node::Key;
 use col_core::region_order_is_unique;
 use lawful_run::read_items_last;
+use log_node::Key;
 use playback::{region_order_is_lawful, with_line};
 use std::alloc::{AllocError, Global};
 

@@ -103,14 +103,7 @@ impl Subject<'_> {
     }
 
     // Whether a column's clock was the stamp after some number of events, from one to another.
-    pub(crate) fn had_clock(
-        &self,
-        region: u8,
-        colour: u8,
-        from: u128,
-        to: u64,
-        stamp: u64,
-    ) -> bool
+    pub(crate) fn had_clock(&self, region: u8, colour: u8, from: u128, to: u64, stamp: u64) -> bool
         requires { IsOfShape self.now region colour }
         ensures { Tells result (HadClock (journal_walked self.now region colour) from to stamp) }
     {

@@ -36,9 +36,13 @@ fn carries_many(event: Option<&Event>, region: u8, many: u64) -> bool
     ensures { Tells result (CarriesMany region many (option_copied event.entry)) }
 {
     match event {
-        Some(Event::Carry {
-            region: of, heads, ..
-        }) => *of == region && heads.len() as u64 == many,
+        Some(
+            Event::Carry {
+                region: of,
+                heads,
+                ..
+            },
+        ) => *of == region && heads.len() as u64 == many,
         _ => false,
     }
 }
@@ -263,13 +267,18 @@ impl Keeping {
         };
         let seen = self.seen(own, colour);
         let until = events_until(carry);
-        if subject.given(client, region, colour, seen, until, place).is_none() {
+        if subject
+            .given(client, region, colour, seen, until, place)
+            .is_none()
+        {
             return false;
         }
         if place > subject.event_count(region, colour) {
             return false;
         }
-        if subject.line_length(region, colour, place) > subject.held_of(own, colour, region, behind) {
+        if subject.line_length(region, colour, place)
+            > subject.held_of(own, colour, region, behind)
+        {
             return false;
         }
         let made = self.made_between(subject, client, region, colour, place);

@@ -139,7 +139,13 @@ impl Subject<'_> {
 
 impl Keeping {
     // Whether node lines show the keys of the nodes that a sync played, in the order of play.
-    pub(crate) fn plays(&self, subject: &Subject<'_>, client: u8, sync: SyncPiece, nodes: &[Item]) -> bool
+    pub(crate) fn plays(
+        &self,
+        subject: &Subject<'_>,
+        client: u8,
+        sync: SyncPiece,
+        nodes: &[Item],
+    ) -> bool
         requires { client < length subject.now.report.clients }
         ensures { (told : ℕ → List Node) (kept : Kept) → sync.colour < subject.now.script.shape.colours
             → IsCounted (replies_to subject.now.report client) kept self.now

@@ -42,7 +42,14 @@ impl Keeping {
         }
         let mark = subject.mark(own, colour, sync.events);
         let seen = self.seen(own, colour);
-        is_synced_at(own, seen, self.known(colour), self.start(colour), mark, sync)
+        is_synced_at(
+            own,
+            seen,
+            self.known(colour),
+            self.start(colour),
+            mark,
+            sync,
+        )
     }
 
     // Whether a sync is as the log says, and no open entry up to the stamp was left.
@@ -62,9 +69,7 @@ impl Keeping {
         if !self.is_sync(subject, client, sync) {
             return false;
         }
-        subject
-            .track(own, sync.colour)
-            .is_clear(sync.events, stamp)
+        subject.track(own, sync.colour).is_clear(sync.events, stamp)
     }
 
     // Goes on behind the syncs of a stamped read, where they are as the log says.
@@ -116,7 +121,10 @@ impl Keeping {
             return false;
         }
         match raise.at {
-            At::Event(place) => is_raise(event_by(subject.journal(own, colour), client, place), stamp),
+            At::Event(place) => is_raise(
+                event_by(subject.journal(own, colour), client, place),
+                stamp,
+            ),
             At::Look(events) => stamp <= subject.mark(own, colour, events).clock,
         }
     }
@@ -164,7 +172,13 @@ impl Keeping {
     }
 
     // Whether the stamp of a read is the floor, or the clock of one of the columns that it raises.
-    fn is_read_stamp(&self, subject: &Subject<'_>, client: u8, stamp: u64, raises: &[RaisePiece]) -> bool
+    fn is_read_stamp(
+        &self,
+        subject: &Subject<'_>,
+        client: u8,
+        stamp: u64,
+        raises: &[RaisePiece],
+    ) -> bool
         requires { client < length subject.now.report.clients }
         ensures { (nodes : ℕ → List Node) (kept : Kept) → AreBelow subject.now.script (λ (r : Raised). r.colour) raises.now
             → IsCounted (replies_to subject.now.report client) kept self.now → Tells result
@@ -182,7 +196,13 @@ impl Keeping {
     }
 
     // Whether the stamp is not below what was seen of the clock of a raise's column.
-    fn is_above_clock(&self, subject: &Subject<'_>, client: u8, stamp: u64, raise: RaisePiece) -> bool
+    fn is_above_clock(
+        &self,
+        subject: &Subject<'_>,
+        client: u8,
+        stamp: u64,
+        raise: RaisePiece,
+    ) -> bool
         requires { client < length subject.now.report.clients }
         ensures { (nodes : ℕ → List Node) (kept : Kept) → raise.colour < subject.now.script.shape.colours
             → IsCounted (replies_to subject.now.report client) kept self.now → Tells result
@@ -198,7 +218,13 @@ impl Keeping {
     }
 
     // Whether it is not below those of all columns that a read raises.
-    fn is_above_clocks(&self, subject: &Subject<'_>, client: u8, stamp: u64, raises: &[RaisePiece]) -> bool
+    fn is_above_clocks(
+        &self,
+        subject: &Subject<'_>,
+        client: u8,
+        stamp: u64,
+        raises: &[RaisePiece],
+    ) -> bool
         requires { client < length subject.now.report.clients }
         ensures { (nodes : ℕ → List Node) (kept : Kept) → AreBelow subject.now.script (λ (r : Raised). r.colour) raises.now
             → IsCounted (replies_to subject.now.report client) kept self.now → Tells result
