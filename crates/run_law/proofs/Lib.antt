@@ -17,8 +17,10 @@ mod EnteringLemmas
 mod FifthLaws
 mod FinalLemmas
 mod FirstLemmas
+mod FoundSteps
 mod FrontLemmas
 mod FourthLemmas
+mod FourteenthLaws
 mod GuardLemmas
 mod HeadLemmas
 mod LeftLemmas

@@ -191,6 +191,11 @@ module _ (script : Script) (fits : IsFitting script) (n : ℕ) where
     by (OfLog stops) = λ c i. absurd i
     by (OfObject object read) = own_below (kind_of_object it object) (kind_within object)
 
+  -- all colours of the object that a command names are, in rising number
+  pub whole_within : (what : What) → Below colours (rising (object_colours (kind_asked it what)))
+  whole_within what =
+      rising_below colours fits.shape.a_colour (object_colours (kind_asked it what)) (asked_below what)
+
   -- and so is the shard of a key of an object
   pub shards_within : (object : ℕ) (key : List ℕ) → shard_of (object_colours (kind_of_object it object)) key < colours
   shards_within object key =

@@ -5,6 +5,7 @@ pub mod Behind
 pub mod Columns
 pub mod Eleventh
 pub mod Fifth
+pub mod Fourteenth
 pub mod Fourth
 pub mod Journals
 pub mod Keepings

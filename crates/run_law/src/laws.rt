@@ -1,27 +1,20 @@
 // Laws of the rules, as a walk over commands decides them. Each function does nothing, and its contract is the law.
 ghost use Rattle.run_law.specs.Eleventh.{EleventhIsCauses};
 ghost use Rattle.run_law.specs.Fifth.{FifthIsEntering};
+ghost use Rattle.run_law.specs.Fourteenth.{FourteenthIsOfParts};
 ghost use Rattle.run_law.specs.Ninth.{NinthIsShown};
-<<<<<<< HEAD
 ghost use Rattle.run_law.specs.Showing.{FourteenthIsDecided, ShowingIsFound};
+ghost use Rattle.run_law.specs.Tenth.{ShownFindsAreRight, TenthIsRight};
 ghost use Rattle.run_law.specs.Twelfth.{TwelfthIsBare};
 
 use col_core::region_order_is_unique;
+use lawful_run::read_items_last;
 use part_fold::decisions_are_plain;
 use playback::region_order_is_lawful;
 use run_rules::{
     computed_account_agrees, computed_finds_decide, finds_decide, finds_keep, finds_tell,
     found_account_decides, nodes_are_told, nodes_change_no_step,
 };
-=======
-ghost use Rattle.run_law.specs.Tenth.{ShownFindsAreRight, TenthIsRight};
-ghost use Rattle.run_law.specs.Twelfth.{TwelfthIsBare};
-
-use col_core::region_order_is_unique;
-use lawful_run::read_items_last;
-use playback::region_order_is_lawful;
-use run_rules::{computed_account_agrees, finds_tell, nodes_are_told, nodes_change_no_step};
->>>>>>> 8e849023b9a42d9e1dd35c215b50eed1258294d3
 
 /// A report that keeps the first four rules enters the nodes of its commands where the first five hold at the account with these.
 pub fn fifth_is_entering()
@@ -57,7 +50,6 @@ pub fn twelfth_is_bare()
     computed_account_agrees();
 }
 
-<<<<<<< HEAD
 /// A report that keeps the first nine rules keeps them at the account that shows what reads found where that is what is shown.
 pub fn showing_is_found()
     ensures { ShowingIsFound }
@@ -79,7 +71,8 @@ pub fn fourteenth_is_decided()
     region_order_is_unique();
     region_order_is_lawful();
     decisions_are_plain();
-=======
+}
+
 /// The tenth rule holds there where the answer to each step is right by the nodes of that account.
 pub fn tenth_is_right()
     ensures { ShownFindsAreRight → TenthIsRight }
@@ -89,5 +82,17 @@ pub fn tenth_is_right()
     region_order_is_lawful();
     region_order_is_unique();
     read_items_last();
->>>>>>> 8e849023b9a42d9e1dd35c215b50eed1258294d3
+}
+
+/// Where the decisions that are computed are those that are shown, the last rule holds at their account where each answer of a map
+/// that is played by its parts is right by its nodes.
+pub fn fourteenth_is_of_parts()
+    ensures { FourteenthIsOfParts }
+{
+    finds_tell();
+    computed_account_agrees();
+    computed_finds_decide();
+    region_order_is_lawful();
+    region_order_is_unique();
+    read_items_last();
 }
