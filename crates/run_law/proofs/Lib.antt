@@ -37,6 +37,7 @@ mod NextRows
 mod NinthLaws
 mod NodeRows
 mod NumeralLemmas
+mod ObjectOrders
 mod Once
 mod OpenLemmas
 mod OrderLemmas

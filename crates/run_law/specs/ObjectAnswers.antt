@@ -1,16 +1,20 @@
 -- What objects answer that are played from answer to answer.
-use Rattle.std.specs.Prelude.{◌≡◌, ℕ, List, slice_get}
+use Rattle.std.specs.Prelude.{◌≡◌, ℕ, ◌<◌, List, slice_get}
+use Rattle.std.specs.List.{All}
 use Rattle.std.specs.Option.{option_map}
 use Rattle.log_node.specs.declared.node.Node.{Node}
-use Rattle.object_fold.specs.States.{IsShardMap, IsValueQueue}
+use Rattle.object_fold.specs.States.{IsShardMap, IsTxState, IsValueQueue}
 use Rattle.col_core.specs.History.{line}
 use Rattle.script_text.specs.declared.script.Object.{Object}
 use Rattle.script_text.specs.declared.script.Script.{Script}
 use Rattle.lawful_run.specs.Asks.{object_colours}
+use Rattle.run_law.specs.declared.key_order.KeyOrder.{KeyOrder}
 use Rattle.run_law.specs.declared.queue_plays.QueuePlay.{QueuePlay}
 use Rattle.run_law.specs.declared.shard_plays.ShardPlay.{ShardPlay}
-use Rattle.run_law.specs.ObjectPlays.{HoldsLine}
-use Rattle.run_law.specs.Walking.{Walked, journal_walked}
+use Rattle.run_law.specs.KeysRead.{whole_order}
+use Rattle.run_law.specs.declared.tx_plays.TxPlay.{TxPlay}
+use Rattle.run_law.specs.ObjectPlays.{HoldsKeys, HoldsLine}
+use Rattle.run_law.specs.Walking.{Walked, journal_walked, log_walked}
 
 -- the colours of a script's object, by its number
 abbrev pub colours_used : Script → ℕ → List ℕ
@@ -25,3 +29,14 @@ pub record IsShardPlay (walked : Walked) (table : List (List Node)) (p : ShardPl
 -- and a queue over that of its colour
 abbrev pub IsQueuePlay : Walked → List (List Node) → QueuePlay → Type 0
 IsQueuePlay walked table p = HoldsLine IsValueQueue table (line (journal_walked walked p.region p.colour)) p.play
+
+-- the keys are those of the whole own lines of colours of a region, in its order
+pub record IsKeyOrder (walked : Walked) (o : KeyOrder) : Type 0 where
+  pub region : o.region < walked.script.shape.regions
+  pub colours : All (λ colour. colour < walked.script.shape.colours) o.colours
+  pub keys : o.keys.items ≡ whole_order (log_walked walked) o.region o.colours
+
+-- a transactional map is played over the nodes of these keys
+pub record IsTxPlay (walked : Walked) (table : List (List Node)) (p : TxPlay) : Type 0 where
+  pub order : IsKeyOrder walked p.order
+  pub holds : HoldsKeys IsTxState table p.order.keys.items p.play

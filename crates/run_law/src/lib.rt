@@ -20,6 +20,7 @@ mod going_on;
 mod helpers;
 mod journals;
 mod keeping;
+mod key_order;
 mod keys_read;
 mod laws;
 mod left_open;
@@ -59,6 +60,7 @@ mod texts;
 mod third;
 mod turn;
 mod twelfth;
+mod tx_plays;
 mod walking;
 mod writers;
 
