@@ -41,6 +41,7 @@ mod ObjectOrders
 mod Once
 mod OpenLemmas
 mod OrderLemmas
+mod PartLemmas
 mod PastLemmas
 mod PlaceLemmas
 mod PlayOrders

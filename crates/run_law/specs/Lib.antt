@@ -19,6 +19,7 @@ pub mod Ninth
 pub mod NodeTables
 pub mod ObjectAnswers
 pub mod ObjectPlays
+pub mod PartAnswers
 pub mod PlaceTables
 pub mod Playing
 pub mod Proposals
