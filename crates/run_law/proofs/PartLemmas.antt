@@ -14,7 +14,7 @@ use Rattle.object_fold.specs.Folds.{IsAbsent}
 use Rattle.object_fold.specs.Maps.{Value}
 use Rattle.object_fold.specs.Nodes.{ObjectNode}
 use Rattle.part_fold.specs.Agreement.{part_at}
-use Rattle.part_fold.specs.Parts.{Part}
+use Rattle.part_fold.specs.Parts.{Part, undecided_after}
 use Rattle.part_fold.specs.Ruled.{AreApart}
 use Rattle.col_core.proofs.CallerLemmas.{In, contains_in, slice_in}
 use Rattle.playback.specs.Merging.{AreRising}
@@ -40,7 +40,7 @@ use Rattle.run_rules.specs.Computing.{node_read}
 use Rattle.run_rules.specs.Deciding.{ColoursDiffer}
 use Rattle.run_rules.specs.Shown.{OfParts}
 use Rattle.run_law.specs.NodeTables.{node_in, nodes_under}
-use Rattle.run_law.specs.PartAnswers.{IsPlaceOf, IsValueOfPart, WaitsWith, part_colours}
+use Rattle.run_law.specs.PartAnswers.{IsValueOfPart, IsWaitedFor, part_colours}
 use Rattle.run_law.proofs.Members.{told_as}
 use Rattle.run_law.proofs.ShapeColours.{kind_within}
 
@@ -168,17 +168,90 @@ asks_kind : (caller : Caller) (what : What) (object : ℕ) (key : List ℕ) → 
     → kind_asked caller what ≡ kind_of_object caller object
 asks_kind caller what object key a = ap (kind_used caller) a.uses
 
-key_is : (what : What) (object : ℕ) (key : List ℕ) (Says : List ℕ → Type 0) → AsksForKey what object key
-    → (value : Value) (part : Part) (nodes : List ObjectNode) → ((k : List ℕ) → Says k ≡ HasPartValue k value part nodes)
-    → (Says key → IsValueOfPart what value part nodes) × (IsValueOfPart what value part nodes → Says key)
-key_is (whats.Get other k) object key Says a value part nodes same =
-    let e : k ≡ key = let g = ap (λ (d : Deed). d.syncs) a.gets in cc (g) in (
-      λ s. subst (λ (T : Type 0). T) (same k) (subst Says (sym e) s),
-      λ v. subst Says e (subst (λ (T : Type 0). T) (sym (same k)) v),
-    )
-key_is (whats.Peek other k) object key Says a value part nodes same =
-    let e : k ≡ key = let g = ap (λ (d : Deed). d.syncs) a.gets in cc (g) in (
-      λ s. subst (λ (T : Type 0). T) (same k) (subst Says (sym e) s),
-      λ v. subst Says e (subst (λ (T : Type 0). T) (sym (same k)) v),
-    )
-key_is _ object key Says a value part nodes same = absurd (let g = ap (λ (d : Deed). d.manner) a.gets in let no : ⊥ = cc (g) in no)
+of_key : (what : What) (object : ℕ) (key : List ℕ) (value : Value) (part : Part) (nodes : List ObjectNode)
+    → AsksForKey what object key → HasPartValue key value part nodes → IsValueOfPart what value part nodes
+of_key (whats.Get other k) object key value part nodes a s =
+    let e : key ≡ k = let g = ap (λ (d : Deed). d.syncs) a.gets in cc (g) in
+    subst (λ (t : List ℕ). HasPartValue t value part nodes) e s
+of_key (whats.Peek other k) object key value part nodes a s =
+    let e : key ≡ k = let g = ap (λ (d : Deed). d.syncs) a.gets in cc (g) in
+    subst (λ (t : List ℕ). HasPartValue t value part nodes) e s
+of_key _ object key value part nodes a s = absurd (let g = ap (λ (d : Deed). d.manner) a.gets in let no : ⊥ = cc (g) in no)
+
+key_of : (what : What) (object : ℕ) (key : List ℕ) (value : Value) (part : Part) (nodes : List ObjectNode)
+    → AsksForKey what object key → IsValueOfPart what value part nodes → HasPartValue key value part nodes
+key_of (whats.Get other k) object key value part nodes a s =
+    let e : k ≡ key = let g = ap (λ (d : Deed). d.syncs) a.gets in cc (g) in
+    subst (λ (t : List ℕ). HasPartValue t value part nodes) e s
+key_of (whats.Peek other k) object key value part nodes a s =
+    let e : k ≡ key = let g = ap (λ (d : Deed). d.syncs) a.gets in cc (g) in
+    subst (λ (t : List ℕ). HasPartValue t value part nodes) e s
+key_of _ object key value part nodes a s = absurd (let g = ap (λ (d : Deed). d.manner) a.gets in let no : ⊥ = cc (g) in no)
+
+module _ (script : Script) (caller : Caller) (what : What) (own : List ℕ) (are : AreOwn script caller what own) (sync : SyncPiece)
+    (place : ℕ) (e : slice_get own place ≡ Some sync.colour) (nodes : List ObjectNode) where
+  -- what is so of the colour is so of its part
+  at_place : (Says : Part → List ObjectNode → Type 0) → OfPart own sync.colour Says nodes → Says (part_at own place) nodes
+  at_place Says o =
+      subst (λ (p : ℕ). Says (part_at own p) nodes) (place_one own are.differ o.0 place sync.colour o.1 e) o.2
+
+  module _ (value : Value) where
+    abbrev Told : Type 0
+    Told = IsValueOfPart what value (part_at own place) nodes
+
+    answers : CanGet caller what sync value (Some (kinds.Parts are.home own)) → Told → AnswersGet caller what sync value nodes
+    answers (inl can) v =
+        inl (
+          Some (kinds.Parts are.home own),
+          can.0,
+          can.1,
+          (place, e, key_of what can.1.0 can.0 value (part_at own place) nodes can.1.1 v),
+        )
+    answers (inr can) v =
+        let w = subst (λ (c : What). IsValueOfPart c value (part_at own place) nodes) can.0.2 v in
+        inr (own, can.0, w.0, (place, e, w.1))
+
+    told : AnswersGet caller what sync value nodes → Told
+    told (inl g) =
+        let asks = g.2 in
+        let same : g.0 ≡ Some (kinds.Parts are.home own) =
+        sym asks.2 ∙ (sym (asks_kind caller what asks.0 g.1 asks.1) ∙ are.kind) in
+        of_key what asks.0 g.1 value (part_at own place) nodes asks.1
+        (at_place (HasPartValue g.1 value) (subst (λ (k : Option Kind). HasValue k sync.colour g.1 value nodes) same g.3))
+    told (inr d) =
+        let asks = d.1 in
+        let parts : Some (kinds.Parts asks.3 d.0) ≡ Some (kinds.Parts are.home own) =
+        sym asks.4 ∙ (sym (ap (kind_asked caller) asks.2) ∙ are.kind) in
+        let same : d.0 ≡ own = cc (parts) in
+        subst (λ (c : What). IsValueOfPart c value (part_at own place) nodes) (sym asks.2)
+        (d.2, at_place (WaitsFor None) (subst (λ (cs : List ℕ). OfPart cs sync.colour (WaitsFor None) nodes) same d.3))
+
+    pub value_told : CanGet caller what sync value (kind_asked caller what) → (b : Bool) → Tells b Told
+        → Tells b (OfParts (kind_asked caller what) (AnswersGet caller what sync value nodes))
+    value_told can b t =
+        subst (λ (k : Option Kind). Tells b (OfParts k (AnswersGet caller what sync value nodes))) (sym are.kind)
+        (told_as b Told (AnswersGet caller what sync value nodes)
+        (answers (subst (CanGet caller what sync value) are.kind can)) told t)
+
+-- for which transaction a part waits
+pub waits_told : (own : List ℕ) → AllPairs (λ (a b : ℕ). a ≢ b) own → (place colour : ℕ) → slice_get own place ≡ Some colour
+    → (nodes : List ObjectNode) (key : Option Key) → key ≡ undecided_after (part_at own place) nodes
+    → IsWaitedFor own colour nodes key
+waits_told own apart place colour e nodes None is = λ k o.
+    let other : undecided_after (part_at own place) nodes ≡ Some k =
+    subst (λ (p : ℕ). undecided_after (part_at own p) nodes ≡ Some k) (place_one own apart o.0 place colour o.1 e) o.2 in
+    let no : ⊥ = cc (is, other) in no
+waits_told own apart place colour e nodes (Some key) is = (
+  (place, e, sym is),
+  λ k o.
+      let other : undecided_after (part_at own place) nodes ≡ Some k =
+      subst (λ (p : ℕ). undecided_after (part_at own p) nodes ≡ Some k) (place_one own apart o.0 place colour o.1 e) o.2 in
+      same_some (sym other ∙ sym is),
+)
+
+-- a colour of an object is one of the shape
+pub own_low : (count : ℕ) (own : List ℕ) → AreObjectColours count own → (place colour : ℕ) → slice_get own place ≡ Some colour
+    → colour < count
+own_low count own w place colour e =
+    subst (λ (m : ℕ). m < count) (get_or_from_slice_get own place colour colour e)
+    (w.below place colour (slice_get_within own place colour e))
