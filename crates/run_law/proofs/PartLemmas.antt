@@ -1,9 +1,9 @@
 -- What the parts of a transactional map answer, by the place of a colour among those of the object.
 use Rattle.std.proofs.Common.{◌≡◌, ◌≢◌, ◌⊎◌, ◌∙◌, refl, ap, sym, subst, Bool, true, false, ℕ, zero, suc, ◌<◌, List, [], ◌∷◌, ◌++◌, length, Option, Some, None, inl, inr, arith}
-use Rattle.std.specs.Prelude.{IsTrue, slice_get}
+use Rattle.std.specs.Prelude.{IsTrue, ◌==◌, slice_get}
 use Rattle.std.specs.List.{All, AllPairs}
 use Rattle.std.specs.Option.{option_map}
-use Rattle.std.proofs.lemmas.Bool.{cases_Bool}
+use Rattle.std.proofs.lemmas.Bool.{cases_Bool, eq-eqb, eqb-true, true≢false}
 use Rattle.std.proofs.lemmas.List.Elements.{All-contains}
 use Rattle.std.proofs.lemmas.Option.{get_or_from_slice_get, slice_get_within}
 use Rattle.log_node.specs.declared.ids.Key.{Key}
@@ -16,7 +16,7 @@ use Rattle.object_fold.specs.Nodes.{ObjectNode}
 use Rattle.part_fold.specs.Agreement.{part_at}
 use Rattle.part_fold.specs.Parts.{Part, undecided_after}
 use Rattle.part_fold.specs.Ruled.{AreApart}
-use Rattle.col_core.proofs.CallerLemmas.{In, contains_in, slice_in}
+use Rattle.col_core.proofs.CallerLemmas.{In, all_in, contains_in, slice_in}
 use Rattle.playback.specs.Merging.{AreRising}
 use Rattle.script_text.specs.Apart.{colours_of}
 use Rattle.script_text.specs.Commands.{use_of}
@@ -30,7 +30,7 @@ use Rattle.script_text.specs.declared.script.Script.{Script}
 use Rattle.script_text.specs.declared.uses.Use.{Use}
 use Rattle.script_text.specs.declared.uses.Use.TheVariants.{OfLog, OfObject}
 use Rattle.report_text.specs.declared.report.SyncPiece.{SyncPiece}
-use Rattle.lawful_run.specs.Asks.{kind_asked, kind_of_object, kind_used}
+use Rattle.lawful_run.specs.Asks.{kind_asked, kind_of_object, kind_used, rising}
 use Rattle.lawful_run.specs.Callers.{Caller, caller_of}
 use Rattle.lawful_run.specs.Deeds.{AsksForKey, Deed}
 use Rattle.lawful_run.specs.Parts.{AnswersGet, AnswersUndecided, AsksOf, AsksToDecide, HasPartValue, HasValue, OfPart, WaitsFor}
@@ -39,10 +39,11 @@ use Rattle.run_rules.specs.Answering.{CanGet}
 use Rattle.run_rules.specs.Computing.{node_read}
 use Rattle.run_rules.specs.Deciding.{ColoursDiffer}
 use Rattle.run_rules.specs.Shown.{OfParts}
+use Rattle.run_law.specs.Asking.{all_of}
 use Rattle.run_law.specs.NodeTables.{node_in, nodes_under}
 use Rattle.run_law.specs.PartAnswers.{IsValueOfPart, IsWaitedFor, part_colours}
 use Rattle.run_law.proofs.Members.{told_as}
-use Rattle.run_law.proofs.ShapeColours.{kind_within}
+use Rattle.run_law.proofs.ShapeColours.{below_all, kind_within, rising_below}
 
 -- NODES
 
@@ -255,3 +256,60 @@ pub own_low : (count : ℕ) (own : List ℕ) → AreObjectColours count own → 
 own_low count own w place colour e =
     subst (λ (m : ℕ). m < count) (get_or_from_slice_get own place colour colour e)
     (w.below place colour (slice_get_within own place colour e))
+
+-- a command asks of the one object
+one_own : (script : Script) (caller : Caller) (what : What) (own : List ℕ) (are : AreOwn script caller what own)
+    (sync : SyncPiece) (home : ℕ) (colours key : List ℕ) → AsksOf caller what sync (Some (kinds.Parts home colours)) key
+    → Some (kinds.Parts home colours) ≡ Some (kinds.Parts are.home own)
+one_own script caller what own are sync home colours key asks =
+    sym asks.2 ∙ (sym (asks_kind caller what asks.0 key asks.1) ∙ are.kind)
+
+asks_own : (script : Script) (caller : Caller) (what : What) (own : List ℕ) (are : AreOwn script caller what own)
+    (sync : SyncPiece) (home : ℕ) (colours key : List ℕ) → AsksOf caller what sync (Some (kinds.Parts home colours)) key
+    → AsksOf caller what sync (Some (kinds.Parts are.home own)) key
+asks_own script caller what own are sync home colours key asks =
+    subst (λ (k : Option Kind). AsksOf caller what sync k key) (one_own script caller what own are sync home colours key asks) asks
+
+of_own : (script : Script) (caller : Caller) (what : What) (own : List ℕ) → AreOwn script caller what own → (sync : SyncPiece)
+    (nodes : List ObjectNode) (home : ℕ) (colours key : List ℕ) → AsksOf caller what sync (Some (kinds.Parts home colours)) key
+    → (waits : Key) → OfPart colours sync.colour (WaitsFor (Some waits)) nodes → OfPart own sync.colour (WaitsFor (Some waits)) nodes
+of_own script caller what own are sync nodes home colours key asks waits o =
+    let parts = one_own script caller what own are sync home colours key asks in
+    let same : colours ≡ own = cc (parts) in
+    subst (λ (cs : List ℕ). OfPart cs sync.colour (WaitsFor (Some waits)) nodes) same o
+
+pub all_rising : (own : List ℕ) → all_of own ≡ rising own
+unfolding all_of
+all_rising own = refl
+
+-- numbers are compared
+pub tells_same : (a b : ℕ) → Tells (a == b) (a ≡ b)
+tells_same a b = by (a == b) refl where
+  by : (t : Bool) → (a == b) ≡ t → Tells t (a ≡ b)
+  by true e = eqb-true a b e
+  by false e = λ s. true≢false (sym (eq-eqb a b s) ∙ e)
+
+-- all in rising number are
+pub rising_low : (count : ℕ) → 0 < count → (own : List ℕ) → AreObjectColours count own
+    → All (λ (colour : ℕ). colour < count) (all_of own)
+unfolding all_of
+rising_low count some own w =
+    all_in (λ (colour : ℕ). colour < count) (rising own) (rising_below count some own (below_all count own w.below))
+
+-- a part that waits tells a stamp
+pub undecided_told : (script : Script) (caller : Caller) (what : What) (own : List ℕ) → AreOwn script caller what own
+    → (sync : SyncPiece) (nodes : List ObjectNode) (home : ℕ) (colours key : List ℕ)
+    → AsksOf caller what sync (Some (kinds.Parts home colours)) key → (stamp : ℕ) (waits : Key)
+    → IsWaitedFor own sync.colour nodes (Some waits) → (b : Bool) → Tells b (waits.stamp ≡ stamp)
+    → Tells b (AnswersUndecided caller what sync stamp nodes)
+undecided_told script caller what own are sync nodes home colours key asks stamp waits w b t =
+    told_as b (waits.stamp ≡ stamp) (AnswersUndecided caller what sync stamp nodes)
+    (λ e. (are.home, own, key, asks_own script caller what own are sync home colours key asks, waits, sym e, w.0))
+    (λ a. ap (λ (k : Key). k.stamp) (sym (w.1 a.4 (of_own script caller what own are sync nodes a.0 a.1 a.2 a.3 a.4 a.6)))
+    ∙ sym a.5) t
+
+pub undecided_not : (script : Script) (caller : Caller) (what : What) (own : List ℕ) → AreOwn script caller what own
+    → (sync : SyncPiece) (nodes : List ObjectNode) (stamp : ℕ) → IsWaitedFor own sync.colour nodes None
+    → AnswersUndecided caller what sync stamp nodes → ⊥
+undecided_not script caller what own are sync nodes stamp w a =
+    w a.4 (of_own script caller what own are sync nodes a.0 a.1 a.2 a.3 a.4 a.6)

@@ -1,5 +1,5 @@
 -- The fourteenth rule, at the account with what reads found and what decisions say: what is looked at of each step.
-use Rattle.std.specs.Prelude.{◌≡◌, ◌↔◌, ℕ, List, Some}
+use Rattle.std.specs.Prelude.{◌≡◌, ◌↔◌, Bool, ℕ, List, Some}
 use Rattle.log_node.specs.declared.ids.Key.{Key}
 use Rattle.log_node.specs.declared.node.Node.{Node}
 use Rattle.log_node.specs.Vectors.{at}
@@ -11,6 +11,7 @@ use Rattle.script_text.specs.declared.commands.What.{What}
 use Rattle.script_text.specs.declared.script.Script.{Script}
 use Rattle.report_text.specs.declared.report.Answer.{Answer}
 use Rattle.report_text.specs.declared.report.Answer.TheVariants as answers
+use Rattle.report_text.specs.declared.report.Ended.{Ended}
 use Rattle.report_text.specs.declared.report.Report.{Report}
 use Rattle.report_text.specs.declared.report.SyncPiece.{SyncPiece}
 use Rattle.lawful_run.specs.Asks.{kind_asked, object_colours, rising}
@@ -36,6 +37,15 @@ synced_nodes walked table caller sync = line_nodes walked table caller.own sync.
 abbrev pub object_nodes : Walked → List (List Node) → Caller → List ℕ → ℕ → List ObjectNode
 object_nodes walked table caller colours stamp = stamped_nodes walked table caller.own (rising colours) stamp
 
+-- A decision of a map with these colours is right: its part waits for a transaction with this stamp, which commits among the nodes
+-- of all colours, or does not, as the node of the decision says.
+abbrev pub IsDecision : Walked → List (List Node) → Caller → Kept → List ℕ → Bool → ℕ → SyncPiece → ℕ → Ended → Type 0
+IsDecision walked table caller kept own commits stamp sync read_stamp ended =
+    (waits : Key) × (stamp ≡ waits.stamp)
+    × OfPart own sync.colour (WaitsFor (Some waits)) (synced_nodes walked table caller sync)
+    × IsRuledAs waits commits (object_nodes walked table caller own read_stamp)
+    × SaysSo (log_with walked table) caller kept (decision_text (record { key = waits; commits = commits })) ended
+
 -- An answer of a map that is played by its parts is right by the nodes in a table.
 abbrev pub IsPartAnswer : Walked → List (List Node) → Caller → Kept → What → Answer → Type 0
 IsPartAnswer walked table caller kept what (answers.Got value sync) =
@@ -43,10 +53,7 @@ IsPartAnswer walked table caller kept what (answers.Got value sync) =
 IsPartAnswer walked table caller kept what (answers.Undecided stamp sync) =
     AnswersUndecided caller what sync stamp (synced_nodes walked table caller sync)
 IsPartAnswer walked table caller kept what (answers.Decided commits stamp sync read_stamp raises syncs ended) =
-    (waits : Key) × (stamp ≡ waits.stamp)
-    × OfPart (object_colours (kind_asked caller what)) sync.colour (WaitsFor (Some waits)) (synced_nodes walked table caller sync)
-    × IsRuledAs waits commits (object_nodes walked table caller (object_colours (kind_asked caller what)) read_stamp)
-    × SaysSo (log_with walked table) caller kept (decision_text (record { key = waits; commits = commits })) ended
+    IsDecision walked table caller kept (object_colours (kind_asked caller what)) commits stamp sync read_stamp ended
 IsPartAnswer walked table caller kept what _ = Unit {0}
 
 -- what is asked of a step

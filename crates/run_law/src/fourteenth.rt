@@ -17,7 +17,8 @@ ghost use Rattle.col_core.specs.Log.{HasText};
 ghost use Rattle.script_text.specs.Fitting.{AreObjectColours};
 ghost use Rattle.lawful_run.specs.Asks.{kind_asked, rising};
 ghost use Rattle.lawful_run.specs.Callers.{Caller, caller_of};
-ghost use Rattle.lawful_run.specs.Parts.{AnswersGet, HasPartValue};
+ghost use Rattle.script_text.specs.declared.script.Kind.TheVariants as kinds;
+ghost use Rattle.lawful_run.specs.Parts.{AnswersGet, AnswersUndecided, AsksOf, AsksToDecide};
 ghost use Rattle.column_track.specs.Tracks.{Tells};
 ghost use Rattle.run_rules.specs.Answering.{CanGet, CanHave};
 ghost use Rattle.run_rules.specs.Computing.{finds_of};
@@ -45,7 +46,7 @@ use crate::showing::shows_decisions;
 use crate::shown_texts::ShownTexts;
 use crate::subject::Subject;
 use crate::texts::same_text;
-use log_node::{Id, Key, MAX_COLOURS, MAX_REGIONS, Text};
+use log_node::{ColourList, Id, Key, MAX_COLOURS, MAX_REGIONS, Text};
 use part_fold::{Decision, PartFold, write_decision};
 use report_text::{Answer, Ended, SyncPiece};
 use script_text::{Kind, What};
@@ -263,5 +264,90 @@ impl PartPlays {
         let key = play.part().undecided();
         self.put_part(cell(subject.own(client), sync.colour), play);
         Ok(key)
+    }
+
+    // The map with these colours of a region: what was played of it, or before any node.
+    fn ruled_of(
+        &mut self,
+        alloc: Global,
+        subject: &Subject<'_>,
+        at: usize,
+        region: u8,
+        colours: ColourList,
+    ) -> Result<RuledPlay, AllocError>
+        requires region { region < subject.now.script.shape.regions }
+        requires colours { All (λ colour. colour < subject.now.script.shape.colours) colours }
+        ensures play { (table : List (List Appended)) → ArePartPlays subject.now table self.old
+            → IfOk result (IsRuledPlay subject.now table) }
+        ensures plays { (table : List (List Appended)) → ArePartPlays subject.now table self.old
+            → OnOk result (ArePartPlays subject.now table self.new) }
+        ensures region { IfOk result (λ p. p.order.region ≡ region) }
+        ensures colours { IfOk result (λ p. p.order.colours ≡ colours) }
+    {
+        if let Some(play) = self.take_ruled(at) {
+            if play.is_of(region, colours.as_slice()) {
+                return Ok(play);
+            }
+        }
+        let order = KeyOrder::of(alloc, subject, region, colours)?;
+        Ok(RuledPlay::new(alloc, subject, order))
+    }
+
+    // Whether the transaction with this key commits among the nodes of all colours of a map up to a stamp; none where there is none.
+    fn outcome(
+        &mut self,
+        alloc: Global,
+        subject: &Subject<'_>,
+        nodes: &NodeTable,
+        client: u8,
+        own: &[u8],
+        stamp: u64,
+        key: Key,
+    ) -> Result<Option<bool>, AllocError>
+        requires client { client < length subject.now.report.clients }
+        requires stands { StandSo self.old subject.now nodes.now }
+        requires own { AreObjectColours subject.now.script.shape.colours own.now }
+        requires low { AreLow own.now }
+        ensures told { IfOk result (λ o. o ≡ outcome (verdict_of
+            (object_nodes subject.now nodes.now (caller_of subject.now.script client) own.now stamp) key)) }
+        ensures stands { OnOk result (StandSo self.new subject.now nodes.now) }
+    {
+        subject.agrees();
+        let region = subject.own(client);
+        let colours = all_colours(alloc, own)?;
+        let at = cell(region, own[0]);
+        let mut play = self.ruled_of(alloc, subject, at, region, colours)?;
+        let outcome = play.outcome(alloc, subject, nodes, stamp, key)?;
+        self.put_ruled(at, play);
+        Ok(outcome)
+    }
+
+    // Whether a part waits for a transaction with this stamp.
+    fn is_undecided(
+        &mut self,
+        alloc: Global,
+        subject: &Subject<'_>,
+        nodes: &NodeTable,
+        client: u8,
+        what: &What,
+        stamp: u64,
+        sync: &SyncPiece,
+    ) -> Result<bool, AllocError>
+        requires client { client < length subject.now.report.clients }
+        requires stands { StandSo self.old subject.now nodes.now }
+        ensures told { (home : ℕ) (colours key : List ℕ) → AsksOf (caller_of subject.now.script client) what.now sync.now
+            (Some (kinds.Parts home colours)) key → IfOk result (λ b. Tells b
+            (AnswersUndecided (caller_of subject.now.script client) what.now sync.now stamp
+            (synced_nodes subject.now nodes.now (caller_of subject.now.script client) sync.now))) }
+        ensures stands { OnOk result (StandSo self.new subject.now nodes.now) }
+    {
+        subject.agrees();
+        let Some(own) = parts_of(subject, what) else {
+            return Ok(false);
+        };
+        match self.waiting(alloc, subject, nodes, client, own, sync)? {
+            Some(key) => Ok(key.stamp == stamp),
+            None => Ok(false),
+        }
     }
 }
