@@ -44,7 +44,7 @@ use Rattle.run_law.specs.Replies.{place_read}
 use Rattle.run_law.specs.Walking.{Walked, log_walked, places_printed}
 use Rattle.run_law.proofs.RepliesLemmas.{Reads, behind_reads, chained, found_before, kept_found, reads_by}
 use Rattle.run_law.proofs.SayingLemmas.{deciding_uses, found_same}
-use Rattle.run_law.proofs.ShownSteps.{keys_unnamed}
+use Rattle.run_law.proofs.FoundSteps.{keys_unnamed}
 
 -- WHAT READS FOUND
 

@@ -30,7 +30,7 @@ use Rattle.run_law.specs.Keepings.{Counted, IsCounted}
 use Rattle.run_law.specs.NodeTables.{AreNodes, nodes_at}
 use Rattle.run_law.specs.Walking.{HasFew, MayWalk, Walked, log_walked, places_printed}
 use Rattle.run_law.proofs.FindingLemmas.{found_keys}
-use Rattle.run_law.proofs.ShownSteps.{find_keys, keys_unnamed}
+use Rattle.run_law.proofs.FoundSteps.{find_keys, keys_unnamed}
 use Rattle.run_law.proofs.WalkLemmas.{replies_many}
 
 -- the nodes of steps whose reads find this

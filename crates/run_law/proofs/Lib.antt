@@ -21,7 +21,10 @@ mod FifthLaws
 mod FinalLemmas
 mod FindingLemmas
 mod FirstLemmas
+mod FoundSteps
+mod FrontLemmas
 mod FourthLemmas
+mod FourteenthLaws
 mod GuardLemmas
 mod FrontLemmas
 mod GoingLemmas
@@ -47,6 +50,7 @@ mod ObjectOrders
 mod Once
 mod OpenLemmas
 mod OrderLemmas
+mod PartLemmas
 mod PastLemmas
 mod PlaceLemmas
 mod PlayOrders

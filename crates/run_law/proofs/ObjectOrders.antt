@@ -55,3 +55,7 @@ module _ (ordered : RegionOrderIsLawful) (walked : Walked) (tracks : List Tracke
       unique lines stamp (take n (whole_order (log_walked walked) region colours)) (region_order stamp lines)
       (order_begins (log_walked walked) caller stamp ordered last colours lawful n (omega (arith, small)) same)
       (ordered stamp lines rising)
+
+  -- so does the order up to a stamp rise
+  pub stamped_rising : (stamp : ℕ) → AreRising (region_order stamp lines)
+  stamped_rising stamp = (ordered stamp lines rising).rising

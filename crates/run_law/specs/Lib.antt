@@ -7,6 +7,7 @@ pub mod Columns
 pub mod Drafts
 pub mod Eleventh
 pub mod Fifth
+pub mod Fourteenth
 pub mod Fourth
 pub mod Finds
 pub mod Journals
@@ -23,6 +24,7 @@ pub mod Ninth
 pub mod NodeTables
 pub mod ObjectAnswers
 pub mod ObjectPlays
+pub mod PartAnswers
 pub mod PlaceTables
 pub mod Playing
 pub mod Proposals

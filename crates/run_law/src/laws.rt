@@ -1,6 +1,7 @@
 // Laws of the rules, as a walk over commands decides them. Each function does nothing, and its contract is the law.
 ghost use Rattle.run_law.specs.Eleventh.{EleventhIsCauses};
 ghost use Rattle.run_law.specs.Fifth.{FifthIsEntering};
+ghost use Rattle.run_law.specs.Fourteenth.{FourteenthIsOfParts};
 ghost use Rattle.run_law.specs.Judging.{JudgedIsLawful, RulesAllStand, RulesAreAsked};
 ghost use Rattle.run_law.specs.Ninth.{NinthIsShown};
 ghost use Rattle.run_law.specs.Showing.{FourteenthIsDecided, ShowingIsFound};
@@ -129,4 +130,17 @@ pub fn tenth_is_right()
     region_order_is_unique();
     read_items_last();
     shown_finds_are_right();
+}
+
+/// Where the decisions that are computed are those that are shown, the last rule holds at their account where each answer of a map
+/// that is played by its parts is right by its nodes.
+pub fn fourteenth_is_of_parts()
+    ensures { FourteenthIsOfParts }
+{
+    finds_tell();
+    computed_account_agrees();
+    computed_finds_decide();
+    region_order_is_lawful();
+    region_order_is_unique();
+    read_items_last();
 }
