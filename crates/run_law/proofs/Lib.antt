@@ -65,7 +65,9 @@ mod SixthLaws
 mod SixthLemmas
 mod SubjectLemmas
 mod TableLemmas
+mod TenthLaws
 mod ThirdLemmas
+mod ThirteenthLaws
 mod ToldLemmas
 mod TwelfthLaws
 mod UsedIds

@@ -130,7 +130,7 @@ module _ (tell : FindsTell) (agrees : ComputedAccountAgrees) (script : Script) (
   abbrev bare : Account
   bare = account_of script report no_nodes
 
-  told : IsTold script report shown
+  pub told : IsTold script report shown
   told = tell script report (nodes_showing script report) (finds_of script report) well (found_keys script report)
 
   same : Agree script report shown bare

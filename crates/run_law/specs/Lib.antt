@@ -31,7 +31,9 @@ pub mod ShownTexts
 pub mod Sixth
 pub mod Subjects
 pub mod Tables
+pub mod Tenth
 pub mod TextsSaid
 pub mod Third
+pub mod Thirteenth
 pub mod Twelfth
 pub mod Walking

@@ -3,12 +3,18 @@ ghost use Rattle.run_law.specs.Eleventh.{EleventhIsCauses};
 ghost use Rattle.run_law.specs.Fifth.{FifthIsEntering};
 ghost use Rattle.run_law.specs.Ninth.{NinthIsShown};
 ghost use Rattle.run_law.specs.Showing.{FourteenthIsDecided, ShowingIsFound};
+ghost use Rattle.run_law.specs.Tenth.{ShownFindsAreRight, TenthIsRight};
+ghost use Rattle.run_law.specs.Thirteenth.{ThirteenthIsSaid};
 ghost use Rattle.run_law.specs.Twelfth.{TwelfthIsBare};
 
 use col_core::region_order_is_unique;
+use lawful_run::read_items_last;
 use part_fold::decisions_are_plain;
 use playback::region_order_is_lawful;
-use run_rules::{computed_account_agrees, computed_finds_decide, finds_decide, finds_keep, finds_tell, found_account_decides, nodes_are_told, nodes_change_no_step};
+use run_rules::{
+    computed_account_agrees, computed_finds_decide, finds_decide, finds_keep, finds_tell,
+    found_account_decides, nodes_are_told, nodes_change_no_step,
+};
 
 /// A report that keeps the first four rules enters the nodes of its commands where the first five hold at the account with these.
 pub fn fifth_is_entering()
@@ -65,4 +71,26 @@ pub fn fourteenth_is_decided()
     region_order_is_unique();
     region_order_is_lawful();
     decisions_are_plain();
+}
+
+/// The tenth rule holds there where the answer to each step is right by the nodes of that account.
+pub fn tenth_is_right()
+    ensures { ShownFindsAreRight → TenthIsRight }
+{
+    finds_tell();
+    computed_account_agrees();
+    region_order_is_lawful();
+    region_order_is_unique();
+    read_items_last();
+}
+
+/// The thirteenth rule holds there where trees say what each step shows of them by the nodes of that account.
+pub fn thirteenth_is_said()
+    ensures { ThirteenthIsSaid }
+{
+    finds_tell();
+    computed_account_agrees();
+    region_order_is_lawful();
+    region_order_is_unique();
+    read_items_last();
 }

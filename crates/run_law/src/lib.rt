@@ -14,8 +14,8 @@ mod entering;
 mod fifth;
 mod finals;
 mod first;
-mod fronts;
 mod fourth;
+mod fronts;
 mod going_on;
 mod helpers;
 mod journals;
@@ -28,8 +28,8 @@ mod listing;
 mod looks;
 mod made;
 mod moving;
-mod node_table;
 mod naming;
+mod node_table;
 mod object_colours;
 mod own_seen;
 mod pieces;
@@ -63,7 +63,10 @@ pub use first::keeps_first;
 pub use fourth::keeps_fourth;
 pub use journals::tracks_of;
 pub use keeping::Keeping;
-pub use laws::{eleventh_is_causes, fifth_is_entering, fourteenth_is_decided, ninth_is_shown, showing_is_found, twelfth_is_bare};
+pub use laws::{
+    eleventh_is_causes, fifth_is_entering, fourteenth_is_decided, ninth_is_shown, showing_is_found,
+    thirteenth_is_said, twelfth_is_bare,
+};
 pub use left_open::keeps_eighth;
 pub use seventh::{keeps_seventh, seventh_is_stopping};
 pub use sixth::{keeps_sixth, sixth_is_standing};
