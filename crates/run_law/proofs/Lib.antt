@@ -69,6 +69,7 @@ mod TenthLaws
 mod ThirdLemmas
 mod ThirteenthLaws
 mod ToldLemmas
+mod ToldOfLemmas
 mod TwelfthLaws
 mod UsedIds
 mod WalkLemmas

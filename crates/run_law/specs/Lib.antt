@@ -35,5 +35,6 @@ pub mod Tenth
 pub mod TextsSaid
 pub mod Third
 pub mod Thirteenth
+pub mod TreePlays
 pub mod Twelfth
 pub mod Walking

@@ -53,6 +53,7 @@ mod subject;
 mod synced;
 mod texts;
 mod third;
+mod tree_told;
 mod turn;
 mod walking;
 mod writers;
