@@ -29,6 +29,7 @@ mod MadeLemmas
 mod Members
 mod MovingLemmas
 mod NamedColours
+mod NamesTold
 mod NextNodes
 mod NextRows
 mod NinthLaws

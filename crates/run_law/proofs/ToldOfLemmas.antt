@@ -1,28 +1,30 @@
 -- What a node is told among others in rising key.
-use Rattle.std.proofs.Common.{◌≡◌, ◌⊎◌, ◌∙◌, refl, ap, sym, subst, Bool, true, false, not, cond, ℕ, zero, suc, ◌+◌, ◌<◌, ◌≤◌, List, [], ◌∷◌, ◌++◌, length, take, drop, map, Option, Some, None, get_or, eqb, inl, inr, arith, append_assoc, take-append-drop}
+use Rattle.std.proofs.Common.{◌≡◌, ◌⊎◌, ◌∙◌, refl, ap, sym, subst, Bool, true, false, not, cond, ℕ, zero, suc, ◌+◌, ◌<◌, ◌≤◌, List, [], ◌∷◌, ◌++◌, length, take, drop, map, Option, Some, None, get_or, eqb, inl, inr, arith, append_assoc, take-append-drop, length-drop, length-take}
 use Rattle.std.specs.Prelude.{IsTrue, slice_get}
 use Rattle.std.specs.List.{Contains, find, take_while}
-use Rattle.std.proofs.lemmas.Bool.{and_from, cases_Bool, eq-eqb, false_from_ne_true}
+use Rattle.std.specs.List.Sorted.{IsPartitionedBy}
+use Rattle.std.proofs.lemmas.Option.{get_or_from_slice_get, slice_get_within}
+use Rattle.std.proofs.lemmas.Bool.{and_from, cases_Bool, cases_lt, eq-eqb, false_from_ne_true, true≢false}
 use Rattle.std.proofs.lemmas.List.{append-nil, drop_more, length-append, map-append, take_more}
 use Rattle.std.proofs.lemmas.List.Concat.{flat_map-append}
 use Rattle.std.proofs.lemmas.List.Elements.{Contains-append_left, Contains-append_right}
 use Rattle.std.proofs.lemmas.List.Sums.{take_while-cons}
 use lib.ListN.{get_or-append}
-use lib.Seq.{get_or-append-add, get_or-append_seam}
+use lib.Seq.{get_or-append-add, get_or-append_seam, get_or-drop, get_or-take}
 use Rattle.log_node.specs.declared.ids.Key.{Key}
 use Rattle.log_node.specs.declared.node.Node.{Node}
 use Rattle.log_node.specs.Order.{key_below, same_key}
-use Rattle.log_node.proofs.CallerLemmas.{get_map, key-irrefl, same_id-refl, same_key-is, same_some}
+use Rattle.log_node.proofs.CallerLemmas.{get_map, get_within, key-irrefl, key-trans, same_id-refl, same_key-is, same_some}
 use Rattle.object_fold.specs.Folds.{IsAbsent, told_among, told_of}
 use Rattle.object_fold.specs.Nodes.{ObjectNode, nodes_before}
 use Rattle.object_fold.proofs.CallerLemmas.{found_there, passed_cond}
 use Rattle.tree_fold.specs.declared.told.Told.{Told}
 use Rattle.tree_fold.specs.Trees.{telling}
-use Rattle.col_core.proofs.CallerLemmas.{In, contains_in, in_contains}
+use Rattle.col_core.proofs.CallerLemmas.{In, contains_in, in_take}
 use Rattle.playback.specs.Merging.{AreRising}
 use Rattle.run_rules.specs.Computing.{node_read}
 use Rattle.run_law.specs.NodeTables.{node_in, nodes_under}
-use Rattle.run_law.specs.TreePlays.{told_each, told_next}
+use Rattle.run_law.specs.TreePlays.{HasPlace, told_each, told_next}
 
 module _ (own : Key) where
   abbrev is_own : ObjectNode → Bool
@@ -199,3 +201,134 @@ module _ (table : List (List Node)) (keys : List Key) (rises : AreRising keys) (
       ∙ (ap (λ (l : List (Option Told)). l ++ told ∷ []) so
       ∙ (ap (λ (t : Option Told). map f (take n keys) ++ t ∷ []) (is ∙ next_told)
       ∙ (sym (map-append f (take n keys) (next ∷ [])) ∙ ap (map f) (sym (take_more keys n d lt)))))
+
+-- THE PLACE OF A KEY
+
+pub parted_below : (keys : List Key) (key : Key) → AreRising keys → IsPartitionedBy (λ other. key_below other key) keys
+parted_below keys key rises i j d le lt h = by (cases_lt i j) where
+  by : (i < j) ⊎ (j ≤ i) → key_below (get_or keys i d) key ≡ true
+  by (inl under) = key-trans (get_or keys i d) (get_or keys j d) key (rises i j d under lt) h
+  by (inr over) =
+      let same : j ≡ i = omega (arith, le, over) in
+      subst (λ (n : ℕ). key_below (get_or keys n d) key ≡ true) same h
+
+module _ (keys : List Key) (key : Key) (rises : AreRising keys) (n : ℕ)
+    (front : (k : ℕ) (d : Key) → k < n → k < length keys → key_below (get_or keys k d) key ≡ true)
+    (back : (k : ℕ) (d : Key) → n ≤ k → k < length keys → key_below (get_or keys k d) key ≡ false) where
+  pub place_none : length keys ≤ n → HasPlace keys key None
+  place_none past other c =
+      let less = c.1 in
+      other_below other key
+      (subst (λ (k : Key). key_below k key ≡ true) c.2 (front c.0 other (omega (arith, less, past)) less))
+
+  module _ (found : Key) (lt : n < length keys) (is : get_or keys n found ≡ found) where
+    pub place_there : same_key found key ≡ true → HasPlace keys key (Some n)
+    place_there same =
+        let there = get_within keys n lt in
+        there.1 ∙ ap (λ (k : Key). Some k)
+        (sym (get_or_from_slice_get keys n there.0 found there.1) ∙ (is ∙ same_key-is found key same))
+
+    pub place_other : same_key found key ≡ false → HasPlace keys key None
+    place_other not_same other c = by (cases_lt c.0 n) where
+      behind : (k : ℕ) → k < length keys → n ≤ k → get_or keys k other ≡ other → (n < k) ⊎ (k ≤ n) → same_key other key ≡ false
+      behind k less over at (inr under) =
+          let e : k ≡ n = omega (arith, over, under) in
+          let there = get_within keys n lt in
+          let one : other ≡ found =
+          sym at ∙ (ap (λ (m : ℕ). get_or keys m other) e
+          ∙ (get_or_from_slice_get keys n there.0 other there.1
+          ∙ (sym (get_or_from_slice_get keys n there.0 found there.1) ∙ is))) in
+          subst (λ (x : Key). same_key x key ≡ false) (sym one) not_same
+      behind k less over at (inl more) =
+          false_from_ne_true (same_key other key)
+          (λ h.
+          let there = get_within keys n lt in
+          let nth : get_or keys n other ≡ found =
+          get_or_from_slice_get keys n there.0 other there.1
+          ∙ (sym (get_or_from_slice_get keys n there.0 found there.1) ∙ is) in
+          let up : key_below found key ≡ true =
+          subst (λ (x : Key). key_below found x ≡ true) (at ∙ same_key-is other key h)
+          (subst (λ (x : Key). key_below x (get_or keys k other) ≡ true) nth (rises n k other more less)) in
+          let low : key_below found key ≡ false = subst (λ (x : Key). key_below x key ≡ false) is (back n found (omega arith) lt) in
+          true≢false (sym up ∙ low))
+
+      by : (c.0 < n) ⊎ (n ≤ c.0) → same_key other key ≡ false
+      by (inl before) =
+          let less = c.1 in
+          other_below other key (subst (λ (k : Key). key_below k key ≡ true) c.2 (front c.0 other before less))
+      by (inr over) = behind c.0 c.1 over c.2 (cases_lt n c.0)
+
+-- WHAT IS TOLD UP TO A PLACE
+
+module _ (table : List (List Node)) (keys : List Key) (rises : AreRising keys) (key : Key) (count : ℕ) where
+  begun : nodes_under table keys ≡ nodes_under table (take count keys) ++ nodes_under table (drop count keys)
+  begun =
+      ap (nodes_under table) (sym (take-append-drop count keys))
+      ∙ flat_map-append (λ (k : Key). node_read k (node_in table k.id)) (take count keys) (drop count keys)
+
+  pub told_none : ((other : Key) → In other (take count keys) → same_key other key ≡ false)
+      → told_of telling (nodes_under table (take count keys)) key ≡ None
+  told_none others =
+      none_told key telling (nodes_under table (take count keys)) (absent_under key table (take count keys) others)
+
+  -- a key that stands among the first
+  module _ (place : ℕ) (at : slice_get keys place ≡ Some key) (low : place < count) where
+    later : (other : Key) → In other (drop count keys) → same_key other key ≡ false
+    later other i =
+        let c = contains_in (drop count keys) other i in
+        let less = c.1 in
+        let long = length-drop count keys in
+        let in_keys : get_or keys (count + c.0) other ≡ other = sym (get_or-drop count keys c.0 other) ∙ c.2 in
+        let same : get_or keys place other ≡ key = get_or_from_slice_get keys place key other at in
+        let below : key_below key other ≡ true =
+        subst (λ (x : Key). key_below key x ≡ true) in_keys
+        (subst (λ (x : Key). key_below x (get_or keys (count + c.0) other) ≡ true) same
+        (rises place (count + c.0) other (omega (arith, low)) (omega (arith, less, long)))) in
+        other_above other key below
+
+    pub told_front_place : told_of telling (nodes_under table (take count keys)) key ≡ told_of telling (nodes_under table keys) key
+    told_front_place =
+        sym (told_front key telling (nodes_under table (take count keys)) (nodes_under table (drop count keys))
+        (absent_under key table (drop count keys) later))
+        ∙ ap (λ (l : List ObjectNode). told_of telling l key) (sym begun)
+
+  -- one that stands behind them
+  pub told_behind : (place : ℕ) → slice_get keys place ≡ Some key → count ≤ place
+      → told_of telling (nodes_under table (take count keys)) key ≡ None
+  told_behind place at over = told_none (λ other i.
+      let c = contains_in (take count keys) other i in
+      let less = c.1 in
+      let long = length-take count keys in
+      let lt : place < length keys = slice_get_within keys place key at in
+      let k_low : c.0 < count = omega (arith, less, long) in
+      let in_keys : get_or keys c.0 other ≡ other = sym (get_or-take count keys c.0 other k_low) ∙ c.2 in
+      let same : get_or keys place other ≡ key = get_or_from_slice_get keys place key other at in
+      let below : key_below other key ≡ true =
+      subst (λ (x : Key). key_below other x ≡ true) same
+      (subst (λ (x : Key). key_below x (get_or keys place other) ≡ true) in_keys
+      (rises c.0 place other (omega (arith, k_low, over)) lt)) in
+      other_below other key below)
+
+-- WHAT IS TOLD UP TO A STAMP
+
+module _ (table : List (List Node)) (keys : List Key) (rises : AreRising keys) (own : Key) (count : ℕ) (begun : List Key)
+    (is : take count keys ≡ begun) where
+  pub told_up : (told : List (Option Told)) → told ≡ told_each table keys → (place : ℕ) → HasPlace keys own (Some place)
+      → place < count → (d : Option Told) → get_or told place d ≡ told_of telling (nodes_under table begun) own
+  told_up told are place at low d =
+      let f = told_of telling (nodes_under table keys) in
+      ap (λ (l : List (Option Told)). get_or l place d) are
+      ∙ (get_or_from_slice_get (map f keys) place (f own) d (get_map f keys place own at)
+      ∙ (sym (told_front_place table keys rises own count place at low)
+      ∙ ap (λ (l : List Key). told_of telling (nodes_under table l) own) is))
+
+  pub none_up : (place : ℕ) → HasPlace keys own (Some place) → count ≤ place → None ≡ told_of telling (nodes_under table begun) own
+  none_up place at over =
+      sym (told_behind table keys rises own count place at over)
+      ∙ ap (λ (l : List Key). told_of telling (nodes_under table l) own) is
+
+  pub none_there : HasPlace keys own None → None ≡ told_of telling (nodes_under table begun) own
+  none_there others =
+      sym (told_none table keys rises own count
+      (λ other i. others other (contains_in keys other (in_take count keys other i))))
+      ∙ ap (λ (l : List Key). told_of telling (nodes_under table l) own) is

@@ -53,6 +53,7 @@ mod subject;
 mod synced;
 mod texts;
 mod third;
+mod tree_play;
 mod tree_told;
 mod turn;
 mod walking;
