@@ -71,6 +71,7 @@ mod ThirdLemmas
 mod ThirteenthLaws
 mod ToldLemmas
 mod ToldOfLemmas
+mod TreeKeys
 mod TwelfthLaws
 mod UsedIds
 mod WalkLemmas

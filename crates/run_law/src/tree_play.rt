@@ -1,21 +1,31 @@
 // Trees that are played over the nodes of their colours in a region.
-ghost use Rattle.std.specs.Prelude.{◌≡◌, List, length, IfOk, OnOk};
+ghost use Rattle.std.specs.Prelude.{◌≡◌, ◌<◌, List, length, slice_get, IfOk, OnOk};
+ghost use Rattle.std.specs.List.{All};
+ghost use Rattle.std.specs.Option.{option_map};
 ghost use Rattle.log_node.specs.declared.node.Node.{Node as Appended};
 ghost use Rattle.object_fold.specs.Folds.{told_of};
 ghost use Rattle.tree_fold.specs.Trees.{telling};
 ghost use Rattle.tree_fold.specs.TreeStates.{IsTree};
 ghost use Rattle.playback.specs.Merging.{AreRising, up_to};
+ghost use Rattle.script_text.specs.declared.script.Object.{Object as ObjectOf};
+ghost use Rattle.lawful_run.specs.Asks.{object_colours};
 ghost use Rattle.lawful_run.specs.Explains.{ShowsNames};
 ghost use Rattle.column_track.specs.Tracks.{Tells};
 ghost use Rattle.run_law.specs.NodeTables.{nodes_under};
 ghost use Rattle.run_law.specs.ObjectPlays.{HoldsKeys};
-ghost use Rattle.run_law.specs.TreePlays.{HasPlace, told_each};
+ghost use Rattle.run_law.specs.TreePlays.{AreKeysOf, HasPlace, IsTreePlay, told_each, tree_colours};
 
+use crate::keys_read::whole_order;
 use crate::node_table::NodeTable;
+use crate::object_colours::{all_colours, colours_of};
 use crate::region_play::RegionPlay;
+use crate::subject::Subject;
 use crate::texts::same_text;
-use log_node::{Key, Names, Text};
-use playback::count_up_to;
+use crate::tree_told::tell_each;
+use col_core::region_order_is_unique;
+use log_node::{ColourList, Key, Names, Text};
+use playback::{count_up_to, region_order_is_lawful};
+use script_text::Script;
 use std::alloc::{AllocError, Global};
 use tree_fold::{Path, Told, TreeFold, names_are_one};
 
@@ -25,6 +35,46 @@ pub(crate) struct TreePlay {
     keys: Vec<Key>,
     told: Vec<Option<Told>>,
     play: RegionPlay<TreeFold>,
+}
+
+// The colours of an object.
+fn colours_used(script: &Script, object: u8) -> &[u8]
+    ensures { result.now ≡ object_colours (option_map (λ (o : ObjectOf). o.kind) (slice_get script.now.objects object)) }
+{
+    match script.objects.get(object as usize) {
+        Some(found) => colours_of(Some(&found.kind)),
+        None => &[],
+    }
+}
+
+// The colours of an object in rising number.
+fn tree_colours(
+    alloc: Global,
+    subject: &Subject<'_>,
+    object: u8,
+) -> Result<ColourList, AllocError>
+    ensures { IfOk result (λ colours. colours ≡ tree_colours subject.now.script object) }
+{
+    subject.agrees();
+    all_colours(alloc, colours_used(subject.script(), object))
+}
+
+// The keys of some colours of a region, in their order.
+fn keys_of(
+    alloc: Global,
+    subject: &Subject<'_>,
+    region: u8,
+    colours: &[u8],
+) -> Result<Vec<Key>, AllocError>
+    requires region { region < subject.now.script.shape.regions }
+    requires colours { All (λ colour. colour < subject.now.script.shape.colours) colours.now }
+    ensures { IfOk result (λ keys. AreKeysOf subject.now region colours.now keys.items) }
+{
+    region_order_is_lawful();
+    region_order_is_unique();
+    subject.agrees();
+    let keys = whole_order(alloc, subject, region, colours)?;
+    Ok(keys)
 }
 
 // The place of a key, where it is one of these.
@@ -74,6 +124,28 @@ fn same_names(one: &Option<Names>, other: &Option<Names>) -> bool
 }
 
 impl TreePlay {
+    /// That of an object in a region, before any node.
+    pub(crate) fn open(
+        alloc: Global,
+        subject: &Subject<'_>,
+        nodes: &NodeTable,
+        region: u8,
+        object: u8,
+    ) -> Result<TreePlay, AllocError>
+        requires { region < subject.now.script.shape.regions }
+        ensures { IfOk result (IsTreePlay subject.now nodes.now region (tree_colours subject.now.script object)) }
+    {
+        subject.agrees();
+        let colours = tree_colours(alloc, subject, object)?;
+        let keys = keys_of(alloc, subject, region, colours.as_slice())?;
+        let told = tell_each(alloc, nodes, keys.as_slice())?;
+        Ok(TreePlay {
+            keys,
+            told,
+            play: RegionPlay::new(alloc),
+        })
+    }
+
     /// What the tree up to a stamp tells of the change with a key.
     pub(crate) fn told(&self, own: Key, stamp: u64) -> Option<Told>
         requires rising { AreRising self.now.keys.items }
