@@ -1,10 +1,15 @@
 -- The keys of a tree's nodes in a region, and their colours.
-use Rattle.std.proofs.Common.{◌≡◌, ◌∙◌, ap, refl, sym, subst, ℕ, ◌-◌, ◌^◌, ◌<◌, ◌≤◌, List, [], arith, length, take}
-use Rattle.std.specs.Prelude.{IsTrue, Option, Some, None, nat_le, slice_get}
+use Rattle.std.proofs.Common.{◌≡◌, ◌⊎◌, ◌∙◌, inl, inr, ap, refl, sym, subst, ℕ, ◌+◌, ◌-◌, ◌^◌, ◌<◌, ◌≤◌, List, [], ◌∷◌, ◌++◌, arith, length, take}
+use Rattle.std.specs.Prelude.{Bool, IsTrue, Option, Some, None, nat_le, slice_get}
 use Rattle.std.specs.List.{All, Contains}
 use Rattle.std.specs.Option.{option_map}
 use Rattle.std.proofs.lemmas.Bool.{le-leb, leb-true}
 use Rattle.std.proofs.lemmas.List.Elements.{All-contains, All-nil}
+use Rattle.std.proofs.lemmas.List.{length-append, length-map}
+use Rattle.std.proofs.lemmas.Option.{slice_get_within}
+use Rattle.log_node.specs.declared.node.Node.{Node}
+use Rattle.run_law.specs.declared.tree_play.TreePlay.{TreePlay}
+use Rattle.run_law.proofs.SubjectLemmas.{longer_cases}
 use Rattle.std.proofs.lemmas.List.Kept.{AllPairs-filter}
 use Rattle.log_node.specs.declared.ids.Key.{Key}
 use Rattle.log_node.specs.Order.{key_below}
@@ -17,18 +22,31 @@ use Rattle.col_core.specs.RegionOrder.{IsRegionOrder}
 use Rattle.col_core.proofs.CallerLemmas.{In, all_in, contains_in, in_contains, in_filter, in_filter-back, in_map, slice_in}
 use Rattle.playback.specs.Laws.{RegionOrderIsLawful}
 use Rattle.playback.specs.Merging.{AreRising, region_order, up_to}
+use Rattle.script_text.specs.declared.commands.What.{What}
 use Rattle.script_text.specs.declared.commands.What.TheVariants as whats
+use Rattle.log_node.specs.declared.forms.Pair.{Pair}
 use Rattle.script_text.specs.declared.script.Script.{Script}
 use Rattle.script_text.specs.Fitting.{IsFitting}
 use Rattle.script_text.specs.declared.script.Object.{Object}
-use Rattle.lawful_run.specs.Asks.{object_colours}
+use Rattle.lawful_run.specs.Asks.{Committing, object_colours}
+use Rattle.lawful_run.specs.Callers.{Caller, caller_of}
+use Rattle.lawful_run.specs.Deeds.{colours_synced, manner_of}
+use Rattle.object_fold.specs.Folds.{told_of}
+use Rattle.object_fold.specs.Nodes.{ObjectNode}
+use Rattle.object_form.specs.declared.tree_why.TreeWhy.{TreeWhy}
+use Rattle.tree_fold.specs.declared.told.Told.{Told}
+use Rattle.tree_fold.specs.Trees.{telling, told_under}
+use Rattle.column_track.specs.Tracks.{Tells}
+use Rattle.run_law.specs.NodeTables.{nodes_under}
+use Rattle.run_law.specs.Tenth.{stamped_nodes}
+use Rattle.run_law.specs.Thirteenth.{TellsChange}
 use Rattle.log_node.specs.declared.limits.TheConstants.{MAX_COLOURS}
 use Rattle.column_track.specs.Tracks.{Tracked}
 use Rattle.run_rules.specs.Rules.{IsLawfulColumn}
 use Rattle.run_rules.specs.Telling.{journal_among, no_nodes}
 use Rattle.run_law.specs.Asking.{AreLow, all_of}
 use Rattle.run_law.specs.KeysRead.{whole_lines, whole_order}
-use Rattle.run_law.specs.TreePlays.{AreKeysOf, tree_colours}
+use Rattle.run_law.specs.TreePlays.{AreKeysOf, AreTrees, IsTreePlay, SyncsWhole, told_each, tree_colours}
 use Rattle.run_law.specs.Walking.{MayWalk, Walked, journal_walked, log_walked}
 use Rattle.run_law.proofs.FirstLemmas.{low_objects}
 use Rattle.run_law.proofs.LeftLemmas.{by_place, journal_is}
@@ -101,3 +119,94 @@ used_low script fits object own is = subst AreLow (sym is) (by (slice_get script
   by (Some o) e =
       All-contains (λ (x : Object). AreLow (object_colours (Some x.kind))) script.objects o (low_objects script fits)
       (contains_in script.objects o (slice_in script.objects object o e))
+
+-- THE TREES OF ALL OBJECTS
+
+module _ (walked : Walked) (table : List (List Node)) (region : ℕ) where
+  -- there are those of so many objects
+  pub record ArePlays (plays : List TreePlay) (count : ℕ) : Type 0 where
+    pub many : length plays ≡ count
+    pub each : (object : ℕ) (p : TreePlay) → slice_get plays object ≡ Some p
+        → IsTreePlay walked table region (tree_colours walked.script object) p
+
+  pub no_plays : (plays : List TreePlay) → plays ≡ [] → ArePlays plays 0
+  no_plays plays none =
+      subst (λ (l : List TreePlay). ArePlays l 0) (sym none) (record {
+        many = refl;
+        each = λ object p at.
+            absurd (let f : ⊥ = cc (at) in f);
+      })
+
+  pub plays_more : (old new : List TreePlay) (count : ℕ) (p : TreePlay) → new ≡ old ++ p ∷ [] → ArePlays old count
+      → IsTreePlay walked table region (tree_colours walked.script count) p → ArePlays new (count + 1)
+  plays_more old new count p more so is =
+      subst (λ (l : List TreePlay). ArePlays l (count + 1)) (sym more) (record {
+        many = length-append old (p ∷ []) ∙ ap (λ (n : ℕ). n + 1) so.many;
+        each = λ object q at. by object q (longer_cases old p q object at);
+      }) where
+        by : (object : ℕ) (q : TreePlay) → (slice_get old object ≡ Some q) ⊎ ((object ≡ length old) × (q ≡ p))
+            → IsTreePlay walked table region (tree_colours walked.script object) q
+        by object q (inl here) = so.each object q here
+        by object q (inr last) =
+            subst (λ (n : ℕ). IsTreePlay walked table region (tree_colours walked.script n) q) (sym (last.0 ∙ so.many))
+            (subst (IsTreePlay walked table region (tree_colours walked.script count)) (sym last.1) is)
+
+  pub plays_all : (plays : List TreePlay) (count : ℕ) → count ≡ 256 → ArePlays plays count → AreTrees walked table region plays
+  plays_all plays count all so = record { many = so.many ∙ all; each = so.each }
+
+-- COMMANDS THAT SYNC ALL COLOURS OF AN OBJECT
+
+pub synced_whole : (what : What) (object : ℕ)
+    → ((x : List (List ℕ)) × (what ≡ whats.Read object x)) ⊎ (((x : List Pair) × (what ≡ whats.Commit object x))
+    ⊎ (((x : List ℕ) × (y : List ℕ) × (what ≡ whats.Mk object x y)) ⊎ (((x : List ℕ) × (what ≡ whats.Rm object x))
+    ⊎ (((x : List ℕ) × (y : List ℕ) × (what ≡ whats.Mv object x y)) ⊎ ((x : List ℕ) × (what ≡ whats.Ls object x))))))
+    → SyncsWhole what (Some object)
+unfolding all_of
+synced_whole what object (inl a) = λ script client. ap (colours_synced (caller_of script client)) a.1
+synced_whole what object (inr (inl a)) = λ script client. ap (colours_synced (caller_of script client)) a.1
+synced_whole what object (inr (inr (inl a))) = λ script client. ap (colours_synced (caller_of script client)) a.2
+synced_whole what object (inr (inr (inr (inl a)))) = λ script client. ap (colours_synced (caller_of script client)) a.1
+synced_whole what object (inr (inr (inr (inr (inl a))))) = λ script client. ap (colours_synced (caller_of script client)) a.2
+synced_whole what object (inr (inr (inr (inr (inr a))))) = λ script client. ap (colours_synced (caller_of script client)) a.1
+
+pub none_commits : (what : What) → ((o : ℕ) (x : List Pair) → what ≡ whats.Commit o x → ⊥)
+    → ((o : ℕ) (x y : List ℕ) → what ≡ whats.Mk o x y → ⊥) → ((o : ℕ) (x : List ℕ) → what ≡ whats.Rm o x → ⊥)
+    → ((o : ℕ) (x y : List ℕ) → what ≡ whats.Mv o x y → ⊥) → manner_of what ≡ Committing → ⊥
+none_commits (whats.Commit o x) a b c d m = a o x refl
+none_commits (whats.Mk o x y) a b c d m = b o x y refl
+none_commits (whats.Rm o x) a b c d m = c o x refl
+none_commits (whats.Mv o x y) a b c d m = d o x y refl
+none_commits _ a b c d m = let no : ⊥ = cc (m) in no
+
+-- what a change is told by the tree of its object
+module _ (walked : Walked) (table : List (List Node)) (client : ℕ) (what : What) (object : ℕ) (plays : List TreePlay)
+    (are : AreTrees walked table (caller_of walked.script client).own plays) (p : TreePlay)
+    (at : slice_get plays object ≡ Some p) where
+  abbrev it : Caller
+  it = caller_of walked.script client
+
+  play : IsTreePlay walked table it.own (tree_colours walked.script object) p
+  play = are.each object p at
+
+  pub play_rises : AreRising p.keys.items
+  play_rises = play.keys.rising
+
+  pub play_long : length p.told.items ≡ length p.keys.items
+  play_long =
+      ap length play.told
+      ∙ length-map p.keys.items (told_of telling (nodes_under table p.keys.items))
+
+  pub nodes_to : SyncsWhole what (Some object) → (stamp : ℕ) → stamp < 2 ^ 64
+      → nodes_under table (up_to stamp p.keys.items) ≡ stamped_nodes walked table it.own (colours_synced it what) stamp
+  nodes_to whole stamp small =
+      ap (nodes_under table) (play.keys.begun stamp small)
+      ∙ ap (λ (cs : List ℕ). stamped_nodes walked table it.own cs stamp) (sym (whole walked.script client))
+
+  pub change_told : SyncsWhole what (Some object) → (failed : Option TreeWhy) (stamp : ℕ) (own : Key) (read_stamp : ℕ) → read_stamp < 2 ^ 64
+      → (told : Option Told)
+      → ((t : List (List Node)) → p.told.items ≡ told_each t p.keys.items
+      → told ≡ told_of telling (nodes_under t (up_to read_stamp p.keys.items)) own)
+      → (b : Bool) → Tells b (told ≡ Some (told_under stamp failed)) → Tells b (TellsChange walked table it what failed stamp own read_stamp)
+  change_told whole failed stamp own read_stamp small told by b so =
+      subst (λ (t : Option Told). Tells b (t ≡ Some (told_under stamp failed)))
+      (by table play.told ∙ ap (λ (ns : List ObjectNode). told_of telling ns own) (nodes_to whole read_stamp small)) so

@@ -1,5 +1,5 @@
 -- Trees that are played for what they tell of changes and for the names in their paths.
-use Rattle.std.specs.Prelude.{◌≡◌, false, ℕ, ◌^◌, ◌<◌, List, [], ◌∷◌, map, Option, Some, None, slice_get}
+use Rattle.std.specs.Prelude.{◌≡◌, false, ℕ, ◌^◌, ◌<◌, ◌≢◌, List, [], ◌∷◌, length, map, Option, Some, None, slice_get}
 use Rattle.std.specs.List.{Contains}
 use Rattle.std.specs.Option.{option_map}
 use Rattle.log_node.specs.declared.ids.Key.{Key}
@@ -13,7 +13,10 @@ use Rattle.tree_fold.specs.TreeStates.{IsTree}
 use Rattle.playback.specs.Merging.{AreRising, region_order, up_to}
 use Rattle.script_text.specs.declared.script.Object.{Object}
 use Rattle.script_text.specs.declared.script.Script.{Script}
-use Rattle.lawful_run.specs.Asks.{object_colours}
+use Rattle.script_text.specs.declared.commands.What.{What}
+use Rattle.lawful_run.specs.Asks.{Committing, object_colours}
+use Rattle.lawful_run.specs.Callers.{caller_of}
+use Rattle.lawful_run.specs.Deeds.{colours_synced, manner_of}
 use Rattle.run_law.specs.Asking.{all_of}
 use Rattle.run_law.specs.declared.tree_play.TreePlay.{TreePlay}
 use Rattle.run_law.specs.KeysRead.{whole_lines}
@@ -50,3 +53,15 @@ pub record IsTreePlay (walked : Walked) (table : List (List Node)) (region : ℕ
 abbrev pub tree_colours : Script → ℕ → List ℕ
 tree_colours script object =
     all_of (object_colours (option_map (λ (o : Object). o.kind) (slice_get script.objects object)))
+
+-- of each object by its number
+pub record AreTrees (walked : Walked) (table : List (List Node)) (region : ℕ) (plays : List TreePlay) : Type 0 where
+  pub many : length plays ≡ 256
+  pub each : (object : ℕ) (p : TreePlay) → slice_get plays object ≡ Some p
+      → IsTreePlay walked table region (tree_colours walked.script object) p
+
+-- the command syncs all colours of this object; or of none, and commits nothing
+abbrev pub SyncsWhole : What → Option ℕ → Type 0
+SyncsWhole what None = manner_of what ≢ Committing
+SyncsWhole what (Some object) =
+    (script : Script) (client : ℕ) → colours_synced (caller_of script client) what ≡ tree_colours script object

@@ -55,6 +55,7 @@ mod texts;
 mod third;
 mod tree_play;
 mod tree_told;
+mod trees;
 mod turn;
 mod walking;
 mod writers;
