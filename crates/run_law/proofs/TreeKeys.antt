@@ -1,12 +1,17 @@
 -- The keys of a tree's nodes in a region, and their colours.
-use Rattle.std.proofs.Common.{◌≡◌, ◌⊎◌, ◌∙◌, inl, inr, ap, refl, sym, subst, ℕ, ◌+◌, ◌-◌, ◌^◌, ◌<◌, ◌≤◌, List, [], ◌∷◌, ◌++◌, arith, length, take}
-use Rattle.std.specs.Prelude.{Bool, IsTrue, Option, Some, None, nat_le, slice_get}
+use Rattle.std.proofs.Common.{◌≡◌, ◌⊎◌, ◌∙◌, inl, inr, ap, refl, sym, subst, ℕ, ◌+◌, ◌-◌, ◌^◌, ◌<◌, ◌≤◌, List, [], ◌∷◌, ◌++◌, arith, get_or, length, take}
+use Rattle.std.specs.Prelude.{Bool, IsTrue, Option, Some, None, nat_le, slice_get, ◌≢◌}
 use Rattle.std.specs.List.{All, Contains}
 use Rattle.std.specs.Option.{option_map}
-use Rattle.std.proofs.lemmas.Bool.{le-leb, leb-true}
+use Rattle.std.proofs.lemmas.Bool.{cases_eq, le-leb, leb-true}
 use Rattle.std.proofs.lemmas.List.Elements.{All-contains, All-nil}
 use Rattle.std.proofs.lemmas.List.{length-append, length-map}
-use Rattle.std.proofs.lemmas.Option.{slice_get_within}
+use Rattle.std.proofs.lemmas.Option.{get_or_from_slice_get, slice_get-get_or, slice_get_within}
+use lib.Seq.{get_or-set_other, get_or-set_same}
+use lib.ListN.{length-set, set}
+use Rattle.lawful_run.specs.Explains.{ShowsNames}
+use Rattle.tree_fold.specs.TreeStates.{IsTree}
+use Rattle.run_law.specs.ObjectPlays.{HoldsKeys}
 use Rattle.log_node.specs.declared.node.Node.{Node}
 use Rattle.run_law.specs.declared.tree_play.TreePlay.{TreePlay}
 use Rattle.run_law.proofs.SubjectLemmas.{longer_cases}
@@ -39,7 +44,7 @@ use Rattle.tree_fold.specs.Trees.{telling, told_under}
 use Rattle.column_track.specs.Tracks.{Tells}
 use Rattle.run_law.specs.NodeTables.{nodes_under}
 use Rattle.run_law.specs.Tenth.{stamped_nodes}
-use Rattle.run_law.specs.Thirteenth.{TellsChange}
+use Rattle.run_law.specs.Thirteenth.{ListsNames, OfPathAsked, TellsChange}
 use Rattle.log_node.specs.declared.limits.TheConstants.{MAX_COLOURS}
 use Rattle.column_track.specs.Tracks.{Tracked}
 use Rattle.run_rules.specs.Rules.{IsLawfulColumn}
@@ -210,3 +215,49 @@ module _ (walked : Walked) (table : List (List Node)) (client : ℕ) (what : Wha
   change_told whole failed stamp own read_stamp small told by b so =
       subst (λ (t : Option Told). Tells b (t ≡ Some (told_under stamp failed)))
       (by table play.told ∙ ap (λ (ns : List ObjectNode). told_of telling ns own) (nodes_to whole read_stamp small)) so
+
+  -- names in a path
+  pub names_listed : (path : List ℕ) (names : Option (List (List ℕ))) (stamp : ℕ) → stamp < 2 ^ 64 → what ≡ whats.Ls object path
+      → (b : Bool) → Tells b (ShowsNames path names (nodes_under table (up_to stamp p.keys.items)))
+      → Tells b (ListsNames walked table it what names stamp)
+  names_listed path names stamp small is b told =
+      subst (λ (w : What). Tells b (OfPathAsked w (λ text. ShowsNames text names (stamped_nodes walked table it.own (colours_synced it what) stamp))))
+      (sym is)
+      (subst (λ (ns : List ObjectNode). Tells b (ShowsNames path names ns))
+      (nodes_to (synced_whole what object (inr (inr (inr (inr (inr (path, is))))))) stamp small) told)
+
+  -- with one tree in the place of another, all are there
+  pub trees_set : (q : TreePlay) → q.keys.items ≡ p.keys.items → q.told.items ≡ p.told.items
+      → HoldsKeys IsTree table q.keys.items q.play → AreTrees walked table it.own (set plays object q)
+  trees_set q keys told holds = record {
+    many = length-set plays object q ∙ are.many;
+    each = λ other x there. by other x there (cases_eq other object);
+  } where
+    new : IsTreePlay walked table it.own (tree_colours walked.script object) q
+    new = record {
+      keys = subst (AreKeysOf walked it.own (tree_colours walked.script object)) (sym keys) play.keys;
+      told = told ∙ (play.told ∙ ap (told_each table) (sym keys));
+      holds = holds;
+    }
+
+    by : (other : ℕ) (x : TreePlay) → slice_get (set plays object q) other ≡ Some x → (other ≡ object) ⊎ (other ≢ object)
+        → IsTreePlay walked table it.own (tree_colours walked.script other) x
+    by other x there (inl e) =
+        let lt = slice_get_within plays object p at in
+        let is : x ≡ q =
+        sym (get_or_from_slice_get (set plays object q) object x x (ap (slice_get (set plays object q)) (sym e) ∙ there))
+        ∙ get_or-set_same plays object q x lt in
+        subst (λ (n : ℕ). IsTreePlay walked table it.own (tree_colours walked.script n) x) (sym e)
+        (subst (IsTreePlay walked table it.own (tree_colours walked.script object)) (sym is) new)
+    by other x there (inr apart) =
+        let long = length-set plays object q in
+        let lt = slice_get_within (set plays object q) other x there in
+        are.each other x
+        (slice_get-get_or plays other x (omega (arith, lt, long))
+        ∙ ap (λ (y : TreePlay). Some y)
+        (sym (get_or-set_other plays object other q x apart)
+        ∙ get_or_from_slice_get (set plays object q) other x x there))
+
+pub there_is : (plays : List TreePlay) (object : ℕ) (p : TreePlay) → object < length plays → p ≡ get_or plays object p
+    → slice_get plays object ≡ Some p
+there_is plays object p lt is = slice_get-get_or plays object p lt ∙ ap (λ (x : TreePlay). Some x) (sym is)

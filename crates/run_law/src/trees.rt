@@ -89,8 +89,7 @@ fn tells_change(
 ) -> bool
     requires client { client < length subject.now.report.clients }
     requires trees { AreTrees subject.now nodes.now (caller_of subject.now.script client).own plays.now }
-    requires committing { manner_of what.now ≡ Committing }
-    ensures { (kept : Kept) → IsCounted (replies_to subject.now.report client) kept keeping.now
+    ensures { manner_of what.now ≡ Committing → (kept : Kept) → IsCounted (replies_to subject.now.report client) kept keeping.now
         → Tells result (TellsChange subject.now nodes.now (caller_of subject.now.script client) what.now failed stamp
         (own_key (caller_of subject.now.script client) kept own_stamp) read_stamp) }
 {
@@ -104,5 +103,32 @@ fn tells_change(
             None => false,
         },
         None => false,
+    }
+}
+
+// Whether the tree has these names in the path for which a command asks, or no such path.
+fn lists_names(
+    alloc: Global,
+    subject: &Subject<'_>,
+    nodes: &NodeTable,
+    plays: &mut Vec<TreePlay>,
+    client: u8,
+    what: &What,
+    names: &Option<Names>,
+    stamp: u64,
+) -> Result<bool, AllocError>
+    requires client { client < length subject.now.report.clients }
+    requires trees { AreTrees subject.now nodes.now (caller_of subject.now.script client).own plays.old.items }
+    ensures so { IfOk result (λ b. Tells b
+        (ListsNames subject.now nodes.now (caller_of subject.now.script client) what.now names.now stamp)) }
+    ensures trees { OnOk result
+        (AreTrees subject.now nodes.now (caller_of subject.now.script client).own plays.new.items) }
+{
+    match what {
+        What::Ls { object, path } => {
+            let right = plays[*object as usize].has_names(alloc, nodes, path, names, stamp)?;
+            Ok(right)
+        }
+        _ => Ok(false),
     }
 }
