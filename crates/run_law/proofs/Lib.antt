@@ -41,6 +41,7 @@ mod MadeLemmas
 mod Members
 mod MovingLemmas
 mod NamedColours
+mod NamesTold
 mod NextNodes
 mod NextRows
 mod NinthLaws
@@ -87,7 +88,10 @@ mod SubjectLemmas
 mod TableLemmas
 mod TenthLaws
 mod ThirdLemmas
+mod ThirteenthLaws
 mod ToldLemmas
+mod ToldOfLemmas
+mod TreeKeys
 mod TwelfthLaws
 mod UsedIds
 mod WalkLemmas

@@ -138,7 +138,7 @@ stamp_ids log caller k l e (Some number) points =
     ap (λ (count : ℕ). final_number (last_of (find (λ (r : BegunRow). same_id (record { client = caller.client; count = count }) r.node.id)
     (log.rows caller.own)))) e
 
-own_same : (report : Report) (x y : ℕ → List Node) (caller : Caller) (k l : Kept) → k.ids ≡ l.ids → (row : Option ℕ)
+pub own_same : (report : Report) (x y : ℕ → List Node) (caller : Caller) (k l : Kept) → k.ids ≡ l.ids → (row : Option ℕ)
     (points : List PointPiece)
     → own_key caller k (stamp_told (log_of report x) caller k row points) ≡ own_key caller l (stamp_told (log_of report y) caller l row points)
 own_same report x y caller k l e row points =

@@ -42,5 +42,7 @@ pub mod Tables
 pub mod Tenth
 pub mod TextsSaid
 pub mod Third
+pub mod Thirteenth
+pub mod TreePlays
 pub mod Twelfth
 pub mod Walking

@@ -6,6 +6,7 @@ ghost use Rattle.run_law.specs.Judging.{JudgedIsLawful, RulesAllStand, RulesAreA
 ghost use Rattle.run_law.specs.Ninth.{NinthIsShown};
 ghost use Rattle.run_law.specs.Showing.{FourteenthIsDecided, ShowingIsFound};
 ghost use Rattle.run_law.specs.Tenth.{ShownFindsAreRight, TenthIsRight};
+ghost use Rattle.run_law.specs.Thirteenth.{ThirteenthIsSaid};
 ghost use Rattle.run_law.specs.Twelfth.{TwelfthIsBare};
 
 use col_core::region_order_is_unique;
@@ -140,6 +141,17 @@ pub fn fourteenth_is_of_parts()
     finds_tell();
     computed_account_agrees();
     computed_finds_decide();
+    region_order_is_lawful();
+    region_order_is_unique();
+    read_items_last();
+}
+
+/// The thirteenth rule holds there where trees say what each step shows of them by the nodes of that account.
+pub fn thirteenth_is_said()
+    ensures { ThirteenthIsSaid }
+{
+    finds_tell();
+    computed_account_agrees();
     region_order_is_lawful();
     region_order_is_unique();
     read_items_last();

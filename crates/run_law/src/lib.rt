@@ -39,6 +39,7 @@ mod naming;
 mod ninth;
 mod node_said;
 mod node_table;
+mod node_table;
 mod node_told;
 mod object_colours;
 mod opens;
@@ -64,10 +65,10 @@ mod scanning;
 mod seventh;
 mod several_plays;
 mod shard_plays;
-mod showing;
-mod shown_parts;
 mod shard_plays;
 mod showing;
+mod showing;
+mod shown_parts;
 mod shown_texts;
 mod sixth;
 mod step_table;
@@ -76,6 +77,9 @@ mod synced;
 mod texts;
 mod texts_written;
 mod third;
+mod tree_play;
+mod tree_told;
+mod trees;
 mod turn;
 mod twelfth;
 mod tx_plays;
@@ -91,8 +95,10 @@ pub use judged::Judged;
 pub use judging::least_of_nine;
 pub use keeping::Keeping;
 pub use laws::{
-    eleventh_is_causes, fifth_is_entering, fourteenth_is_decided, judged_is_lawful, ninth_is_shown,
-    rules_are_asked, rules_stand, showing_is_found, twelfth_is_bare,
+    eleventh_is_causes, eleventh_is_causes, fifth_is_entering, fifth_is_entering,
+    fourteenth_is_decided, fourteenth_is_decided, judged_is_lawful, ninth_is_shown, ninth_is_shown,
+    rules_are_asked, rules_stand, showing_is_found, showing_is_found, thirteenth_is_said,
+    twelfth_is_bare, twelfth_is_bare,
 };
 pub use left_open::keeps_eighth;
 pub use ninth::keeps_ninth;
