@@ -48,11 +48,7 @@ fn colours_used(script: &Script, object: u8) -> &[u8]
 }
 
 // The colours of an object in rising number.
-fn tree_colours(
-    alloc: Global,
-    subject: &Subject<'_>,
-    object: u8,
-) -> Result<ColourList, AllocError>
+fn tree_colours(alloc: Global, subject: &Subject<'_>, object: u8) -> Result<ColourList, AllocError>
     ensures { IfOk result (λ colours. colours ≡ tree_colours subject.now.script object) }
 {
     subject.agrees();
@@ -188,8 +184,7 @@ impl TreePlay {
             return Ok(false);
         };
         let count = count_up_to(self.keys.as_slice(), stamp);
-        self.play
-            .go_to(alloc, nodes, self.keys.as_slice(), count)?;
+        self.play.go_to(alloc, nodes, self.keys.as_slice(), count)?;
         let found = self.play.fold.names(alloc, &path)?;
         Ok(same_names(names, &found))
     }
