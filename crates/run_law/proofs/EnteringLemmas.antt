@@ -108,7 +108,7 @@ abbrev pub IsPlain : Answer → Type 0
 IsPlain answer = (commits : Bool) (stamp : ℕ) (sync : SyncPiece) (read_stamp : ℕ) (raises : List RaisePiece) (syncs : List SyncPiece)
     (ended : Ended) → answer ≡ answers.Decided commits stamp sync read_stamp raises syncs ended → ⊥
 
-appending_same : (log : Log) (caller : Caller) (kept : Kept) (answer : Answer) → IsPlain answer
+pub appending_same : (log : Log) (caller : Caller) (kept : Kept) (answer : Answer) → IsPlain answer
     → kept_appending log caller kept answer ≡ kept
 appending_same log caller kept (answers.Decided commits stamp sync read_stamp raises syncs ended) plain =
     absurd (plain commits stamp sync read_stamp raises syncs ended refl)

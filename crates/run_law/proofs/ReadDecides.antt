@@ -17,9 +17,10 @@ use Rattle.col_core.specs.Keeping.{Kept}
 use Rattle.col_core.specs.Laws.{RegionOrderIsUnique}
 use Rattle.col_core.specs.Legal.{IsColumnHistory}
 use Rattle.col_core.specs.Log.{Log}
+use Rattle.col_core.specs.RegionOrder.{IsRegionOrder}
 use Rattle.col_core.proofs.CallerLemmas.{In, contains_in, in_contains, in_map, in_take}
 use Rattle.playback.specs.Laws.{RegionOrderIsLawful}
-use Rattle.playback.specs.Merging.{AreRising, up_to}
+use Rattle.playback.specs.Merging.{AreRising, region_order, up_to}
 use Rattle.script_text.specs.declared.script.Script.{Script}
 use Rattle.script_text.proofs.CallerLemmas.{regions_few}
 use Rattle.report_text.specs.declared.report.PointPiece.{PointPiece}
@@ -38,7 +39,7 @@ use Rattle.run_law.specs.KeysRead.{whole_lines, whole_order}
 use Rattle.run_law.specs.NodeTables.{node_in, nodes_at, nodes_under}
 use Rattle.run_law.specs.ReadNodes.{AreNodesPlayed, AreNodesRead, HasTable, PlayingDecides, ReadingDecides, TakingDecides, first_nodes, ordered_nodes}
 use Rattle.run_law.proofs.LineOrder.{line_rising}
-use Rattle.run_law.proofs.ReadsWhole.{played_begin, reads_begin}
+use Rattle.run_law.proofs.ReadsWhole.{keys_ordered, played_begin, reads_begin}
 
 -- THE NODES OF KEYS
 
@@ -123,16 +124,46 @@ module _ (script : Script) (report : Report) (a : Account) (table : List (List N
           (in_contains (whole_lines a.log region colours) l c) in
           subst AreRising m.2 (line_rising region script.shape.regions (a.log.histories region m.0) (lawful region m.0 (low, below m.0 m.1)))
 
-      -- the first in the order have their nodes
+      -- the keys in their order up to a stamp have their nodes
+      order_stands : (stamp : ℕ) (keys : List Key) → IsRegionOrder (whole_lines a.log region colours) stamp keys
+          → (k : Key) → In k keys → IsThere a.log k
+      order_stands stamp keys o k i =
+          let of = o.no_other k (contains_in keys k i) in
+          let m = in_map (λ c. line (a.log.histories region c)) colours of.1 (in_contains (whole_lines a.log region colours) of.1 of.2) in
+          stands region m.0 (low, below m.0 m.1) k (subst (λ (ks : List Key). In k ks) (sym m.2) (in_contains of.1 k of.3))
+
+      -- the first in the order have theirs
       ordered_stand : (count : ℕ)
           → AreObjectNodes a.log (take count (whole_order a.log region colours)) (ordered_nodes a table region colours count)
       ordered_stand count =
           nodes_there a.log table has.nodes (take count (whole_order a.log region colours))
-          (λ k i.
-          let o = ordered (2 ^ 64 - 1) (whole_lines a.log region colours) rising in
-          let of = o.no_other k (contains_in (whole_order a.log region colours) k (in_take count (whole_order a.log region colours) k i)) in
-          let m = in_map (λ c. line (a.log.histories region c)) colours of.1 (in_contains (whole_lines a.log region colours) of.1 of.2) in
-          stands region m.0 (low, below m.0 m.1) k (subst (λ (ks : List Key). In k ks) (sym m.2) (in_contains of.1 k of.3)))
+          (λ k i. order_stands (2 ^ 64 - 1) (whole_order a.log region colours)
+          (ordered (2 ^ 64 - 1) (whole_lines a.log region colours) rising) k (in_take count (whole_order a.log region colours) k i))
+
+    -- the nodes of a stamped read are those of the whole lines up to its stamp
+    pub stamped : (client : ℕ) → client < length script.shape.homes
+        → (kept : Kept) (colours : List ℕ) (stamp : ℕ) (raises : List RaisePiece) (syncs : List SyncPiece) (after : Kept)
+        → All (λ colour. colour < script.shape.colours) colours
+        → ReadsAt a.log (caller_of script client) kept colours stamp raises syncs after
+        → AreNodesRead a.log (caller_of script client) stamp syncs
+        (nodes_under table (region_order stamp (whole_lines a.log (caller_of script client).own colours)))
+    stamped client is kept colours stamp raises syncs after within reads =
+        let caller = caller_of script client in
+        let low = home client is in
+        let keys = region_order stamp (whole_lines a.log caller.own colours) in
+        let order = ordered stamp (whole_lines a.log caller.own colours) (rising caller.own low colours within) in
+        let are = keys_ordered a.log caller stamp ordered last colours
+        (λ colour i. lawful caller.own colour (low, below caller.own low colours within colour i)) kept raises syncs after keys
+        reads order in
+        let nodes = nodes_there a.log table has.nodes keys (order_stands caller.own low colours within stamp keys order) in record {
+          keys = keys;
+          are_keys = are;
+          are_nodes = nodes;
+          only = λ ks others k o.
+              let one = unique (lines_read a.log caller syncs) stamp ks keys k are in
+              same_nodes a.log keys others (nodes_under table keys)
+              (subst (λ (l : List Key). AreObjectNodes a.log l others) one o) nodes;
+        }
 
     reading : (client : ℕ) → client < length script.shape.homes
         → (kept : Kept) (colours : List ℕ) (stamp : ℕ) (raises : List RaisePiece) (syncs : List SyncPiece) (after : Kept) (count : ℕ)

@@ -200,46 +200,66 @@ module _ (log : Log) (caller : Caller) (stamp : ℕ) where
         (in_contains (whole_lines log caller.own colours) l c) in
         subst AreRising m.2 (line_rising caller.own caller.regions (log.histories caller.own m.0) (lawful m.0 m.1))
 
-    -- the beginning of the order up to the stamp is what a stamped read of the colours goes over
-    pub keys_begin : (kept : Kept) (raises : List RaisePiece) (syncs : List SyncPiece) (after : Kept) (n : ℕ)
-        → stamp ≤ 2 ^ 64 - 1 → ReadsAt log caller kept colours stamp raises syncs after
-        → take n (whole_order log caller.own colours) ≡ up_to stamp (whole_order log caller.own colours)
-        → AreKeysRead log caller stamp syncs (take n (whole_order log caller.own colours))
-    keys_begin kept raises syncs after n low r same =
-        let order = whole_order log caller.own colours in
-        let o = ordered (2 ^ 64 - 1) (whole_lines log caller.own colours) rising in record {
-          rising = subst AreRising (sym same) (AllPairs-filter (λ (a b : Key). IsTrue (key_below a b)) (λ (x : Key). nat_le x.stamp stamp) order o.rising);
+    -- what is in the order of the region up to the stamp is what a stamped read of the colours goes over
+    pub keys_ordered : (kept : Kept) (raises : List RaisePiece) (syncs : List SyncPiece) (after : Kept) (keys : List Key)
+        → ReadsAt log caller kept colours stamp raises syncs after
+        → IsRegionOrder (whole_lines log caller.own colours) stamp keys → AreKeysRead log caller stamp syncs keys
+    keys_ordered kept raises syncs after keys r o =
+        record {
+          rising = o.rising;
           all = λ l key has inside le.
               let m = in_map looked syncs l (in_contains (lines_read log caller syncs) l has) in
               let k = among m.0 m.1 in
               let here = stays m.0.colour m.0.events k key (subst (λ (ks : List Key). In key ks) (sym m.2) (in_contains l key inside)) in
-              let whole = o.all (line (log.histories caller.own m.0.colour)) key
+              o.all (line (log.histories caller.own m.0.colour)) key
               (contains_in (whole_lines log caller.own colours) _ (in_map-back (λ c. line (log.histories caller.own c)) colours m.0.colour k))
-              (contains_in _ key here) (omega (arith, le, low)) in
-              contains_in (take n order) key
-              (subst (λ (ks : List Key). In key ks) (sym same)
-              (in_filter-back (λ (x : Key). nat_le x.stamp stamp) key order (in_contains order key whole) (le-leb key.stamp stamp le)));
+              (contains_in _ key here) le;
           no_other = λ key has.
-              let i = subst (λ (ks : List Key). In key ks) same (in_contains (take n order) key has) in
-              let f = in_filter (λ (x : Key). nat_le x.stamp stamp) key order i in
-              let le = leb-true key.stamp stamp f.1 in
-              let of = o.no_other key (contains_in order key f.0) in
+              let of = o.no_other key has in
               let m = in_map (λ c. line (log.histories caller.own c)) colours of.1 (in_contains _ of.1 of.2) in
               let s = in_map (λ (x : SyncPiece). x.colour) syncs m.0 (subst (λ (l : List ℕ). In m.0 l) (sym r.synced_colours) m.1) in
               let h = log.histories caller.own s.0.colour in
               let clear = clear_syncs kept colours raises syncs after r s.0 s.1 in
               let here = last caller.own caller.regions (take s.0.events h) (drop s.0.events h) stamp
-              (parted s.0.colour s.0.events (among s.0 s.1)) clear.0 clear.1 key le
+              (parted s.0.colour s.0.events (among s.0 s.1)) clear.0 clear.1 key of.0
               (subst (λ (es : List Entry). Contains (line es) key) (sym (take-append-drop s.0.events h))
               (subst (λ (c : ℕ). Contains (line (log.histories caller.own c)) key) (sym s.2)
               (subst (λ (ks : List Key). Contains ks key) (sym m.2) of.3))) in
-              (le, looked s.0, contains_in (lines_read log caller syncs) (looked s.0) (in_map-back looked syncs s.0 s.1), here);
+              (of.0, looked s.0, contains_in (lines_read log caller syncs) (looked s.0) (in_map-back looked syncs s.0 s.1), here);
         } where
           looked : SyncPiece → List Key
           looked s = line (take s.events (log.histories caller.own s.colour))
 
           among : (s : SyncPiece) → In s syncs → In s.colour colours
           among s i = subst (λ (l : List ℕ). In s.colour l) r.synced_colours (in_map-back (λ (x : SyncPiece). x.colour) syncs s i)
+
+    -- the beginning of the whole order up to the stamp is in that order
+    pub order_begins : (n : ℕ) → stamp ≤ 2 ^ 64 - 1
+        → take n (whole_order log caller.own colours) ≡ up_to stamp (whole_order log caller.own colours)
+        → IsRegionOrder (whole_lines log caller.own colours) stamp (take n (whole_order log caller.own colours))
+    order_begins n low same =
+        let order = whole_order log caller.own colours in
+        let o = ordered (2 ^ 64 - 1) (whole_lines log caller.own colours) rising in record {
+          rising = subst AreRising (sym same) (AllPairs-filter (λ (a b : Key). IsTrue (key_below a b)) (λ (x : Key). nat_le x.stamp stamp) order o.rising);
+          all = λ l key has inside le.
+              let whole = o.all l key has inside (omega (arith, le, low)) in
+              contains_in (take n order) key
+              (subst (λ (ks : List Key). In key ks) (sym same)
+              (in_filter-back (λ (x : Key). nat_le x.stamp stamp) key order (in_contains order key whole) (le-leb key.stamp stamp le)));
+          no_other = λ key has.
+              let i = subst (λ (ks : List Key). In key ks) same (in_contains (take n order) key has) in
+              let f = in_filter (λ (x : Key). nat_le x.stamp stamp) key order i in
+              let of = o.no_other key (contains_in order key f.0) in
+              (leb-true key.stamp stamp f.1, of.1, of.2, of.3);
+        }
+
+    -- so it is what a stamped read of the colours goes over
+    pub keys_begin : (kept : Kept) (raises : List RaisePiece) (syncs : List SyncPiece) (after : Kept) (n : ℕ)
+        → stamp ≤ 2 ^ 64 - 1 → ReadsAt log caller kept colours stamp raises syncs after
+        → take n (whole_order log caller.own colours) ≡ up_to stamp (whole_order log caller.own colours)
+        → AreKeysRead log caller stamp syncs (take n (whole_order log caller.own colours))
+    keys_begin kept raises syncs after n low r same =
+        keys_ordered kept raises syncs after (take n (whole_order log caller.own colours)) r (order_begins n low same)
 
 pub reads_begin : RegionOrderIsLawful → ReadItemsLast → ReadsBegin
 reads_begin ordered last log caller kept colours stamp raises syncs after n lawful low =

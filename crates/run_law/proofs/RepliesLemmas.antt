@@ -72,7 +72,7 @@ reads_by (OfObject object UsesUp) found reads = updated reads object None
 reads_by _ found reads = reads
 
 -- what is kept with what a reply tells of a read
-abbrev kept_found : Use → Option (List Version) → Kept → Kept
+abbrev pub kept_found : Use → Option (List Version) → Kept → Kept
 kept_found u None kept = kept
 kept_found u (Some found) kept = with_found u found kept
 
@@ -91,7 +91,7 @@ twice reads object found n = by (n == object) where
   by true = refl
   by false = refl
 
-chained : (u : Use) (found : Option (List Version)) (kept : Kept) (n : ℕ)
+pub chained : (u : Use) (found : Option (List Version)) (kept : Kept) (n : ℕ)
     → (behind_by u (kept_found u found (before_by u kept))).reads n ≡ reads_by u found kept.reads n
 chained (OfObject object Takes) None kept n = refl
 chained (OfObject object Takes) (Some found) kept n = twice kept.reads object (Some found) n
@@ -102,7 +102,7 @@ chained (OfObject object Leaves) (Some found) kept n = refl
 chained (OfLog stops) None kept n = refl
 chained (OfLog stops) (Some found) kept n = refl
 
-behind_reads : (u : Use) (a b : Kept) → a.reads ≡ b.reads → (behind_by u a).reads ≡ (behind_by u b).reads
+pub behind_reads : (u : Use) (a b : Kept) → a.reads ≡ b.reads → (behind_by u a).reads ≡ (behind_by u b).reads
 behind_reads (OfObject object UsesUp) a b e = ap (λ (r : Reads). updated r object None) e
 behind_reads _ a b e = e
 

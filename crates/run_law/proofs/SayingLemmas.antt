@@ -144,7 +144,7 @@ module _ (report : Report) (caller : Caller) (kept now : Kept) (what : What) (sa
       (ap (λ (n : ℕ). shown_text report (record { client = caller.client; count = n })) same ∙ shown)
 
 -- as many ids, and the same reads
-record SameUses (a b : Kept) : Type 0 where
+pub record SameUses (a b : Kept) : Type 0 where
   pub ids : b.ids ≡ a.ids
   pub reads : b.reads ≡ a.reads
 
@@ -160,7 +160,7 @@ place_uses : (k : Kept) (region colour : ℕ) (at : At) → SameUses k (kept_aft
 place_uses k region colour (ats.Event place) = record { ids = refl; reads = refl }
 place_uses k region colour (ats.Look events) = record { ids = refl; reads = refl }
 
-deciding_uses : (log : Log) (caller : Caller) (k : Kept) (sync : SyncPiece) (stamp : ℕ) (raises : List RaisePiece)
+pub deciding_uses : (log : Log) (caller : Caller) (k : Kept) (sync : SyncPiece) (stamp : ℕ) (raises : List RaisePiece)
     (syncs : List SyncPiece) → SameUses k (kept_deciding log caller k sync stamp raises syncs)
 deciding_uses log caller k sync stamp raises syncs =
     let synced = kept_after_piece log caller k sync in
@@ -172,7 +172,7 @@ deciding_uses log caller k sync stamp raises syncs =
     let both = uses_then synced raised (kept_after_syncs log caller raised syncs) s t in
     record { ids = both.ids; reads = both.reads }
 
-found_same : (u : Use) (a b : Kept) → b.reads ≡ a.reads → found_by u b ≡ found_by u a
+pub found_same : (u : Use) (a b : Kept) → b.reads ≡ a.reads → found_by u b ≡ found_by u a
 found_same (OfObject object UsesUp) a b same = ap (λ (f : ℕ → Option (List Version)). f object) same
 found_same (OfObject object Leaves) a b same = refl
 found_same (OfObject object Takes) a b same = refl

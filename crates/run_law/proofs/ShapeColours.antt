@@ -38,7 +38,7 @@ use Rattle.run_rules.specs.Told.{colours_said, colours_asked}
 abbrev pub Below : ℕ → List ℕ → Type 0
 Below count colours = (c : ℕ) → In c colours → c < count
 
-below_all : (count : ℕ) (colours : List ℕ) → All (λ c. c < count) colours → Below count colours
+pub below_all : (count : ℕ) (colours : List ℕ) → All (λ c. c < count) colours → Below count colours
 below_all count colours all c i = All-contains (λ n. n < count) colours c all (contains_in colours c i)
 
 any_of : {A : Type 0} (test : A → Bool) (xs : List A) → list_any test xs ≡ true → (x : A) × In x xs × (test x ≡ true)
@@ -61,7 +61,7 @@ module _ (count : ℕ) (some : 0 < count) where
   NamesBelow (One colour) = colour < count
   NamesBelow _ = Unit {0}
 
-  rising_below : (own : List ℕ) → Below count own → Below count (rising own)
+  pub rising_below : (own : List ℕ) → Below count own → Below count (rising own)
   rising_below own b c i =
       let t = in_filter (λ (k : ℕ). list_any (λ (d : ℕ). d == k) own) c (range_with_len 0 MAX_COLOURS) i in
       let x = any_of (λ (d : ℕ). d == c) own t.1 in
@@ -190,6 +190,11 @@ module _ (script : Script) (fits : IsFitting script) (n : ℕ) where
     by : (u : Use) → Below colours (object_colours (kind_used it u))
     by (OfLog stops) = λ c i. absurd i
     by (OfObject object read) = own_below (kind_of_object it object) (kind_within object)
+
+  -- all colours of the object that a command names are, in rising number
+  pub whole_within : (what : What) → Below colours (rising (object_colours (kind_asked it what)))
+  whole_within what =
+      rising_below colours fits.shape.a_colour (object_colours (kind_asked it what)) (asked_below what)
 
   -- and so is the shard of a key of an object
   pub shards_within : (object : ℕ) (key : List ℕ) → shard_of (object_colours (kind_of_object it object)) key < colours

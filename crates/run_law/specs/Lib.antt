@@ -1,11 +1,15 @@
+pub mod AmongMaps
 pub mod Answered
 pub mod Asking
 pub mod Bases
 pub mod Behind
 pub mod Columns
+pub mod Drafts
 pub mod Eleventh
 pub mod Fifth
+pub mod Fourteenth
 pub mod Fourth
+pub mod Finds
 pub mod Journals
 pub mod Judging
 pub mod Keepings
@@ -18,7 +22,9 @@ pub mod Looks
 pub mod Moving
 pub mod Ninth
 pub mod NodeTables
+pub mod ObjectAnswers
 pub mod ObjectPlays
+pub mod PartAnswers
 pub mod PlaceTables
 pub mod Playing
 pub mod Proposals
@@ -33,7 +39,10 @@ pub mod ShownTexts
 pub mod Sixth
 pub mod Subjects
 pub mod Tables
+pub mod Tenth
 pub mod TextsSaid
 pub mod Third
+pub mod Thirteenth
+pub mod TreePlays
 pub mod Twelfth
 pub mod Walking

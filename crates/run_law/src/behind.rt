@@ -60,7 +60,7 @@ impl Keeping {
         Ok(1 < asked.len())
     }
 
-    // Behind an answer to the command in this place.
+    /// Behind an answer to the command in this place.
     pub(crate) fn answered(
         &mut self,
         alloc: Global,

@@ -158,8 +158,8 @@ fn stands(ended: &Ended) -> bool
     matches!(ended, Ended::Stood { .. })
 }
 
-// Whether an answer tells a node of its command, by whether the command appends on several colours.
-fn tells_node(several: bool, answer: &Answer) -> bool
+/// Whether an answer tells a node of its command, by whether the command appends on several colours.
+pub(crate) fn tells_node(several: bool, answer: &Answer) -> bool
     ensures { result ≡ tells_node several answer.now }
 {
     match answer {

@@ -1,19 +1,23 @@
 // Laws of the rules, as a walk over commands decides them. Each function does nothing, and its contract is the law.
 ghost use Rattle.run_law.specs.Eleventh.{EleventhIsCauses};
 ghost use Rattle.run_law.specs.Fifth.{FifthIsEntering};
+ghost use Rattle.run_law.specs.Fourteenth.{FourteenthIsOfParts};
 ghost use Rattle.run_law.specs.Judging.{JudgedIsLawful, RulesAllStand, RulesAreAsked};
 ghost use Rattle.run_law.specs.Ninth.{NinthIsShown};
 ghost use Rattle.run_law.specs.Showing.{FourteenthIsDecided, ShowingIsFound};
+ghost use Rattle.run_law.specs.Tenth.{ShownFindsAreRight, TenthIsRight};
+ghost use Rattle.run_law.specs.Thirteenth.{ThirteenthIsSaid};
 ghost use Rattle.run_law.specs.Twelfth.{TwelfthIsBare};
 
 use col_core::region_order_is_unique;
+use lawful_run::read_items_last;
 use part_fold::decisions_are_plain;
 use playback::region_order_is_lawful;
 use run_rules::{
-    broken_is_unlawful, computed_account_agrees, computed_finds_decide, finds_decide, finds_keep,
-    finds_tell, first_rules_decided, found_account_decides, later_rules_decided,
-    lawful_runs_keep_rules, ninth_rule_decided, nodes_are_told, nodes_change_no_step,
-    rules_make_lawful,
+    broken_is_unlawful, computed_account_agrees, computed_finds_are_right, computed_finds_decide,
+    finds_decide, finds_keep, finds_tell, first_rules_decided, found_account_decides,
+    later_rules_decided, lawful_runs_keep_rules, ninth_rule_decided, nodes_are_told,
+    nodes_change_no_step, rules_make_lawful,
 };
 
 /// A report that keeps the first four rules enters the nodes of its commands where the first five hold at the account with these.
@@ -104,4 +108,51 @@ pub fn judged_is_lawful()
     lawful_runs_keep_rules();
     rules_make_lawful();
     broken_is_unlawful();
+}
+
+/// There reads found what they had to.
+fn shown_finds_are_right()
+    ensures { ShownFindsAreRight }
+{
+    finds_tell();
+    computed_account_agrees();
+    showing_is_found();
+    computed_finds_are_right();
+    decisions_are_plain();
+}
+
+/// The tenth rule holds there where the answer to each step is right by the nodes of that account.
+pub fn tenth_is_right()
+    ensures { TenthIsRight }
+{
+    finds_tell();
+    computed_account_agrees();
+    region_order_is_lawful();
+    region_order_is_unique();
+    read_items_last();
+    shown_finds_are_right();
+}
+
+/// Where the decisions that are computed are those that are shown, the last rule holds at their account where each answer of a map
+/// that is played by its parts is right by its nodes.
+pub fn fourteenth_is_of_parts()
+    ensures { FourteenthIsOfParts }
+{
+    finds_tell();
+    computed_account_agrees();
+    computed_finds_decide();
+    region_order_is_lawful();
+    region_order_is_unique();
+    read_items_last();
+}
+
+/// The thirteenth rule holds there where trees say what each step shows of them by the nodes of that account.
+pub fn thirteenth_is_said()
+    ensures { ThirteenthIsSaid }
+{
+    finds_tell();
+    computed_account_agrees();
+    region_order_is_lawful();
+    region_order_is_unique();
+    read_items_last();
 }

@@ -1,6 +1,7 @@
 //! Which rule of a lawful run a report is the first to break.
 #![tactic(auto)]
 
+mod among_map;
 mod appended;
 mod asked;
 mod bases;
@@ -9,11 +10,14 @@ mod can_have;
 mod column_places;
 mod copies;
 mod could_say;
+mod drafts;
 mod eleventh;
 mod entering;
 mod fifth;
 mod finals;
+mod finds;
 mod first;
+mod fourteenth;
 mod fourth;
 mod fronts;
 mod going_on;
@@ -22,6 +26,7 @@ mod journals;
 mod judged;
 mod judging;
 mod keeping;
+mod key_order;
 mod keys_read;
 mod laws;
 mod left_open;
@@ -32,24 +37,36 @@ mod made;
 mod moving;
 mod naming;
 mod ninth;
+mod node_said;
 mod node_table;
+mod node_table;
+mod node_told;
 mod object_colours;
 mod opens;
 mod own_seen;
+mod part_plays;
 mod pieces;
 mod place_lists;
+mod play_walk;
 mod played;
 mod playing;
 mod points;
 mod printed;
+mod queue_plays;
+mod read_places;
 mod reading;
 mod region_play;
 mod replies;
 mod row_places;
 mod row_table;
 mod rows;
+mod ruled_plays;
 mod scanning;
 mod seventh;
+mod several_plays;
+mod shard_plays;
+mod shard_plays;
+mod showing;
 mod showing;
 mod shown_parts;
 mod shown_texts;
@@ -58,9 +75,14 @@ mod step_table;
 mod subject;
 mod synced;
 mod texts;
+mod texts_written;
 mod third;
+mod tree_play;
+mod tree_told;
+mod trees;
 mod turn;
 mod twelfth;
+mod tx_plays;
 mod walking;
 mod writers;
 
@@ -73,8 +95,10 @@ pub use judged::Judged;
 pub use judging::least_of_nine;
 pub use keeping::Keeping;
 pub use laws::{
-    eleventh_is_causes, fifth_is_entering, fourteenth_is_decided, judged_is_lawful, ninth_is_shown,
-    rules_are_asked, rules_stand, showing_is_found, twelfth_is_bare,
+    eleventh_is_causes, eleventh_is_causes, fifth_is_entering, fifth_is_entering,
+    fourteenth_is_decided, fourteenth_is_decided, judged_is_lawful, ninth_is_shown, ninth_is_shown,
+    rules_are_asked, rules_stand, showing_is_found, showing_is_found, thirteenth_is_said,
+    twelfth_is_bare, twelfth_is_bare,
 };
 pub use left_open::keeps_eighth;
 pub use ninth::keeps_ninth;

@@ -35,6 +35,14 @@ impl NodeTable {
         Ok(NodeTable { lists })
     }
 
+    /// The nodes of one more client.
+    pub(crate) fn add_client(&mut self, nodes: ListOf<Node>) -> Result<(), AllocError>
+        ensures { OnOk result (self.new ≡ self.old ++ nodes ∷ []) }
+    {
+        self.lists.push(nodes)?;
+        Ok(())
+    }
+
     /// The node with this id, where there is one.
     pub(crate) fn node(&self, id: Id) -> Option<&Node>
         ensures { option_copied result ≡ node_in self.now id }

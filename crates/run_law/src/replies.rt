@@ -61,8 +61,8 @@ pub(crate) fn keys_at<'r>(
     }
 }
 
-// The place of a reply, where it shows what a read found.
-fn place_read(answer: &Answer, place: usize) -> Option<usize>
+/// The place of a reply, where it shows what a read found.
+pub(crate) fn place_read(answer: &Answer, place: usize) -> Option<usize>
     ensures { result ≡ place_read answer.now place }
 {
     match answer {
