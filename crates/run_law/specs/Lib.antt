@@ -7,9 +7,9 @@ pub mod Columns
 pub mod Drafts
 pub mod Eleventh
 pub mod Fifth
+pub mod Finds
 pub mod Fourteenth
 pub mod Fourth
-pub mod Finds
 pub mod Journals
 pub mod Judging
 pub mod Keepings
