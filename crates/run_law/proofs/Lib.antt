@@ -91,6 +91,7 @@ mod ThirteenthLaws
 mod ToldLemmas
 mod ToldOfLemmas
 mod TreeKeys
+mod TreeSteps
 mod TwelfthLaws
 mod UsedIds
 mod WalkLemmas

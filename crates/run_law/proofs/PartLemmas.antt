@@ -13,9 +13,12 @@ use Rattle.log_node.proofs.CallerLemmas.{key-irrefl, same_key-is, same_some}
 use Rattle.object_fold.specs.Folds.{IsAbsent}
 use Rattle.object_fold.specs.Maps.{Value}
 use Rattle.object_fold.specs.Nodes.{ObjectNode}
-use Rattle.part_fold.specs.Agreement.{part_at}
+use Rattle.object_fold.specs.Transactions.{verdict_of}
+use Rattle.part_fold.specs.Agreement.{outcome, part_at}
+use Rattle.part_fold.specs.Decisions.{decision_text}
 use Rattle.part_fold.specs.Parts.{Part, undecided_after}
 use Rattle.part_fold.specs.Ruled.{AreApart}
+use Rattle.col_core.specs.Keeping.{Kept}
 use Rattle.col_core.proofs.CallerLemmas.{In, all_in, contains_in, slice_in}
 use Rattle.playback.specs.Merging.{AreRising}
 use Rattle.script_text.specs.Apart.{colours_of}
@@ -29,19 +32,23 @@ use Rattle.script_text.specs.declared.script.Object.{Object}
 use Rattle.script_text.specs.declared.script.Script.{Script}
 use Rattle.script_text.specs.declared.uses.Use.{Use}
 use Rattle.script_text.specs.declared.uses.Use.TheVariants.{OfLog, OfObject}
+use Rattle.report_text.specs.declared.report.Ended.{Ended}
 use Rattle.report_text.specs.declared.report.SyncPiece.{SyncPiece}
 use Rattle.lawful_run.specs.Asks.{kind_asked, kind_of_object, kind_used, rising}
 use Rattle.lawful_run.specs.Callers.{Caller, caller_of}
 use Rattle.lawful_run.specs.Deeds.{AsksForKey, Deed}
-use Rattle.lawful_run.specs.Parts.{AnswersGet, AnswersUndecided, AsksOf, AsksToDecide, HasPartValue, HasValue, OfPart, WaitsFor}
+use Rattle.lawful_run.specs.Parts.{AnswersGet, AnswersUndecided, AsksOf, AsksToDecide, HasPartValue, HasValue, IsRuledAs, OfPart, WaitsFor}
 use Rattle.column_track.specs.Tracks.{Tells}
 use Rattle.run_rules.specs.Answering.{CanGet}
 use Rattle.run_rules.specs.Computing.{node_read}
 use Rattle.run_rules.specs.Deciding.{ColoursDiffer}
-use Rattle.run_rules.specs.Shown.{OfParts}
+use Rattle.run_rules.specs.Shown.{OfParts, SaysSo}
 use Rattle.run_law.specs.Asking.{all_of}
+use Rattle.run_law.specs.Fourteenth.{IsDecision, object_nodes, synced_nodes}
 use Rattle.run_law.specs.NodeTables.{node_in, nodes_under}
 use Rattle.run_law.specs.PartAnswers.{IsValueOfPart, IsWaitedFor, part_colours}
+use Rattle.run_law.specs.Tenth.{log_with}
+use Rattle.run_law.specs.Walking.{Walked}
 use Rattle.run_law.proofs.Members.{told_as}
 use Rattle.run_law.proofs.ShapeColours.{below_all, kind_within, rising_below}
 
@@ -313,3 +320,32 @@ pub undecided_not : (script : Script) (caller : Caller) (what : What) (own : Lis
     → AnswersUndecided caller what sync stamp nodes → ⊥
 undecided_not script caller what own are sync nodes stamp w a =
     w a.4 (of_own script caller what own are sync nodes a.0 a.1 a.2 a.3 a.4 a.6)
+
+-- a decision, by the transaction for which its part waits
+module _ (walked : Walked) (table : List (List Node)) (caller : Caller) (kept : Kept) (own : List ℕ) (commits : Bool) (stamp : ℕ)
+    (sync : SyncPiece) (read_stamp : ℕ) (ended : Ended) where
+  abbrev Decision : Type 0
+  Decision = IsDecision walked table caller kept own commits stamp sync read_stamp ended
+
+  abbrev Waits : Option Key → Type 0
+  Waits key = IsWaitedFor own sync.colour (synced_nodes walked table caller sync) key
+
+  abbrev Says : Key → Type 0
+  Says key = SaysSo (log_with walked table) caller kept (decision_text (record { key = key; commits = commits })) ended
+
+  pub none_decided : Waits None → Decision → ⊥
+  none_decided w d = w d.0 d.2
+
+  pub stamp_decided : (key : Key) → Waits (Some key) → Decision → key.stamp ≡ stamp
+  stamp_decided key w d = ap (λ (k : Key). k.stamp) (sym (w.1 d.0 d.2)) ∙ sym d.1
+
+  pub ruled_decided : (key : Key) → Waits (Some key) → Decision
+      → outcome (verdict_of (object_nodes walked table caller own read_stamp) key) ≡ Some commits
+  ruled_decided key w d =
+      subst (λ (k : Key). IsRuledAs k commits (object_nodes walked table caller own read_stamp)) (w.1 d.0 d.2) d.3
+
+  pub decision_told : (key : Key) → Waits (Some key) → key.stamp ≡ stamp
+      → outcome (verdict_of (object_nodes walked table caller own read_stamp) key) ≡ Some commits
+      → (b : Bool) → Tells b (Says key) → Tells b Decision
+  decision_told key w at ruled b t =
+      told_as b (Says key) Decision (λ s. (key, sym at, w.0, ruled, s)) (λ d. subst Says (w.1 d.0 d.2) d.4) t

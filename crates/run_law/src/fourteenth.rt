@@ -25,9 +25,9 @@ ghost use Rattle.run_rules.specs.Computing.{finds_of};
 ghost use Rattle.run_rules.specs.Deciding.{ColoursDiffer, decisions_of};
 ghost use Rattle.run_rules.specs.Keeping.{Keeps};
 ghost use Rattle.run_rules.specs.Nodes.{nodes_with};
-ghost use Rattle.run_rules.specs.Shown.{OfParts};
+ghost use Rattle.run_rules.specs.Shown.{OfParts, SaysSo};
 ghost use Rattle.run_law.specs.Asking.{AreLow};
-ghost use Rattle.run_law.specs.Fourteenth.{AnswersByParts, IsPartAnswer, object_nodes, synced_nodes};
+ghost use Rattle.run_law.specs.Fourteenth.{AnswersByParts, IsDecision, IsPartAnswer, object_nodes, synced_nodes};
 ghost use Rattle.run_law.specs.NodeTables.{AreNodes};
 ghost use Rattle.run_law.specs.PartAnswers.{ArePartPlays, IfThere, IsPartPlay, IsPlayOf, IsRuledPlay, IsValueOfPart, IsWaitedFor, StandSo, part_colours};
 ghost use Rattle.run_law.specs.Tenth.{line_nodes, log_with, stamped_nodes};
@@ -103,6 +103,33 @@ fn says(alloc: Global, nodes: &NodeTable, id: Id, decision: &Decision) -> Result
         Some(node) => node.id == id && same_text(&node.text, &text),
         None => false,
     })
+}
+
+// Whether a transaction commits as is said.
+fn is_ruled(outcome: Option<bool>, commits: bool) -> bool
+    ensures { Tells result (outcome ≡ Some commits) }
+{
+    match outcome {
+        Some(other) => other == commits,
+        None => false,
+    }
+}
+
+// Whether the client's next node says the decision, where it stands.
+fn says_so(
+    alloc: Global,
+    nodes: &NodeTable,
+    id: Id,
+    decision: &Decision,
+    ended: Ended,
+) -> Result<bool, AllocError>
+    ensures { (walked : Walked) (caller : Caller) (kept : Kept) → id ≡ record { client = caller.client; count = kept.ids }
+        → IfOk result (λ b. Tells b (SaysSo (log_with walked nodes.now) caller kept (decision_text decision.now) ended)) }
+{
+    match ended {
+        Ended::Stood { .. } => says(alloc, nodes, id, decision),
+        Ended::StampEnd { .. } | Ended::NoMemory => Ok(true),
+    }
 }
 
 impl PartPlays {
@@ -349,5 +376,43 @@ impl PartPlays {
             Some(key) => Ok(key.stamp == stamp),
             None => Ok(false),
         }
+    }
+
+    // Whether a decision is right, of a client that has used so many ids.
+    fn is_decision(
+        &mut self,
+        alloc: Global,
+        subject: &Subject<'_>,
+        nodes: &NodeTable,
+        client: u8,
+        ids: u64,
+        own: &[u8],
+        commits: bool,
+        stamp: u64,
+        sync: &SyncPiece,
+        read_stamp: u64,
+        ended: Ended,
+    ) -> Result<bool, AllocError>
+        requires client { client < length subject.now.report.clients }
+        requires stands { StandSo self.old subject.now nodes.now }
+        requires own { AreObjectColours subject.now.script.shape.colours own.now }
+        requires low { AreLow own.now }
+        requires differ { AllPairs (λ (a b : ℕ). a ≢ b) own.now }
+        ensures told { (kept : Kept) → kept.ids ≡ ids → IfOk result (λ b. Tells b (IsDecision subject.now nodes.now
+            (caller_of subject.now.script client) kept own.now commits stamp sync.now read_stamp ended)) }
+        ensures stands { OnOk result (StandSo self.new subject.now nodes.now) }
+    {
+        let Some(key) = self.waiting(alloc, subject, nodes, client, own, sync)? else {
+            return Ok(false);
+        };
+        if key.stamp != stamp {
+            return Ok(false);
+        }
+        let outcome = self.outcome(alloc, subject, nodes, client, own, read_stamp, key)?;
+        if !is_ruled(outcome, commits) {
+            return Ok(false);
+        }
+        let id = Id { client, count: ids };
+        says_so(alloc, nodes, id, &Decision { key, commits }, ended)
     }
 }

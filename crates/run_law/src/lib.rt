@@ -92,8 +92,9 @@ pub use judged::Judged;
 pub use judging::least_of_nine;
 pub use keeping::Keeping;
 pub use laws::{
-    eleventh_is_causes, fifth_is_entering, fourteenth_is_decided, judged_is_lawful, ninth_is_shown,
-    rules_are_asked, rules_stand, showing_is_found, thirteenth_is_said, twelfth_is_bare,
+    eleventh_is_causes, fifth_is_entering, fourteenth_is_decided, fourteenth_is_of_parts,
+    judged_is_lawful, ninth_is_shown, rules_are_asked, rules_stand, showing_is_found,
+    tenth_is_right, thirteenth_is_said, twelfth_is_bare,
 };
 pub use left_open::keeps_eighth;
 pub use ninth::keeps_ninth;

@@ -132,3 +132,52 @@ fn lists_names(
         _ => Ok(false),
     }
 }
+
+/// Whether what a step shows of a tree is what the tree says.
+pub(crate) fn trees_say_so(
+    alloc: Global,
+    subject: &Subject<'_>,
+    nodes: &NodeTable,
+    plays: &mut Vec<TreePlay>,
+    client: u8,
+    place: usize,
+    keeping: &Keeping,
+) -> Result<bool, AllocError>
+    requires there { IsStepOf subject.now client place }
+    requires trees { AreTrees subject.now nodes.now (caller_of subject.now.script client).own plays.old.items }
+    ensures so { (step : Step) → IsSeen subject.now client place keeping.now step → IfOk result (λ b. Tells b
+        (TreesSaySo subject.now nodes.now (caller_of subject.now.script client) step)) }
+    ensures trees { OnOk result
+        (AreTrees subject.now nodes.now (caller_of subject.now.script client).own plays.new.items) }
+{
+    let what = &subject.command(client, place).what;
+    match &subject.reply(client, place).answer {
+        Answer::Changed {
+            failed,
+            stamp,
+            row,
+            points,
+            read_stamp,
+            ..
+        } => {
+            let own_stamp = keeping.stamp_told(subject, client, *row, points.as_slice());
+            let right = tells_change(
+                subject,
+                nodes,
+                plays.as_slice(),
+                client,
+                keeping,
+                what,
+                *failed,
+                *stamp,
+                own_stamp,
+                *read_stamp,
+            );
+            Ok(right)
+        }
+        Answer::Listed { names, stamp, .. } => {
+            lists_names(alloc, subject, nodes, plays, client, what, names, *stamp)
+        }
+        _ => Ok(true),
+    }
+}
