@@ -1,5 +1,5 @@
 -- What the parts of a transactional map answer, by the place of a colour among those of the object.
-use Rattle.std.proofs.Common.{◌≡◌, ◌≢◌, ◌⊎◌, ◌∙◌, refl, ap, sym, subst, Bool, true, false, ℕ, zero, suc, ◌<◌, List, [], ◌∷◌, ◌++◌, length, Option, Some, None, inl, inr, arith}
+use Rattle.std.proofs.Common.{◌≡◌, ◌≢◌, ◌∙◌, refl, ap, sym, subst, Bool, true, false, ℕ, zero, suc, ◌<◌, List, [], ◌∷◌, ◌++◌, Option, Some, None, inl, inr, arith}
 use Rattle.std.specs.Prelude.{IsTrue, ◌==◌, slice_get}
 use Rattle.std.specs.List.{All, AllPairs}
 use Rattle.std.specs.Option.{option_map}
@@ -39,7 +39,7 @@ use Rattle.report_text.specs.declared.report.SyncPiece.{SyncPiece}
 use Rattle.lawful_run.specs.Asks.{kind_asked, kind_of_object, kind_used, rising}
 use Rattle.lawful_run.specs.Callers.{Caller, caller_of, commands_of}
 use Rattle.lawful_run.specs.Deeds.{AsksForKey, Deed}
-use Rattle.lawful_run.specs.Parts.{AnswersGet, AnswersUndecided, AsksOf, AsksToDecide, HasPartValue, HasValue, IsRuledAs, OfPart, WaitsFor}
+use Rattle.lawful_run.specs.Parts.{AnswersGet, AnswersUndecided, AsksOf, HasPartValue, HasValue, IsRuledAs, OfPart, WaitsFor}
 use Rattle.column_track.specs.Tracks.{Tells}
 use Rattle.run_rules.specs.Answering.{CanGet, CanHave}
 use Rattle.run_rules.specs.Computing.{node_read}

@@ -1,9 +1,8 @@
 // The fourteenth rule: a map that is played by its parts answers what one colour's line tells, and a decision is the verdict among
 // the nodes that were read, as its node says.
-ghost use Rattle.std.specs.Prelude.{◌≡◌, ◌≢◌, ◌<◌, ◌≤◌, List, Some, IfOk, OnOk, ℕ, length};
+ghost use Rattle.std.specs.Prelude.{◌≡◌, ◌≢◌, ◌<◌, List, Some, IfOk, OnOk, ℕ, length};
 ghost use Rattle.std.specs.List.{All, AllPairs};
 ghost use Rattle.std.specs.Option.{option_copied};
-ghost use Rattle.log_node.specs.declared.limits.TheConstants.{MAX_COLOURS as MANY_COLOURS};
 ghost use Rattle.log_node.specs.declared.node.Node.{Node as Appended};
 ghost use Rattle.log_node.specs.Seen.{PlacedNode};
 ghost use Rattle.log_node.specs.Vectors.{at};
@@ -15,10 +14,10 @@ ghost use Rattle.part_fold.specs.PartStates.{IsPart};
 ghost use Rattle.col_core.specs.Keeping.{Kept};
 ghost use Rattle.col_core.specs.Log.{HasText};
 ghost use Rattle.script_text.specs.Fitting.{AreObjectColours};
-ghost use Rattle.lawful_run.specs.Asks.{kind_asked, rising};
+ghost use Rattle.lawful_run.specs.Asks.{kind_asked};
 ghost use Rattle.lawful_run.specs.Callers.{Caller, caller_of};
 ghost use Rattle.script_text.specs.declared.script.Kind.TheVariants as kinds;
-ghost use Rattle.lawful_run.specs.Parts.{AnswersGet, AnswersUndecided, AsksOf, AsksToDecide};
+ghost use Rattle.lawful_run.specs.Parts.{AnswersGet, AnswersUndecided, AsksOf};
 ghost use Rattle.column_track.specs.Tracks.{Tells};
 ghost use Rattle.run_rules.specs.Answering.{CanGet, CanHave};
 ghost use Rattle.run_rules.specs.Computing.{finds_of};
@@ -30,7 +29,7 @@ ghost use Rattle.run_law.specs.Asking.{AreLow};
 ghost use Rattle.run_law.specs.Fourteenth.{AnswersByParts, IsDecision, IsPartAnswer, object_nodes, synced_nodes};
 ghost use Rattle.run_law.specs.NodeTables.{AreNodes};
 ghost use Rattle.run_law.specs.PartAnswers.{ArePartPlays, IfThere, IsPartPlay, IsPlayOf, IsRuledPlay, IsValueOfPart, IsWaitedFor, StandSo, part_colours};
-ghost use Rattle.run_law.specs.Tenth.{line_nodes, log_with, stamped_nodes};
+ghost use Rattle.run_law.specs.Tenth.{log_with};
 ghost use Rattle.run_law.specs.Walking.{Walked};
 
 use crate::keeping::Keeping;

@@ -1,4 +1,4 @@
-use Rattle.std.proofs.Common.{◌≡◌, ◌<◌, ◌≤◌, Bool, IfOk, List, ap, arith, subst, sym, ℕ}
+use Rattle.std.proofs.Common.{Bool, IfOk, List, ap, arith, subst, sym, ℕ}
 use Rattle.report_text.specs.declared.report.Answer.{Answer}
 use Rattle.lawful_run.specs.Asks.{object_colours}
 use Rattle.lawful_run.specs.Callers.{caller_of}

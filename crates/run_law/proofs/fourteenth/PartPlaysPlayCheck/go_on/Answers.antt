@@ -1,5 +1,4 @@
 use Rattle.std.proofs.Common.{◌∙◌, subst, sym}
-use Rattle.lawful_run.specs.Callers.{caller_of}
 use Rattle.run_rules.specs.Told.{kept_at}
 use Rattle.run_law.proofs.Lists.{told_not, told_so}
 use Rattle.run_law.proofs.PartLemmas.{step_can, step_same}
