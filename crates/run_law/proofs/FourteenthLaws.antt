@@ -1,12 +1,11 @@
 -- The fourteenth rule, at the account with what reads found and what decisions say, is what is looked at of each step.
 use mathlib.Core.Path.{fun_ext}
-use Rattle.std.proofs.Common.{◌≡◌, ◌⊎◌, ◌∙◌, refl, ap, sym, subst, ℕ, ◌<◌, List, [], ◌∷◌, length, Option, Some, None, inl, inr, arith}
-use Rattle.std.specs.Prelude.{◌↔◌, slice_get}
+use Rattle.std.proofs.Common.{Bool, ◌≡◌, ◌∙◌, refl, ap, sym, subst, ℕ, ◌<◌, List, [], ◌∷◌, length, Option, Some, inl, inr, arith}
+use Rattle.std.specs.Prelude.{slice_get}
 use Rattle.std.specs.List.{All}
 use Rattle.std.proofs.lemmas.List.{length-map}
 use Rattle.std.proofs.lemmas.List.Elements.{All-contains}
 use Rattle.std.proofs.lemmas.Option.{slice_get_within}
-use Rattle.log_node.specs.declared.ids.Key.{Key}
 use Rattle.log_node.specs.declared.node.Node.{Node}
 use Rattle.log_node.specs.Seen.{PlacedNode}
 use Rattle.log_node.specs.Vectors.{at}
@@ -33,31 +32,33 @@ use Rattle.report_text.specs.declared.report.RaisePiece.{RaisePiece}
 use Rattle.report_text.specs.declared.report.ReplyLine.{ReplyLine}
 use Rattle.report_text.specs.declared.report.Report.{Report}
 use Rattle.report_text.specs.declared.report.SyncPiece.{SyncPiece}
-use Rattle.lawful_run.specs.Asks.{kind_asked, kind_of_object, object_colours, rising}
+use Rattle.lawful_run.specs.Asks.{kind_asked, object_colours, rising}
 use Rattle.lawful_run.specs.Callers.{Caller, caller_of}
 use Rattle.lawful_run.specs.Deeds.{colours_synced}
 use Rattle.lawful_run.specs.Laws.{ReadItemsLast}
 use Rattle.lawful_run.specs.Parts.{AnswersGet, AnswersUndecided, AsksToDecide, IsRuledAs, OfNodesPlayed, OfPart, WaitsFor}
 use Rattle.lawful_run.specs.Reads.{Syncs, kept_after_piece}
 use Rattle.lawful_run.specs.Refusals.{kept_before}
+use Rattle.column_track.specs.Tracks.{Tells}
 use Rattle.run_rules.specs.Agreeing.{AreStepsAlike}
 use Rattle.run_rules.specs.Answering.{CanGet, CanHave}
 use Rattle.run_rules.specs.Computing.{finds_of}
-use Rattle.run_rules.specs.Deciding.{account_deciding, decisions_of}
-use Rattle.run_rules.specs.Keeping.{Keeps, RulesTo}
+use Rattle.run_rules.specs.Deciding.{ColoursDiffer, account_deciding, decisions_of}
+use Rattle.run_rules.specs.Keeping.{Keeps, RulesTo, rule_count}
 use Rattle.run_rules.specs.Laws.{ComputedAccountAgrees, ComputedFindsDecide, FindsTell}
 use Rattle.run_rules.specs.Nodes.{nodes_with}
 use Rattle.run_rules.specs.Rules.{IsReplyTo, Rule1}
-use Rattle.run_rules.specs.Shown.{GetsRight, OfNodesRead, OfParts, PartAnswers, ReadsColours, Rule14, Rule9, SaysSo, Shows}
+use Rattle.run_rules.specs.Shown.{GetsRight, OfNodesRead, OfParts, PartAnswers, ReadsColours, Rule9, SaysSo, Shows}
 use Rattle.run_rules.specs.Telling.{IsWellFormed, account_of, log_of, no_nodes}
-use Rattle.run_rules.specs.Told.{Account, IsTold, Step, Untold, kept_at, kept_deciding}
+use Rattle.run_rules.specs.Told.{Account, OfEachStep, Step, Untold, kept_at, kept_deciding}
 use Rattle.run_rules.proofs.CallerLemmas.{read_ids, rule1, rule9, rules_fewer}
 use Rattle.run_law.specs.Fourteenth.{AnswersByParts, FourteenthIsOfParts, IsPartAnswer, object_nodes, synced_nodes}
 use Rattle.run_law.specs.NodeTables.{AreNodes, nodes_at}
 use Rattle.run_law.specs.ReadNodes.{AreNodesPlayed, AreNodesRead, HasTable}
-use Rattle.run_law.specs.Showing.{ShownAreDecided}
-use Rattle.run_law.specs.Walking.{Walked}
-use Rattle.run_law.proofs.FoundSteps.{home_low, its_within, to_bare, to_found, told}
+use Rattle.run_law.specs.Showing.{FourteenthIsDecided, ShownAreDecided}
+use Rattle.run_law.specs.Walking.{DecidesEachStep, Walked}
+use Rattle.run_law.proofs.FoundSteps.{its_within, to_bare, to_found, told}
+use Rattle.run_law.proofs.Members.{told_as}
 use Rattle.run_law.proofs.ReadDecides.{playing_decides, stamped}
 use Rattle.run_law.proofs.SameKeeping.{before_same}
 use Rattle.run_law.proofs.ShapeColours.{shards_within, synced_within, whole_within}
@@ -289,3 +290,17 @@ fourteenth_is_of_parts tell agrees decide ordered unique last script report tabl
 
   nine : RulesTo script report full 9
   nine = rules_fewer script report full 13 9 (omega arith) at_it.1
+
+-- what is told of the steps is told of the report
+pub fourteenth_told : FourteenthIsDecided → FourteenthIsOfParts → (script : Script) (report : Report) (table : List (List Node))
+    → IsFitting script → ColoursDiffer script → Keeps script report 13 → ShownAreDecided script report
+    → AreNodes (nodes_with script report (finds_of script report) (decisions_of script report)) table → (b : Bool)
+    → DecidesEachStep (record { script = script; report = report })
+    (AnswersByParts (record { script = script; report = report }) table) b
+    → Tells b (Keeps script report rule_count)
+fourteenth_told decided parts script report table fits differ keeps shown nodes b told_steps =
+    let both = decided script report fits differ keeps in
+    let law = parts script report table fits keeps shown nodes in
+    told_as b (OfEachStep script report (account_of script report no_nodes)
+    (AnswersByParts (record { script = script; report = report }) table)) (Keeps script report rule_count)
+    (λ so. both.0 (shown, law.0 so)) (λ k. law.1 (both.1 k).1) (told_steps no_nodes)

@@ -1,5 +1,5 @@
 -- What the parts of a transactional map answer, by the place of a colour among those of the object.
-use Rattle.std.proofs.Common.{◌≡◌, ◌≢◌, ◌⊎◌, ◌∙◌, refl, ap, sym, subst, Bool, true, false, ℕ, zero, suc, ◌<◌, List, [], ◌∷◌, ◌++◌, length, Option, Some, None, inl, inr, arith}
+use Rattle.std.proofs.Common.{◌≡◌, ◌≢◌, ◌∙◌, refl, ap, sym, subst, Bool, true, false, ℕ, zero, suc, ◌<◌, List, [], ◌∷◌, ◌++◌, Option, Some, None, inl, inr, arith}
 use Rattle.std.specs.Prelude.{IsTrue, ◌==◌, slice_get}
 use Rattle.std.specs.List.{All, AllPairs}
 use Rattle.std.specs.Option.{option_map}
@@ -26,6 +26,7 @@ use Rattle.script_text.specs.Commands.{use_of}
 use Rattle.script_text.specs.Fitting.{AreObjectColours, IsFitting}
 use Rattle.script_text.specs.declared.commands.What.{What}
 use Rattle.script_text.specs.declared.commands.What.TheVariants as whats
+use Rattle.script_text.specs.declared.script.Command.{Command}
 use Rattle.script_text.specs.declared.script.Kind.{Kind}
 use Rattle.script_text.specs.declared.script.Kind.TheVariants as kinds
 use Rattle.script_text.specs.declared.script.Object.{Object}
@@ -33,22 +34,26 @@ use Rattle.script_text.specs.declared.script.Script.{Script}
 use Rattle.script_text.specs.declared.uses.Use.{Use}
 use Rattle.script_text.specs.declared.uses.Use.TheVariants.{OfLog, OfObject}
 use Rattle.report_text.specs.declared.report.Ended.{Ended}
+use Rattle.report_text.specs.declared.report.ReplyLine.{ReplyLine}
 use Rattle.report_text.specs.declared.report.SyncPiece.{SyncPiece}
 use Rattle.lawful_run.specs.Asks.{kind_asked, kind_of_object, kind_used, rising}
-use Rattle.lawful_run.specs.Callers.{Caller, caller_of}
+use Rattle.lawful_run.specs.Callers.{Caller, caller_of, commands_of}
 use Rattle.lawful_run.specs.Deeds.{AsksForKey, Deed}
-use Rattle.lawful_run.specs.Parts.{AnswersGet, AnswersUndecided, AsksOf, AsksToDecide, HasPartValue, HasValue, IsRuledAs, OfPart, WaitsFor}
+use Rattle.lawful_run.specs.Parts.{AnswersGet, AnswersUndecided, AsksOf, HasPartValue, HasValue, IsRuledAs, OfPart, WaitsFor}
 use Rattle.column_track.specs.Tracks.{Tells}
-use Rattle.run_rules.specs.Answering.{CanGet}
+use Rattle.run_rules.specs.Answering.{CanGet, CanHave}
 use Rattle.run_rules.specs.Computing.{node_read}
 use Rattle.run_rules.specs.Deciding.{ColoursDiffer}
+use Rattle.run_rules.specs.Telling.{replies_to}
+use Rattle.run_rules.specs.Told.{Step, kept_at}
 use Rattle.run_rules.specs.Shown.{OfParts, SaysSo}
 use Rattle.run_law.specs.Asking.{all_of}
-use Rattle.run_law.specs.Fourteenth.{IsDecision, object_nodes, synced_nodes}
+use Rattle.run_law.specs.Fourteenth.{AnswersByParts, IsDecision, IsPartAnswer, object_nodes, synced_nodes}
+use Rattle.run_law.specs.Keepings.{Counted}
 use Rattle.run_law.specs.NodeTables.{node_in, nodes_under}
 use Rattle.run_law.specs.PartAnswers.{IsValueOfPart, IsWaitedFor, part_colours}
 use Rattle.run_law.specs.Tenth.{log_with}
-use Rattle.run_law.specs.Walking.{Walked}
+use Rattle.run_law.specs.Walking.{IsSeen, Walked}
 use Rattle.run_law.proofs.Members.{told_as}
 use Rattle.run_law.proofs.ShapeColours.{below_all, kind_within, rising_below}
 
@@ -349,3 +354,27 @@ module _ (walked : Walked) (table : List (List Node)) (caller : Caller) (kept : 
       → (b : Bool) → Tells b (Says key) → Tells b Decision
   decision_told key w at ruled b t =
       told_as b (Says key) Decision (λ s. (key, sym at, w.0, ruled, s)) (λ d. subst Says (w.1 d.0 d.2) d.4) t
+
+-- a step that is seen, by its command and its reply
+module _ (walked : Walked) (client place : ℕ) (counted : Counted) (step : Step) (seen : IsSeen walked client place counted step)
+    (command : Command) (asks : slice_get (commands_of walked.script client) place ≡ Some command) (reply : ReplyLine)
+    (replied : slice_get (replies_to walked.report client) place ≡ Some reply) where
+  abbrev who : Caller
+  who = caller_of walked.script client
+
+  command_is : step.command ≡ command
+  command_is = same_some (sym seen.command ∙ asks)
+
+  reply_is : step.reply ≡ reply
+  reply_is = same_some (sym seen.reply ∙ replied)
+
+  pub step_same : (table : List (List Node))
+      → AnswersByParts walked table who step ≡ IsPartAnswer walked table who (kept_at step) command.what reply.answer
+  step_same table =
+      ap (λ (d : Command). IsPartAnswer walked table who (kept_at step) d.what step.reply.answer) command_is
+      ∙ ap (λ (r : ReplyLine). IsPartAnswer walked table who (kept_at step) command.what r.answer) reply_is
+
+  pub step_can : CanHave who (kept_at step) command.what step.reply.nodes reply.answer
+  step_can =
+      subst (λ (d : Command). CanHave who (kept_at step) d.what step.reply.nodes reply.answer) command_is
+      (subst (λ (r : ReplyLine). CanHave who (kept_at step) step.command.what step.reply.nodes r.answer) reply_is seen.can.answer)

@@ -65,10 +65,6 @@ IsValueOfPart (whats.Peek object key) value part nodes = HasPartValue key value 
 IsValueOfPart (whats.Decide object key) value part nodes = (value ≡ None) × WaitsFor None part nodes
 IsValueOfPart _ value part nodes = ⊥
 
--- a transaction with this stamp waits for a decision
-abbrev pub WaitsWith : ℕ → Part → List ObjectNode → Type 0
-WaitsWith stamp part nodes = (waits : Key) × (stamp ≡ waits.stamp) × WaitsFor (Some waits) part nodes
-
 -- the colours of a map that is played by its parts
 abbrev pub part_colours : Option Kind → Option (List ℕ)
 part_colours (Some (kinds.Parts home colours)) = Some colours

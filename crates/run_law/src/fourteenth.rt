@@ -1,9 +1,8 @@
 // The fourteenth rule: a map that is played by its parts answers what one colour's line tells, and a decision is the verdict among
 // the nodes that were read, as its node says.
-ghost use Rattle.std.specs.Prelude.{◌≡◌, ◌≢◌, ◌<◌, ◌≤◌, List, Some, IfOk, OnOk, ℕ, length};
+ghost use Rattle.std.specs.Prelude.{◌≡◌, ◌≢◌, ◌<◌, List, Some, IfOk, OnOk, ℕ, length};
 ghost use Rattle.std.specs.List.{All, AllPairs};
 ghost use Rattle.std.specs.Option.{option_copied};
-ghost use Rattle.log_node.specs.declared.limits.TheConstants.{MAX_COLOURS as MANY_COLOURS};
 ghost use Rattle.log_node.specs.declared.node.Node.{Node as Appended};
 ghost use Rattle.log_node.specs.Seen.{PlacedNode};
 ghost use Rattle.log_node.specs.Vectors.{at};
@@ -15,10 +14,10 @@ ghost use Rattle.part_fold.specs.PartStates.{IsPart};
 ghost use Rattle.col_core.specs.Keeping.{Kept};
 ghost use Rattle.col_core.specs.Log.{HasText};
 ghost use Rattle.script_text.specs.Fitting.{AreObjectColours};
-ghost use Rattle.lawful_run.specs.Asks.{kind_asked, rising};
+ghost use Rattle.lawful_run.specs.Asks.{kind_asked};
 ghost use Rattle.lawful_run.specs.Callers.{Caller, caller_of};
 ghost use Rattle.script_text.specs.declared.script.Kind.TheVariants as kinds;
-ghost use Rattle.lawful_run.specs.Parts.{AnswersGet, AnswersUndecided, AsksOf, AsksToDecide};
+ghost use Rattle.lawful_run.specs.Parts.{AnswersGet, AnswersUndecided, AsksOf};
 ghost use Rattle.column_track.specs.Tracks.{Tells};
 ghost use Rattle.run_rules.specs.Answering.{CanGet, CanHave};
 ghost use Rattle.run_rules.specs.Computing.{finds_of};
@@ -30,7 +29,7 @@ ghost use Rattle.run_law.specs.Asking.{AreLow};
 ghost use Rattle.run_law.specs.Fourteenth.{AnswersByParts, IsDecision, IsPartAnswer, object_nodes, synced_nodes};
 ghost use Rattle.run_law.specs.NodeTables.{AreNodes};
 ghost use Rattle.run_law.specs.PartAnswers.{ArePartPlays, IfThere, IsPartPlay, IsPlayOf, IsRuledPlay, IsValueOfPart, IsWaitedFor, StandSo, part_colours};
-ghost use Rattle.run_law.specs.Tenth.{line_nodes, log_with, stamped_nodes};
+ghost use Rattle.run_law.specs.Tenth.{log_with};
 ghost use Rattle.run_law.specs.Walking.{Walked};
 
 use crate::keeping::Keeping;
@@ -415,4 +414,108 @@ impl PartPlays {
         let id = Id { client, count: ids };
         says_so(alloc, nodes, id, &Decision { key, commits }, ended)
     }
+
+    // Whether an answer is right, of a client that has used so many ids.
+    fn is_right(
+        &mut self,
+        alloc: Global,
+        subject: &Subject<'_>,
+        nodes: &NodeTable,
+        client: u8,
+        ids: u64,
+        what: &What,
+        answer: &Answer,
+    ) -> Result<bool, AllocError>
+        requires client { client < length subject.now.report.clients }
+        requires stands { StandSo self.old subject.now nodes.now }
+        ensures told { (kept : Kept) (lines : List PlacedNode) → kept.ids ≡ ids
+            → CanHave (caller_of subject.now.script client) kept what.now lines answer.now → IfOk result (λ b. Tells b
+            (IsPartAnswer subject.now nodes.now (caller_of subject.now.script client) kept what.now answer.now)) }
+        ensures stands { OnOk result (StandSo self.new subject.now nodes.now) }
+    {
+        match answer {
+            Answer::Got { value, sync } => {
+                self.has_value(alloc, subject, nodes, client, what, value, sync)
+            }
+            Answer::Undecided { stamp, sync } => {
+                self.is_undecided(alloc, subject, nodes, client, what, *stamp, sync)
+            }
+            Answer::Decided {
+                commits,
+                stamp,
+                sync,
+                read_stamp,
+                ended,
+                ..
+            } => {
+                subject.agrees();
+                let Some(own) = parts_of(subject, what) else {
+                    return Ok(false);
+                };
+                self.is_decision(
+                    alloc,
+                    subject,
+                    nodes,
+                    client,
+                    ids,
+                    own,
+                    *commits,
+                    *stamp,
+                    sync,
+                    *read_stamp,
+                    *ended,
+                )
+            }
+            _ => Ok(true),
+        }
+    }
+}
+
+impl PlayCheck for PartPlays {
+    ghost Asks = { AnswersByParts };
+
+    ghost Stands = { StandSo };
+
+    fn go_on(
+        &mut self,
+        alloc: Global,
+        subject: &Subject<'_>,
+        nodes: &NodeTable,
+        client: u8,
+        place: usize,
+        keeping: &mut Keeping,
+    ) -> Result<bool, AllocError> {
+        let what = &subject.command(client, place).what;
+        let answer = &subject.reply(client, place).answer;
+        if !self.is_right(alloc, subject, nodes, client, keeping.ids(), what, answer)? {
+            return Ok(false);
+        }
+        keeping.go_on(alloc, subject, client, place)?;
+        Ok(true)
+    }
+}
+
+/// Whether a report that keeps the rules before the last keeps this one too: the decisions that are computed are those that are
+/// shown, and each answer of a map that is played by its parts is right by the nodes of commands.
+pub(crate) fn keeps_fourteenth(
+    alloc: Global,
+    subject: &Subject<'_>,
+    nodes: &NodeTable,
+    texts: &ShownTexts<'_>,
+) -> Result<bool, AllocError>
+    requires keeps { Keeps subject.now.script subject.now.report 13 }
+    requires differ { ColoursDiffer subject.now.script }
+    requires nodes { AreNodes (nodes_with subject.now.script subject.now.report
+        (finds_of subject.now.script subject.now.report) (decisions_of subject.now.script subject.now.report)) nodes.now }
+    requires texts { texts.now ≡ subject.now.report }
+    ensures { IfOk result (λ b. Tells b (Keeps subject.now.script subject.now.report 14)) }
+{
+    subject.agrees();
+    fourteenth_is_decided();
+    fourteenth_is_of_parts();
+    if !shows_decisions(subject, nodes, texts) {
+        return Ok(false);
+    }
+    let mut plays = PartPlays::new(alloc)?;
+    each_step_played(alloc, subject, nodes, &mut plays)
 }

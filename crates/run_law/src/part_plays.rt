@@ -1,5 +1,5 @@
 // Parts of transactional maps that are played from answer to answer.
-ghost use Rattle.std.specs.Prelude.{◌≡◌, ◌<◌, ◌≤◌, ◌^◌, List, IfOk, OnOk, length};
+ghost use Rattle.std.specs.Prelude.{◌≡◌, ◌<◌, List, OnOk};
 ghost use Rattle.log_node.specs.declared.node.Node.{Node as Appended};
 ghost use Rattle.part_fold.specs.PartStates.{IsPart};
 ghost use Rattle.column_track.specs.Tracks.{Tells};

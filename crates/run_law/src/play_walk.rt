@@ -1,5 +1,5 @@
 // A walk over the commands of clients by objects that are played from answer to answer.
-ghost use Rattle.std.specs.Prelude.{◌≡◌, ◌<◌, IfOk, OnOk, List, length};
+ghost use Rattle.std.specs.Prelude.{◌<◌, IfOk, OnOk, List, length};
 ghost use Rattle.log_node.specs.declared.node.Node.{Node as Appended};
 ghost use Rattle.lawful_run.specs.Callers.{Caller, caller_of};
 ghost use Rattle.run_rules.specs.Told.{Step as StepTold};

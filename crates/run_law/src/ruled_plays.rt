@@ -1,5 +1,5 @@
 // Transactional maps with what became of their transactions, played from decision to decision.
-ghost use Rattle.std.specs.Prelude.{◌≡◌, ◌≤◌, List, length, take, IfOk, OnOk};
+ghost use Rattle.std.specs.Prelude.{◌≡◌, List, IfOk, OnOk};
 ghost use Rattle.log_node.specs.declared.node.Node.{Node as Appended};
 ghost use Rattle.object_fold.specs.Transactions.{verdict_of};
 ghost use Rattle.part_fold.specs.Agreement.{outcome};

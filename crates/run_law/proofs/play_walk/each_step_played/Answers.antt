@@ -1,4 +1,4 @@
-use Rattle.std.proofs.Common.{◌≡◌, arith}
+use Rattle.std.proofs.Common.{arith}
 use Rattle.run_law.proofs.WalkLemmas.{clients_all, clients_off, clients_on}
 use Rattle.run_law.proofs.play_walk.each_step_played.Goals as goal
 

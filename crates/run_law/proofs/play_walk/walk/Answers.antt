@@ -1,5 +1,5 @@
-use Rattle.std.proofs.Common.{◌≡◌, ◌<◌, ◌^◌, ◌∙◌, arith, length, sym}
-use Rattle.lawful_run.specs.Callers.{caller_of, commands_of}
+use Rattle.std.proofs.Common.{arith}
+use Rattle.lawful_run.specs.Callers.{caller_of}
 use Rattle.run_law.proofs.WalkLemmas.{first_walked, step_few, step_goes, step_stops, walked_all}
 use Rattle.run_law.proofs.play_walk.walk.Goals as goal
 

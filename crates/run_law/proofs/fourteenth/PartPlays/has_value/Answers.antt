@@ -1,6 +1,5 @@
-use Rattle.std.proofs.Common.{◌≡◌, ◌∙◌, ap, subst, sym, List, ℕ}
+use Rattle.std.proofs.Common.{◌∙◌, ap, subst, sym, ℕ}
 use Rattle.log_node.specs.Vectors.{at}
-use Rattle.object_fold.specs.Nodes.{ObjectNode}
 use Rattle.part_fold.specs.PartStates.{IsPart}
 use Rattle.part_fold.specs.Parts.{Part}
 use Rattle.part_fold.specs.declared.part_fold.PartFold.{PartFold}

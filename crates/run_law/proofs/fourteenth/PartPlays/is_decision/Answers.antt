@@ -1,13 +1,11 @@
-use Rattle.std.proofs.Common.{◌≡◌, ◌∙◌, Bool, Some, ap, arith, subst, sym, ℕ}
+use Rattle.std.proofs.Common.{◌≡◌, ◌∙◌, Bool, ap, arith, subst, sym, ℕ}
 use Rattle.log_node.specs.declared.ids.Id.{Id}
 use Rattle.log_node.proofs.CallerLemmas.{ok_then}
-use Rattle.object_fold.specs.Transactions.{verdict_of}
-use Rattle.part_fold.specs.Agreement.{outcome}
 use Rattle.part_fold.specs.Decisions.{decision_text}
 use Rattle.column_track.specs.Tracks.{Tells}
 use Rattle.lawful_run.specs.Callers.{caller_of}
 use Rattle.run_rules.specs.Shown.{SaysSo}
-use Rattle.run_law.specs.Fourteenth.{IsDecision, object_nodes, synced_nodes}
+use Rattle.run_law.specs.Fourteenth.{IsDecision, synced_nodes}
 use Rattle.run_law.specs.PartAnswers.{IsWaitedFor}
 use Rattle.run_law.specs.Tenth.{log_with}
 use Rattle.run_law.proofs.Lists.{told_not, told_so}

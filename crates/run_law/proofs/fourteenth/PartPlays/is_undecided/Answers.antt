@@ -1,4 +1,4 @@
-use Rattle.std.proofs.Common.{◌≡◌, subst, sym}
+use Rattle.std.proofs.Common.{subst, sym}
 use Rattle.std.specs.Prelude.{◌==◌}
 use Rattle.lawful_run.specs.Callers.{caller_of}
 use Rattle.run_law.specs.Fourteenth.{synced_nodes}

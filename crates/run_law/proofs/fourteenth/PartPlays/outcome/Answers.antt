@@ -1,4 +1,4 @@
-use Rattle.std.proofs.Common.{◌≡◌, ◌∙◌, ◌<◌, ap, subst, sym, List, ℕ}
+use Rattle.std.proofs.Common.{◌∙◌, ◌<◌, ap, subst, sym, List, ℕ}
 use Rattle.std.specs.List.{All}
 use Rattle.object_fold.specs.Transactions.{verdict_of}
 use Rattle.part_fold.specs.Agreement.{outcome}

@@ -1,4 +1,4 @@
-use Rattle.std.proofs.Common.{◌≡◌, ◌∙◌, ap, subst, sym, List, ℕ}
+use Rattle.std.proofs.Common.{◌∙◌, ap, subst, sym, ℕ}
 use Rattle.log_node.specs.Vectors.{at}
 use Rattle.part_fold.specs.PartStates.{IsPart}
 use Rattle.part_fold.specs.Parts.{Part, undecided_after}

@@ -1,4 +1,4 @@
-use Rattle.std.proofs.Common.{◌≡◌, ◌∙◌, ap, sym, subst, List, take, length, ℕ}
+use Rattle.std.proofs.Common.{◌≡◌, ◌∙◌, ap, subst, List, take, ℕ}
 use Rattle.log_node.specs.declared.ids.Key.{Key}
 use Rattle.part_fold.specs.PartStates.{IsPart}
 use Rattle.col_core.specs.History.{line}

@@ -1,4 +1,4 @@
-use Rattle.std.proofs.Common.{◌≡◌, ◌∙◌, ap, sym, subst, List, take}
+use Rattle.std.proofs.Common.{◌∙◌, ap, subst, List, take}
 use Rattle.log_node.specs.declared.ids.Key.{Key}
 use Rattle.playback.specs.Merging.{region_order}
 use Rattle.part_fold.specs.Ruled.{IsRuled}
