@@ -505,6 +505,11 @@ class Judge:
     def look_at_rows(self):
         """A row's marks are the stamps of its proposals, its outcome follows from them, and each settling is by it."""
         self.row_of = {}
+        self.steps = {}
+        for (region, colour), history in self.histories.items():
+            for event in history.events:
+                if event.what in ("propose", "settle") and not event.is_help():
+                    self.steps.setdefault((region, colour, event.id), []).append(event.place)
         numbers = {}
         for row in self.report.rows:
             client, number = row.name.split(".")
@@ -535,6 +540,9 @@ class Judge:
                 if event.what in ("propose", "settle"):
                     need(not event.is_help() or event.client in self.helpers, f"{colour} in {region}: {event.client} completes nothing")
                     row = self.row_of.get(event.id)
+                    if event.is_help():
+                        waits = [c for c in self.script.colours if self.histories[region, c].entries.get(event.id, [0, False])[1]]
+                        need(row and row.outcome != "open" and not waits, f"{colour} in {region}: {event.client} leaves {event.id} incomplete")
                     need(row and row.region == region and colour in row.marks, f"{colour} in {region}: {event.id} has no row there")
                     need(self.script.clients[event.client] == region, f"{colour} in {region}: an event of another region's client")
                 if event.what == "settle":
@@ -686,6 +694,17 @@ class Walk:
         self.need(id not in self.judge.made, f"{id} is appended twice")
         self.judge.made[id] = self.command.number
         self.look_at_node(id)
+        # Its own steps stand behind what the client had seen.
+        for colour in self.own:
+            steps = self.judge.steps.get((self.region, colour, id), [])
+            self.need(not steps or self.seen[self.region, colour] <= steps[0], f"{id} is worked on in {colour} before what its client had seen")
+
+    def see_steps(self, id):
+        """The client has seen its own steps of a node."""
+        for colour in self.own:
+            steps = self.judge.steps.get((self.region, colour, id), [])
+            if steps:
+                self.seen[self.region, colour] = max(self.seen[self.region, colour], steps[-1] + 1)
 
     def look_at_node(self, id):
         """The node's floor and wants are the client's, in each column where it entered."""
@@ -732,6 +751,7 @@ class Walk:
             self.need(position < len(line) and line[position][:2] == (id, stamp), f"{id} is not at place {position} of {colour} under {stamp}")
             self.need(position >= self.least_position[colour], f"{id} stands before what the client has seen of {colour}")
             self.least_position[colour] = position + 1
+        self.see_steps(id)
         self.stand(id, colours, stamp)
 
     def stand(self, id, colours, stamp):
@@ -1111,9 +1131,11 @@ class Walk:
         place = self.answer.next(r"!\d+")
         give = self.at(far, place, lambda event: event.what == "give" and event.region == self.region)
         length = origin.chains_held[give.place + 1][origin.own]
-        self.need(give.start >= min(length, history.chains_held[before][other]), f"a give from {give.start}")
         self.answer.next("carry")
-        carry = self.at(near, self.answer.next(r"[!?]\d+"), lambda event: event.what == "carry" and event.region == region)
+        place = self.answer.next(r"[!?]\d+")
+        carry = self.at(near, place, lambda event: event.what == "carry" and event.region == region)
+        asked = {min(length, held[other]) for held in history.chains_held[before : int(place[1:]) + 1]}
+        self.need(give.start in asked, f"a give from {give.start}")
         self.need(nodes == (len(carry.carried) if carry else 0), f"{nodes} nodes")
         self.need(history.chains_held[self.seen[near]][other] >= length, "it does not hold the line that was given")
 
