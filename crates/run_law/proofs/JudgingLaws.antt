@@ -16,8 +16,8 @@ use Rattle.run_rules.specs.Laws.{BrokenIsUnlawful, FirstRulesDecided, LaterRules
 use Rattle.run_rules.proofs.CallerLemmas.{keeps_fewer, rule2, rule3, rule4, rule6, rule7, rule8, rule10, rule11, rule12, rule13}
 use Rattle.run_law.specs.declared.judged.Judged.TheVariants.{Lawful, Broken}
 use Rattle.run_law.specs.Judging.{AsksRules, JudgedIsLawful, RulesStand}
-use Rattle.run_law.specs.Showing.{FourteenthIsDecided}
-use Rattle.run_law.proofs.Lists.{told_not, told_so}
+use Rattle.object_law.specs.Showing.{FourteenthIsDecided}
+use Rattle.walk_law.proofs.CallerLemmas.{told_not, told_so}
 
 pub judged_is_lawful : LawfulRunsKeepRules → RulesMakeLawful → BrokenIsUnlawful → JudgedIsLawful
 judged_is_lawful keep make unlawful script report Lawful fits hides is = (

@@ -13,11 +13,11 @@ use Rattle.run_rules.specs.Said.{ShownCouldBeSaid, nodes_shown}
 use Rattle.run_rules.specs.Shown.{Rule9}
 use Rattle.run_rules.specs.Telling.{IsWellFormed, account_of, no_nodes}
 use Rattle.run_rules.proofs.CallerLemmas.{rule1, rule2, rule3, rule4, rule6, rule7, rule8}
-use Rattle.run_law.specs.Journals.{track_shown}
+use Rattle.walk_law.specs.Journals.{track_shown}
 use Rattle.run_law.specs.LeastOf.{IsLeastOf}
-use Rattle.run_law.specs.Walking.{MayWalk}
+use Rattle.walk_law.specs.Walking.{MayWalk}
 use Rattle.run_law.proofs.JudgingLaws.{next_broken}
-use Rattle.run_law.proofs.Lists.{told_not, told_so}
+use Rattle.walk_law.proofs.CallerLemmas.{told_not, told_so}
 
 -- those up to a number are kept, and not the next with them
 pub least_next : (script : Script) (report : Report) (n : ℕ) → n < 9 → Keeps script report n

@@ -13,7 +13,7 @@ use Rattle.run_rules.specs.Deciding.{ColoursDiffer, account_deciding, account_sh
 use Rattle.run_rules.specs.Keeping.{HidesNothing, IsLeastBroken, Keeps, RulesTo, rule_count}
 use Rattle.run_law.specs.declared.judged.Judged.{Judged}
 use Rattle.run_law.specs.declared.judged.Judged.TheVariants.{Lawful, Broken}
-use Rattle.run_law.specs.Showing.{ShownAreDecided}
+use Rattle.object_law.specs.Showing.{ShownAreDecided}
 
 -- it keeps all rules, or this one is the least that it breaks
 abbrev pub IsJudged : Script → Report → Judged → Type 0

@@ -5,23 +5,17 @@ ghost use Rattle.run_rules.specs.Keeping.{RulesTo};
 ghost use Rattle.run_rules.specs.Nodes.{nodes_told};
 ghost use Rattle.run_rules.specs.Telling.{account_of};
 ghost use Rattle.run_law.specs.LeastOf.{IsLeastOf};
-ghost use Rattle.run_law.specs.Walking.{MayWalk};
+ghost use Rattle.walk_law.specs.Walking.{MayWalk};
 
-use crate::fifth::keeps_fifth;
-use crate::first::keeps_first;
-use crate::fourth::keeps_fourth;
-use crate::journals::tracks_of;
-use crate::left_open::keeps_eighth;
-use crate::ninth::keeps_ninth;
-use crate::seventh::keeps_seventh;
-use crate::sixth::keeps_sixth;
-use crate::subject::Subject;
-use crate::third::keeps_third;
 use column_track::Track;
 use report_text::Report;
 use run_rules::{first_rules_decided, later_rules_decided, ninth_rule_decided};
 use script_text::Script;
 use std::alloc::{AllocError, Global};
+use walk_law::{
+    Subject, keeps_eighth, keeps_fifth, keeps_first, keeps_fourth, keeps_ninth, keeps_seventh,
+    keeps_sixth, keeps_third, tracks_of,
+};
 
 // The first that is broken of a report that keeps the first five.
 fn least_from_sixth(alloc: Global, subject: &Subject<'_>) -> Result<Option<u8>, AllocError>

@@ -1,5 +1,5 @@
 use Rattle.run_law.proofs.LeastLemmas.{fifth_broken, fourth_broken}
-use Rattle.run_law.proofs.Lists.{told_not, told_so}
+use Rattle.walk_law.proofs.CallerLemmas.{told_not, told_so}
 use Rattle.run_law.proofs.judging.least_from_fourth.Goals as goal
 
 pub returns-then-not-branch : goal.returns-then-not-branch

@@ -1,7 +1,7 @@
 use Rattle.std.proofs.Common.{◌∙◌, subst}
-use Rattle.run_law.specs.Journals.{AreTracksOf}
+use Rattle.walk_law.specs.Journals.{AreTracksOf}
 use Rattle.run_law.proofs.LeastLemmas.{first_kept, may_walk, second_broken, third_broken}
-use Rattle.run_law.proofs.Lists.{told_not, told_so}
+use Rattle.walk_law.proofs.CallerLemmas.{told_not, told_so}
 use Rattle.run_law.proofs.judging.least_of_nine.Goals as goal
 
 pub tracks_of-requires-clause-columns : goal.tracks_of-requires-clause-columns

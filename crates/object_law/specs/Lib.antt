@@ -1,0 +1,13 @@
+pub mod AmongMaps
+pub mod Drafts
+pub mod Fourteenth
+pub mod KeysRead
+pub mod NodeTables
+pub mod ObjectAnswers
+pub mod ObjectPlays
+pub mod PartAnswers
+pub mod ReadNodes
+pub mod Showing
+pub mod Tenth
+pub mod Thirteenth
+pub mod TreePlays

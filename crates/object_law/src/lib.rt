@@ -1,0 +1,32 @@
+//! Which of the rules that objects decide a report of a script keeps: the tenth, the thirteenth and the fourteenth.
+#![tactic(auto)]
+
+mod among_map;
+mod drafts;
+mod finds;
+mod fourteenth;
+mod key_order;
+mod keys_read;
+mod line_play;
+mod node_said;
+mod node_table;
+mod node_told;
+mod object_laws;
+mod part_plays;
+mod play_walk;
+mod queue_plays;
+mod read_places;
+mod region_play;
+mod ruled_plays;
+mod several_plays;
+mod shard_plays;
+mod showing;
+mod tree_play;
+mod tree_told;
+mod trees;
+mod tx_plays;
+
+pub use object_laws::{
+    fourteenth_is_decided, fourteenth_is_of_parts, showing_is_found, tenth_is_right,
+    thirteenth_is_said,
+};

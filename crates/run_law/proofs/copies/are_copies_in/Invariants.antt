@@ -1,6 +1,0 @@
-use Rattle.std.proofs.Common.{ℕ, ◌<◌}
-use Rattle.run_law.specs.Columns.{AreCopiesOf}
-use Rattle.run_law.proofs.copies.are_copies_in.Given as goal
-
-abbrev pub invariant-loop-origin : goal.invariant-loop-origin
-invariant-loop-origin l = (k : ℕ) → k < l.origin → AreCopiesOf l.shape.regions l.shape.colours l.columns l.colour k

@@ -1,6 +1,0 @@
-use Rattle.std.proofs.Common.{ℕ, ◌<◌}
-use Rattle.run_law.specs.Columns.{IsCopyAt}
-use Rattle.run_law.proofs.copies.are_copies_of.Given as goal
-
-abbrev pub invariant-loop-copier : goal.invariant-loop-copier
-invariant-loop-copier l = (k : ℕ) → k < l.copier → IsCopyAt l.shape.colours l.columns l.colour l.origin k

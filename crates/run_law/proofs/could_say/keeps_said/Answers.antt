@@ -1,5 +1,0 @@
-use Rattle.run_law.proofs.SayingLemmas.{said_by_steps}
-use Rattle.run_law.proofs.could_say.keeps_said.Goals as goal
-
-pub returns : goal.returns
-returns c = said_by_steps c.args.subject.now c.args.texts.now c.each_step.result c.requires c.each_step.ensures

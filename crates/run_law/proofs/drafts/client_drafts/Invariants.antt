@@ -1,8 +1,0 @@
-use Rattle.run_law.specs.Finds.{decision_at}
-use Rattle.run_law.proofs.GoingLemmas.{AreGone}
-use Rattle.run_law.proofs.drafts.client_drafts.Given as goal
-
--- the commands so far are gone over
-abbrev pub invariant-loop-place : goal.invariant-loop-place
-invariant-loop-place l =
-    AreGone l.subject l.client (decision_at l.decisions) l.place l.going.keeping l.going.places l.drafts

@@ -1,7 +1,0 @@
-use Rattle.run_law.specs.Finds.{decision_at}
-use Rattle.run_law.proofs.GoingLemmas.{HaveFirst}
-use Rattle.run_law.proofs.drafts.drafts_of.Given as goal
-
--- those of the clients so far
-abbrev pub invariant-loop-client : goal.invariant-loop-client
-invariant-loop-client l = HaveFirst l.subject (decision_at l.decisions) l.client l.table

@@ -1,8 +1,0 @@
-use Rattle.std.proofs.Common.{take}
-use Rattle.std.specs.List.{All}
-use Rattle.run_law.specs.Eleventh.{IsEndMark}
-use Rattle.run_law.proofs.eleventh.are_end_marks.Given as goal
-
--- all so far
-abbrev pub invariant-loop-mark : goal.invariant-loop-mark
-invariant-loop-mark l = All (IsEndMark l.colour) (take l.mark-index l.marks)

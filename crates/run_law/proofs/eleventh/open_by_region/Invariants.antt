@@ -1,6 +1,0 @@
-use Rattle.run_law.specs.Eleventh.{AreOpenIds}
-use Rattle.run_law.proofs.eleventh.open_by_region.Given as goal
-
--- those of the regions so far
-abbrev pub invariant-loop-region : goal.invariant-loop-region
-invariant-loop-region l = AreOpenIds l.region l.columns l.tables.items

@@ -1,7 +1,0 @@
-use Rattle.std.proofs.Common.{◌<◌, ℕ}
-use Rattle.run_law.specs.Fourth.{HasMadeIn}
-use Rattle.run_law.proofs.fourth.has_made.Given as goal
-
--- in the regions so far
-abbrev pub invariant-loop-region : goal.invariant-loop-region
-invariant-loop-region l = (region : ℕ) → region < l.region → HasMadeIn l.subject l.client l.keeping region

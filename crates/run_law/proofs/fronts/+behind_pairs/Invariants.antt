@@ -1,5 +1,0 @@
-use Rattle.std.proofs.Common.{length}
-use Rattle.run_law.proofs.fronts.+behind_pairs.Given as goal
-
-abbrev pub decreases-behind_pairs : goal.decreases-behind_pairs
-decreases-behind_pairs l = length l.pairs.now

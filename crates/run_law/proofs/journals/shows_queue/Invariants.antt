@@ -1,6 +1,0 @@
-use Rattle.run_law.proofs.ClosingLemmas.{ShowsTo}
-use Rattle.run_law.proofs.journals.shows_queue.Given as goal
-
--- the entries so far are those shown
-abbrev pub invariant-loop-at : goal.invariant-loop-at
-invariant-loop-at l = ShowsTo l.track.journal l.queue l.at

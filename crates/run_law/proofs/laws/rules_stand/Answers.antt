@@ -1,9 +1,0 @@
-use Rattle.run_rules.proofs.CallerLemmas.{shown_finds_decide}
-use Rattle.run_law.proofs.JudgingLaws.{all_stand}
-use Rattle.run_law.proofs.laws.rules_stand.Goals as goal
-
-pub returns : goal.returns
-returns c = λ script report fits.
-    all_stand c.first_rules_decided.ensures c.later_rules_decided.ensures
-    (shown_finds_decide c.region_order_is_unique.ensures c.region_order_is_lawful.ensures c.decisions_are_plain.ensures)
-    script report fits

@@ -1,7 +1,0 @@
-use Rattle.std.proofs.Common.{ℕ, ◌<◌}
-use Rattle.run_law.specs.Listed.{ClientsRise}
-use Rattle.run_law.proofs.listing.are_by_clients.Given as goal
-
--- those of the regions so far
-abbrev pub invariant-loop-region : goal.invariant-loop-region
-invariant-loop-region l = (r : ℕ) → r < l.region → ClientsRise r 0 l.rows

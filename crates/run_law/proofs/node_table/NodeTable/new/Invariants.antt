@@ -1,7 +1,0 @@
-use Rattle.std.proofs.Common.{◌≡◌, ℕ, List, [], length}
-use Rattle.run_law.specs.NodeTables.{nodes_at}
-use Rattle.run_law.proofs.node_table.NodeTable.new.Given as goal
-
--- so many lists, all without a node
-abbrev pub invariant-loop : goal.invariant-loop
-invariant-loop l = (length l.lists.items ≡ l.counter) × ((client : ℕ) → nodes_at l.lists.items client ≡ [])

@@ -1,7 +1,0 @@
-use Rattle.std.proofs.Common.{◌≡◌, ◌++◌}
-use Rattle.run_law.specs.Asking.{colours_in}
-use Rattle.run_law.proofs.object_colours.listed.Given as goal
-
--- the members so far stand before those that are left
-abbrev pub invariant-loop-colour : goal.invariant-loop-colour
-invariant-loop-colour l = l.colours ++ l.colour-iterator ≡ colours_in l.fn.set

@@ -1,5 +1,0 @@
-use Rattle.std.proofs.Common.{length}
-use Rattle.run_law.proofs.pieces.+are_colours.Given as goal
-
-abbrev pub decreases-are_colours : goal.decreases-are_colours
-decreases-are_colours g l = length l.pieces.now

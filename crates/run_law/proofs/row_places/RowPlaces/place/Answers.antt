@@ -1,9 +1,0 @@
-use Rattle.std.proofs.Common.{◌∙◌}
-use Rattle.run_law.proofs.RowPlaceLemmas.{place_found}
-use Rattle.run_law.proofs.row_places.RowPlaces.place.Goals as goal
-
-pub returns : goal.returns
-returns c =
-    c.copied.ensures
-    ∙ (c.get.ensures.value
-    ∙ place_found (record { region = c.args.region; id = c.args.id }) c.args.self.now.by_row.entries)

@@ -1,7 +1,0 @@
-use Rattle.std.proofs.Common.{take}
-use Rattle.std.specs.List.{All}
-use Rattle.run_law.specs.RowsBeside.{IsMarkedBeside}
-use Rattle.run_law.proofs.rows.are_marked.Given as goal
-
-abbrev pub invariant-loop-at : goal.invariant-loop-at
-invariant-loop-at l = All (IsMarkedBeside l.columns) (take l.at l.rows)

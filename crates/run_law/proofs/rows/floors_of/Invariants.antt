@@ -1,6 +1,0 @@
-use Rattle.std.proofs.Common.{◌≡◌, take, map}
-use Rattle.run_law.specs.RowsBeside.{floor_beside}
-use Rattle.run_law.proofs.rows.floors_of.Given as goal
-
-abbrev pub invariant-loop-row : goal.invariant-loop-row
-invariant-loop-row l = l.floors.items ≡ map (floor_beside l.columns) (take l.row-index l.rows)

@@ -1,7 +1,0 @@
-use Rattle.std.proofs.Common.{◌≡◌, map, take}
-use Rattle.run_law.specs.Ninth.{key_shown}
-use Rattle.run_law.proofs.scanning.show_keys.Given as goal
-
--- the keys so far are shown
-abbrev pub invariant-loop-at : goal.invariant-loop-at
-invariant-loop-at l = take l.at l.keys ≡ map key_shown (take l.at l.nodes)

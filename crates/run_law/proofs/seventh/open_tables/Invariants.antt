@@ -1,7 +1,0 @@
-use Rattle.std.proofs.Common.{take}
-use Rattle.run_law.specs.Seventh.{AreOpenTables}
-use Rattle.run_law.proofs.seventh.open_tables.Given as goal
-
--- those of the columns so far
-abbrev pub invariant-loop-column : goal.invariant-loop-column
-invariant-loop-column l = AreOpenTables (take l.column-index l.columns) l.tables.items

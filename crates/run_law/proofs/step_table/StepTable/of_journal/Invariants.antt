@@ -1,7 +1,0 @@
-use Rattle.std.proofs.Common.{take}
-use Rattle.run_law.specs.PlaceTables.{AreSteps}
-use Rattle.run_law.proofs.step_table.StepTable.of_journal.Given as goal
-
--- the own steps so far
-abbrev pub invariant-loop-at : goal.invariant-loop-at
-invariant-loop-at l = AreSteps (take l.at l.journal) l.table

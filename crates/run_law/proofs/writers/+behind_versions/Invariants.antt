@@ -1,5 +1,0 @@
-use Rattle.std.proofs.Common.{length}
-use Rattle.run_law.proofs.writers.+behind_versions.Given as goal
-
-abbrev pub decreases-behind_versions : goal.decreases-behind_versions
-decreases-behind_versions l = length l.shown.now
