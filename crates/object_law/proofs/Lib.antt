@@ -14,6 +14,7 @@ mod ShowingLaws
 mod ShowingLemmas
 mod ShownFinds
 mod TenthLaws
+mod TenthSteps
 mod ThirteenthLaws
 mod ToldOfLemmas
 mod TreeKeys

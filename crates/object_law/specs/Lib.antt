@@ -9,5 +9,6 @@ pub mod PartAnswers
 pub mod ReadNodes
 pub mod Showing
 pub mod Tenth
+pub mod TenthPlays
 pub mod Thirteenth
 pub mod TreePlays

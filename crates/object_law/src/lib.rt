@@ -21,6 +21,7 @@ mod ruled_plays;
 mod several_plays;
 mod shard_plays;
 mod showing;
+mod tenth;
 mod tree_play;
 mod tree_told;
 mod trees;
