@@ -1,3 +1,4 @@
+pub mod AccountTables
 pub mod AmongMaps
 pub mod AnswerPlays
 pub mod Drafts
