@@ -1,11 +1,13 @@
 mod AmongLemmas
 mod AnswerLemmas
 mod AppendedNodes
+mod CausalNodes
 mod FindingLemmas
 mod FourteenthLaws
 mod GoingLemmas
 mod LineOrder
 mod NamesTold
+mod OneAnswer
 mod ObjectOrders
 mod PartLemmas
 mod ReadDecides
@@ -13,6 +15,7 @@ mod ReadsWhole
 mod ShowingLaws
 mod ShowingLemmas
 mod ShownFinds
+mod Shuffles
 mod TenthLaws
 mod ThirteenthLaws
 mod ToldOfLemmas

@@ -1,4 +1,5 @@
 pub mod AmongMaps
+pub mod CausalPlays
 pub mod Drafts
 pub mod Fourteenth
 pub mod KeysRead

@@ -2,6 +2,7 @@
 #![tactic(auto)]
 
 mod among_map;
+mod causal_plays;
 mod drafts;
 mod finds;
 mod fourteenth;
