@@ -1,8 +1,7 @@
 -- The nodes that a causal map is fed along the lines of a colour, and what it answers then.
-use Rattle.std.proofs.Common.{◌≡◌, ◌∙◌, refl, ap, sym, subst, ℕ, zero, suc, ◌+◌, ◌-◌, ◌<◌, ◌≤◌, min, Bool, true, List, [], ◌∷◌, ◌++◌, length, map, take, Option, Some, None, inl, inr, arith}
-use Rattle.std.specs.Prelude.{◌==◌, ◌&&◌, nat_lt, slice_get}
+use Rattle.std.proofs.Common.{◌≡◌, ◌∙◌, refl, ap, sym, subst, ℕ, zero, suc, ◌+◌, ◌-◌, ◌<◌, ◌≤◌, min, Bool, true, List, [], ◌∷◌, ◌++◌, map, take, Option, Some, None, inl, inr, arith}
+use Rattle.std.specs.Prelude.{◌==◌, nat_lt, slice_get}
 use Rattle.std.specs.List.{AllZip, range_with_len}
-use Rattle.std.specs.List.Sorted.{IsPermutation}
 use Rattle.std.proofs.lemmas.Bool.{and_from, and_parts, cases_lt, eqb-true, lt-ltb, ltb-true}
 use Rattle.std.proofs.lemmas.List.Sorted.{IsPermutation-cons, IsPermutation-refl, IsPermutation-to_front, IsPermutation-trans}
 use mathlib.Core.List.{IsPrefix}
@@ -12,7 +11,7 @@ use Rattle.log_node.specs.declared.ids.Key.{Key}
 use Rattle.log_node.specs.declared.node.Head.{Head}
 use Rattle.log_node.specs.declared.node.Node.{Node}
 use Rattle.log_node.specs.Reach.{Chains, Reachable, is_covered, next, nothing}
-use Rattle.log_node.specs.Vectors.{IsWithin, all_regions, at, one_more, vector, zeros}
+use Rattle.log_node.specs.Vectors.{IsWithin, all_regions, at, one_more, vector}
 use Rattle.log_node.proofs.CallerLemmas.{all_zip_of, at-one_more, each_region, get_longer, get_map_back, get_within, reached_within, same_some, within, within-at, within-one_more, within-trans, within-zeros}
 use Rattle.col_core.specs.declared.Entry.{Entry}
 use Rattle.col_core.specs.declared.Event.{Event}
@@ -35,6 +34,7 @@ use Rattle.report_text.specs.declared.report.SyncPiece.{SyncPiece}
 use Rattle.lawful_run.specs.Callers.{Caller, caller_of}
 use Rattle.lawful_run.specs.Objects.{GetsValues, IsChainNode, places_within}
 use Rattle.lawful_run.proofs.CallerLemmas.{in_regions, more_places, regions_in, same_places, zip_to}
+use Rattle.run_rules.proofs.CallerLemmas.{one_text}
 use Rattle.object_law.specs.CausalPlays.{AreLineNodes, GetsByLines, IsFed, ShowsCut}
 use Rattle.object_law.specs.Tenth.{log_with}
 use Rattle.object_law.proofs.OneAnswer.{answer_in, one_answer}
@@ -77,12 +77,8 @@ module _ (log : Log) (chains : Chains) where
       let position : x.position ≡ z.position = f.position_is ∙ sym g.position_is in
       let head : f.head ≡ g.head = same_some (sym f.stands ∙ g.stands) in
       let needs : x.needs ≡ z.needs = f.needs_are ∙ (ap (λ (h : Head). h.needs) head ∙ sym g.needs_are) in
-      let s = f.text in
-      let t = g.text in
-      let there : slice_get (log.nodes f.head.key.id.client) f.head.key.id.count ≡ Some t.0 =
-      ap (λ (h : Head). slice_get (log.nodes h.key.id.client) h.key.id.count) head ∙ t.1 in
-      let node : s.0 ≡ t.0 = same_some (sym s.1 ∙ there) in
-      let text : x.text ≡ z.text = sym s.3 ∙ (ap (λ (m : Node). m.text) node ∙ t.3) in
+      let text : x.text ≡ z.text =
+      one_text log f.head.key.id g.head.key.id (ap (λ (h : Head). h.key.id) (sym head)) x.text z.text f.text g.text in
       ap (λ (n : ℕ). record { region = n; position = x.position; needs = x.needs; text = x.text }) region
       ∙ (ap (λ (n : ℕ). record { region = z.region; position = n; needs = x.needs; text = x.text }) position
       ∙ (ap (λ (c : Counts). record { region = z.region; position = z.position; needs = c; text = x.text }) needs
