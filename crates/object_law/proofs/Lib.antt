@@ -2,11 +2,13 @@ mod AccountLemmas
 mod AmongLemmas
 mod AnswerLemmas
 mod AppendedNodes
+mod CausalNodes
 mod FindingLemmas
 mod FourteenthLaws
 mod GoingLemmas
 mod LineOrder
 mod NamesTold
+mod OneAnswer
 mod ObjectOrders
 mod PartLemmas
 mod ReadDecides
@@ -14,6 +16,7 @@ mod ReadsWhole
 mod ShowingLaws
 mod ShowingLemmas
 mod ShownFinds
+mod Shuffles
 mod TenthLaws
 mod ThirteenthLaws
 mod ToldOfLemmas

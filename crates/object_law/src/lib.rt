@@ -3,6 +3,7 @@
 
 mod account_tables;
 mod among_map;
+mod causal_plays;
 mod drafts;
 mod finds;
 mod fourteenth;

@@ -89,8 +89,8 @@ fn place_of(keys: &[Key], key: Key) -> Option<usize>
     }
 }
 
-// Whether these are the same names.
-fn are_same(one: &[Text], other: &[Text]) -> bool
+/// Whether these are the same names.
+pub(crate) fn are_same(one: &[Text], other: &[Text]) -> bool
     ensures { Tells result (one.now ≡ other.now) }
 {
     if one.len() != other.len() {
