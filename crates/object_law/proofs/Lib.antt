@@ -8,8 +8,8 @@ mod FourteenthLaws
 mod GoingLemmas
 mod LineOrder
 mod NamesTold
-mod OneAnswer
 mod ObjectOrders
+mod OneAnswer
 mod PartLemmas
 mod ReadDecides
 mod ReadsWhole
