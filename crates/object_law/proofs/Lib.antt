@@ -1,6 +1,7 @@
 mod AmongLemmas
 mod AnswerLemmas
 mod AppendedNodes
+mod AtPlaces
 mod FindingLemmas
 mod FourteenthLaws
 mod GoingLemmas
