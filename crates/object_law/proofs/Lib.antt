@@ -3,6 +3,7 @@ mod AmongLemmas
 mod AnswerLemmas
 mod AppendedNodes
 mod CausalNodes
+mod AtPlaces
 mod FindingLemmas
 mod FourteenthLaws
 mod GoingLemmas

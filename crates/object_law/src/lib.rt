@@ -14,6 +14,7 @@ mod node_said;
 mod node_table;
 mod node_told;
 mod object_laws;
+mod order_ids;
 mod part_plays;
 mod play_walk;
 mod queue_plays;
