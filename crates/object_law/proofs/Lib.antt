@@ -2,8 +2,8 @@ mod AccountLemmas
 mod AmongLemmas
 mod AnswerLemmas
 mod AppendedNodes
-mod CausalNodes
 mod AtPlaces
+mod CausalNodes
 mod FindingLemmas
 mod FourteenthLaws
 mod GoingLemmas
