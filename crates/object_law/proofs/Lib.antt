@@ -1,3 +1,4 @@
+mod AccountLemmas
 mod AmongLemmas
 mod AnswerLemmas
 mod AppendedNodes

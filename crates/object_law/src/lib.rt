@@ -1,6 +1,7 @@
 //! Which of the rules that objects decide a report of a script keeps: the tenth, the thirteenth and the fourteenth.
 #![tactic(auto)]
 
+mod account_tables;
 mod among_map;
 mod drafts;
 mod finds;
