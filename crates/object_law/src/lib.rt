@@ -24,12 +24,17 @@ mod ruled_plays;
 mod several_plays;
 mod shard_plays;
 mod showing;
+mod thirteenth;
 mod tree_play;
 mod tree_told;
-mod trees;
 mod tx_plays;
 
+pub use finds::{Decisions, Finds};
+pub use fourteenth::keeps_fourteenth;
+pub use node_table::NodeTable;
 pub use object_laws::{
     fourteenth_is_decided, fourteenth_is_of_parts, showing_is_found, tenth_is_right,
     thirteenth_is_said,
 };
+pub use showing::{keeps_showing, shows_decisions};
+pub use thirteenth::keeps_thirteenth;
