@@ -1,14 +1,16 @@
+mod AccountLemmas
 mod AmongLemmas
 mod AnswerLemmas
 mod AppendedNodes
+mod AtPlaces
 mod CausalNodes
 mod FindingLemmas
 mod FourteenthLaws
 mod GoingLemmas
 mod LineOrder
 mod NamesTold
-mod OneAnswer
 mod ObjectOrders
+mod OneAnswer
 mod PartLemmas
 mod ReadDecides
 mod ReadsWhole

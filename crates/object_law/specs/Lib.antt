@@ -1,4 +1,6 @@
+pub mod AccountTables
 pub mod AmongMaps
+pub mod AnswerPlays
 pub mod CausalPlays
 pub mod Drafts
 pub mod Fourteenth
