@@ -11,6 +11,7 @@ mod ObjectOrders
 mod PartLemmas
 mod ReadDecides
 mod ReadsWhole
+mod RulingLemmas
 mod ShowingLaws
 mod ShowingLemmas
 mod ShownFinds

@@ -22,10 +22,11 @@ mod ruled_plays;
 mod several_plays;
 mod shard_plays;
 mod showing;
+mod told_nodes;
 mod tree_play;
-mod tree_told;
 mod trees;
 mod tx_plays;
+mod tx_told;
 
 pub use object_laws::{
     fourteenth_is_decided, fourteenth_is_of_parts, showing_is_found, tenth_is_right,
