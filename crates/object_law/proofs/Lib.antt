@@ -1,13 +1,16 @@
+mod AccountLemmas
 mod AmongLemmas
 mod AnswerLemmas
 mod AppendedNodes
 mod AtPlaces
+mod CausalNodes
 mod FindingLemmas
 mod FourteenthLaws
 mod GoingLemmas
 mod LineOrder
 mod NamesTold
 mod ObjectOrders
+mod OneAnswer
 mod PartLemmas
 mod ReadDecides
 mod ReadsWhole
@@ -15,6 +18,7 @@ mod RulingLemmas
 mod ShowingLaws
 mod ShowingLemmas
 mod ShownFinds
+mod Shuffles
 mod TenthLaws
 mod ThirteenthLaws
 mod ToldOfLemmas
