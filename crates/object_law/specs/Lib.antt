@@ -13,4 +13,5 @@ pub mod ReadNodes
 pub mod Showing
 pub mod Tenth
 pub mod Thirteenth
+pub mod ToldNodes
 pub mod TreePlays
