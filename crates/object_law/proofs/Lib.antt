@@ -14,6 +14,7 @@ mod OneAnswer
 mod PartLemmas
 mod ReadDecides
 mod ReadsWhole
+mod RulingLemmas
 mod ShowingLaws
 mod ShowingLemmas
 mod ShownFinds

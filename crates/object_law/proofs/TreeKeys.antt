@@ -47,7 +47,8 @@ use Rattle.run_rules.specs.Rules.{IsLawfulColumn}
 use Rattle.run_rules.specs.Telling.{journal_among, no_nodes}
 use Rattle.walk_law.specs.Asking.{AreLow, all_of}
 use Rattle.object_law.specs.KeysRead.{whole_lines, whole_order}
-use Rattle.object_law.specs.TreePlays.{AreKeysOf, IsTreePlay, SyncsWhole, told_each, tree_colours}
+use Rattle.object_law.specs.ToldNodes.{told_each}
+use Rattle.object_law.specs.TreePlays.{AreKeysOf, IsTreePlay, SyncsWhole, tree_colours}
 use Rattle.walk_law.specs.Walking.{MayWalk, Walked, journal_walked, log_walked}
 use Rattle.walk_law.proofs.CallerLemmas.{low_objects}
 use Rattle.walk_law.proofs.CallerLemmas.{by_place, journal_is}
@@ -161,7 +162,7 @@ module _ (walked : Walked) (table : List (List Node)) (client : ℕ) (what : Wha
 
   pub change_told : SyncsWhole what (Some object) → (failed : Option TreeWhy) (stamp : ℕ) (own : Key) (read_stamp : ℕ) → read_stamp < 2 ^ 64
       → (told : Option Told)
-      → ((t : List (List Node)) → p.told.items ≡ told_each t p.keys.items
+      → ((t : List (List Node)) → p.told.items ≡ told_each telling t p.keys.items
       → told ≡ told_of telling (nodes_under t (up_to read_stamp p.keys.items)) own)
       → (b : Bool) → Tells b (told ≡ Some (told_under stamp failed)) → Tells b (TellsChange walked table it what failed stamp own read_stamp)
   change_told whole failed stamp own read_stamp small told by b so =
@@ -195,6 +196,6 @@ module _ (walked : Walked) (table : List (List Node)) (p : TreePlay) (play : IsT
         subst (λ (r : ℕ). AreKeysOf walked r (tree_colours walked.script q.object) q.keys.items) (sym same.0)
         (subst (λ (o : ℕ). AreKeysOf walked p.region (tree_colours walked.script o) q.keys.items) (sym same.1)
         (subst (AreKeysOf walked p.region (tree_colours walked.script p.object)) (sym keys) play.keys));
-    told = told ∙ (play.told ∙ ap (told_each table) (sym keys));
+    told = told ∙ (play.told ∙ ap (told_each telling table) (sym keys));
     holds = holds;
   }

@@ -14,4 +14,5 @@ pub mod Showing
 pub mod Tenth
 pub mod TenthPlays
 pub mod Thirteenth
+pub mod ToldNodes
 pub mod TreePlays

@@ -1,13 +1,9 @@
 -- Trees that are played for what they tell of changes and for the names in their paths.
-use Rattle.std.specs.Prelude.{◌≡◌, false, ℕ, ◌^◌, ◌<◌, ◌≢◌, List, [], ◌∷◌, map, Option, Some, None, slice_get}
-use Rattle.std.specs.List.{All, Contains}
+use Rattle.std.specs.Prelude.{◌≡◌, ℕ, ◌^◌, ◌<◌, ◌≢◌, List, Option, Some, None, slice_get}
+use Rattle.std.specs.List.{All}
 use Rattle.std.specs.Option.{option_map}
 use Rattle.log_node.specs.declared.ids.Key.{Key}
 use Rattle.log_node.specs.declared.node.Node.{Node}
-use Rattle.log_node.specs.Order.{same_key}
-use Rattle.object_fold.specs.Folds.{told_of}
-use Rattle.object_fold.specs.Nodes.{ObjectNode}
-use Rattle.tree_fold.specs.declared.told.Told.{Told}
 use Rattle.tree_fold.specs.Trees.{telling}
 use Rattle.tree_fold.specs.TreeStates.{IsTree}
 use Rattle.playback.specs.Merging.{AreRising, region_order, up_to}
@@ -21,24 +17,10 @@ use Rattle.walk_law.specs.Asking.{all_of}
 use Rattle.object_law.specs.declared.thirteenth.TreePlays.{TreePlays}
 use Rattle.object_law.specs.declared.tree_play.TreePlay.{TreePlay}
 use Rattle.object_law.specs.KeysRead.{whole_lines}
-use Rattle.object_law.specs.NodeTables.{nodes_under}
 use Rattle.object_law.specs.ObjectPlays.{HoldsKeys}
+use Rattle.object_law.specs.ToldNodes.{told_each}
 use Rattle.object_law.specs.PartAnswers.{IfThere}
 use Rattle.walk_law.specs.Walking.{Walked, log_walked}
-
--- what is told of the first of some nodes behind these ones
-abbrev pub told_next : List ObjectNode → List ObjectNode → Option Told
-told_next nodes [] = None
-told_next nodes (node ∷ more) = telling nodes node
-
--- what the tree tells of each of the nodes with these keys, by all of them
-abbrev pub told_each : List (List Node) → List Key → List (Option Told)
-told_each table keys = map (told_of telling (nodes_under table keys)) keys
-
--- the key is that in this place; or it is none of them
-abbrev pub HasPlace : List Key → Key → Option ℕ → Type 0
-HasPlace keys key None = (other : Key) → Contains keys other → same_key other key ≡ false
-HasPlace keys key (Some place) = slice_get keys place ≡ Some key
 
 -- The keys rise, and up to each stamp they are those of some colours of a region.
 pub record AreKeysOf (walked : Walked) (region : ℕ) (colours : List ℕ) (keys : List Key) : Type 0 where
@@ -53,7 +35,7 @@ tree_colours script object =
 -- the tree of an object in a region is played by the nodes in a table
 pub record IsTreePlay (walked : Walked) (table : List (List Node)) (p : TreePlay) : Type 0 where
   pub keys : AreKeysOf walked p.region (tree_colours walked.script p.object) p.keys.items
-  pub told : p.told.items ≡ told_each table p.keys.items
+  pub told : p.told.items ≡ told_each telling table p.keys.items
   pub holds : HoldsKeys IsTree table p.keys.items p.play
 
 -- all trees that are there stand so

@@ -26,9 +26,10 @@ mod shard_plays;
 mod showing;
 mod tenth;
 mod thirteenth;
+mod told_nodes;
 mod tree_play;
-mod tree_told;
 mod tx_plays;
+mod tx_told;
 
 pub use finds::{Decisions, Finds};
 pub use fourteenth::keeps_fourteenth;

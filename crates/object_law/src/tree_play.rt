@@ -13,12 +13,13 @@ ghost use Rattle.lawful_run.specs.Explains.{ShowsNames};
 ghost use Rattle.column_track.specs.Tracks.{Tells};
 ghost use Rattle.object_law.specs.NodeTables.{nodes_under};
 ghost use Rattle.object_law.specs.ObjectPlays.{HoldsKeys};
-ghost use Rattle.object_law.specs.TreePlays.{AreKeysOf, HasPlace, IsTreePlay, told_each, tree_colours};
+ghost use Rattle.object_law.specs.ToldNodes.{told_each};
+ghost use Rattle.object_law.specs.TreePlays.{AreKeysOf, IsTreePlay, tree_colours};
 
 use crate::keys_read::whole_order;
 use crate::node_table::NodeTable;
 use crate::region_play::RegionPlay;
-use crate::tree_told::tell_each;
+use crate::told_nodes::{place_of, tell_each};
 use col_core::region_order_is_unique;
 use log_node::{ColourList, Key, Names, Text};
 use playback::{count_up_to, region_order_is_lawful};
@@ -73,24 +74,6 @@ fn keys_of(
     Ok(keys)
 }
 
-// The place of a key, where it is one of these.
-fn place_of(keys: &[Key], key: Key) -> Option<usize>
-    requires { AreRising keys.now }
-    ensures { HasPlace keys.now key result }
-{
-    let place = keys.partition_point(|other| other.is_below(key));
-    match keys.get(place) {
-        Some(found) => {
-            if found.is_same(key) {
-                Some(place)
-            } else {
-                None
-            }
-        }
-        None => None,
-    }
-}
-
 /// Whether these are the same names.
 pub(crate) fn are_same(one: &[Text], other: &[Text]) -> bool
     ensures { Tells result (one.now ≡ other.now) }
@@ -136,7 +119,7 @@ impl TreePlay {
         subject.agrees();
         let colours = tree_colours(alloc, subject, object)?;
         let keys = keys_of(alloc, subject, region, colours.as_slice())?;
-        let told = tell_each(alloc, nodes, keys.as_slice())?;
+        let told = tell_each::<TreeFold>(alloc, nodes, keys.as_slice())?;
         Ok(TreePlay {
             region,
             object,
@@ -157,7 +140,7 @@ impl TreePlay {
     pub(crate) fn told(&self, own: Key, stamp: u64) -> Option<Told>
         requires rising { AreRising self.now.keys.items }
         requires many { length self.now.told.items ≡ length self.now.keys.items }
-        ensures { (table : List (List Appended)) → self.now.told.items ≡ told_each table self.now.keys.items
+        ensures { (table : List (List Appended)) → self.now.told.items ≡ told_each telling table self.now.keys.items
             → result ≡ told_of telling (nodes_under table (up_to stamp self.now.keys.items)) own }
     {
         let count = count_up_to(self.keys.as_slice(), stamp);

@@ -1,8 +1,8 @@
-use Rattle.std.proofs.Common.{◌≡◌, sym, ◌∙◌, rules, of_calls, arith}
+use Rattle.std.proofs.Common.{sym, ◌∙◌, rules, of_calls, arith}
 use Rattle.std.proofs.lemmas.Fn.{always_returns_same}
 use Rattle.log_node.specs.Order.{key_below}
 use Rattle.object_law.proofs.ToldOfLemmas.{parted_below, place_none, place_other, place_there}
-use Rattle.object_law.proofs.tree_play.place_of.Goals as goal
+use Rattle.object_law.proofs.told_nodes.place_of.Goals as goal
 
 pub returns-then-is_same : goal.returns-then-is_same
 returns-then-is_same c =
