@@ -5,13 +5,14 @@ use Rattle.lawful_run.specs.Callers.{caller_of}
 use Rattle.walk_law.specs.Behind.{steps_untold}
 use Rattle.walk_law.specs.Keepings.{IsCounted, KeepsCount}
 use Rattle.walk_law.proofs.MadeLemmas.{first_places}
-use Rattle.walk_law.proofs.keeping.Keeping.make_steps.Given as goal
+use Rattle.walk_law.proofs.RowSteps.{past_marks}
+use Rattle.walk_law.proofs.keeping.Keeping.make_steps_of.Given as goal
 
--- those of the colours so far are made
-abbrev pub invariant-loop-colour : goal.invariant-loop-colour
-invariant-loop-colour l = record {
+-- those of the colours up to the mark are made
+abbrev pub invariant-loop-mark : goal.invariant-loop-mark
+invariant-loop-mark l = record {
   kept : (replies : List ReplyLine) (kept : Kept) → IsCounted replies kept l.initial.self
       → IsCounted replies (with_made kept (caller_of l.subject.script l.client).own
-      (first_places l.colour (steps_untold l.subject l.client kept.ids))) l.self;
+      (first_places (past_marks 0 l.marks l.mark-index) (steps_untold l.subject l.client l.count))) l.self;
   count : KeepsCount l.initial.self l.self;
 }
