@@ -20,6 +20,7 @@ mod ShowingLemmas
 mod ShownFinds
 mod Shuffles
 mod TenthLaws
+mod TenthSteps
 mod ThirteenthLaws
 mod ToldOfLemmas
 mod TreeKeys

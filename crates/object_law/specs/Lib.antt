@@ -12,6 +12,7 @@ pub mod PartAnswers
 pub mod ReadNodes
 pub mod Showing
 pub mod Tenth
+pub mod TenthPlays
 pub mod Thirteenth
 pub mod ToldNodes
 pub mod TreePlays

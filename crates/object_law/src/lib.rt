@@ -24,6 +24,7 @@ mod ruled_plays;
 mod several_plays;
 mod shard_plays;
 mod showing;
+mod tenth;
 mod thirteenth;
 mod told_nodes;
 mod tree_play;
@@ -38,4 +39,5 @@ pub use object_laws::{
     thirteenth_is_said,
 };
 pub use showing::{keeps_showing, shows_decisions};
+pub use tenth::keeps_tenth;
 pub use thirteenth::keeps_thirteenth;
