@@ -2,11 +2,17 @@ mod AccountLemmas
 mod AmongLemmas
 mod AnswerLemmas
 mod AppendedNodes
+mod DecidedGoing
+mod DecidedLaws
+mod DecidedLemmas
+mod DecidedTexts
+mod DecisionLists
 mod FindingLemmas
 mod FourteenthLaws
 mod GoingLemmas
 mod LineOrder
 mod NamesTold
+mod NotedLemmas
 mod ObjectOrders
 mod PartLemmas
 mod ReadDecides

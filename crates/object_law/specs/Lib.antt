@@ -1,5 +1,6 @@
 pub mod AccountTables
 pub mod AmongMaps
+pub mod Decided
 pub mod Drafts
 pub mod Fourteenth
 pub mod KeysRead

@@ -3,6 +3,12 @@
 
 mod account_tables;
 mod among_map;
+mod decided;
+mod decided_laws;
+mod decided_nodes;
+mod decided_plays;
+mod decisions_by_stamp;
+mod decisions_noted;
 mod drafts;
 mod finds;
 mod fourteenth;
