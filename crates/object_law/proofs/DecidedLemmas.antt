@@ -1,6 +1,6 @@
 -- What decisions say, computed in rising order of the stamps of their reads: one node more, and one decision more.
 use Rattle.std.proofs.Common.{◌≡◌, ◌⊎◌, ◌∙◌, refl, ap, sym, subst, ℕ, zero, suc, ◌+◌, ◌<◌, ◌≤◌, List, [], ◌∷◌, ◌++◌, length, map, take, get_or, append-nil, Option, Some, None, inl, inr, arith}
-use Rattle.std.specs.Prelude.{◌≢◌, slice_get, slice_index_or, slice_set}
+use Rattle.std.specs.Prelude.{◌≢◌, OnOk, Result, slice_get, slice_index_or, slice_set}
 use Rattle.std.specs.List.{All, Contains}
 use Rattle.std.specs.List.Sorted.{IsNonDecreasingBy}
 use Rattle.std.specs.Option.{option_map}
@@ -65,20 +65,21 @@ node_said_by walked table are decided id it e =
     ap (λ (nodes : List Node). slice_get nodes id.count) (sym (are id.client decided))
     ∙ (get_mapped says (decided_at table id.client) id.count ∙ ap (option_map says) e)
 
--- a node is fed with the text that it has
-pub fed : (part : PartFold) (nodes : List ObjectNode) (key : Key) (text : List ℕ) (o : Option Node) (node : Node) → o ≡ Some node
-    → node.text ≡ text
-    → ((n : ObjectNode) → n.key ≡ key → n.text ≡ text → IsPart part (nodes ++ n ∷ [])) → IsPart part (nodes ++ node_read key o)
-fed part nodes key text o node is same ok =
-    subst (λ (p : Option Node). IsPart part (nodes ++ node_read key p)) (sym is)
-    (ok (record { key = key; colours = node.colours; text = node.text }) refl same)
-
 -- where there is no node, none is
 pub fed_none : (part : PartFold) (nodes : List ObjectNode) (key : Key) (o : Option Node) → o ≡ None → IsPart part nodes
     → IsPart part (nodes ++ node_read key o)
 fed_none part nodes key o is holds =
     subst (λ (p : Option Node). IsPart part (nodes ++ node_read key p)) (sym is)
     (subst (IsPart part) (sym (append-nil nodes)) holds)
+
+-- a node is fed with the text that it has
+pub fed_ok : {E : Type 0} (result : Result (Unit {0}) E) (part : PartFold) (nodes : List ObjectNode) (key : Key) (text : List ℕ)
+    (o : Option Node) (node : Node) → o ≡ Some node → node.text ≡ text
+    → ((n : ObjectNode) → n.key ≡ key → n.text ≡ text → OnOk result (IsPart part (nodes ++ n ∷ [])))
+    → OnOk result (IsPart part (nodes ++ node_read key o))
+fed_ok result part nodes key text o node is same ok =
+    subst (λ (p : Option Node). OnOk result (IsPart part (nodes ++ node_read key p))) (sym is)
+    (ok (record { key = key; colours = node.colours; text = node.text }) refl same)
 
 -- one node more is fed, by what is decided so far
 pub decided_more : (walked : Walked) (decided : ℕ → ℕ → Decision) (keys : List Key) (n : ℕ) (key : Key) → n < length keys
@@ -148,7 +149,8 @@ module _ (walked : Walked) where
       by (inl e) = inl e
       by (inr w) =
           let at = slice_get_within decisions w.place w.decision w.there in
-          let its : w.decision ≡ get_or decisions w.place next = get_or_from_slice_get decisions w.place w.decision next w.there in
+          let its : w.decision ≡ get_or decisions w.place next =
+          sym (get_or_from_slice_get decisions w.place w.decision next w.there) in
           let of = subst (IsDecisionOf walked) (sym its) (are.each w.place next at) in
           let told : stamp_of_read (answer_to walked.report n k) ≡ Some w.decision.stamp =
           ap (λ (m : ℕ). stamp_of_read (answer_to walked.report m k)) (sym w.its_client)
@@ -168,7 +170,7 @@ module _ (walked : Walked) where
       slots = λ n k there. slots_by n k there (cases_eq n next.client);
       decided = λ n k. decided_by n k (cases_eq n next.client) (cases_eq k next.place);
     } where
-      abbrev row : List Decision
+      row : List Decision
       row = slice_index_or table next.client []
 
       slot : (next.client < length table) × (next.place < length row)
@@ -245,7 +247,7 @@ module _ (walked : Walked) where
             let after = w.after in
             let at : w.place ≡ from = omega (arith, after, le) in
             let one : w.decision ≡ next =
-            get_or_from_slice_get decisions w.place w.decision next w.there
+            sym (get_or_from_slice_get decisions w.place w.decision next w.there)
             ∙ (ap (λ (p : ℕ). get_or decisions p next) at ∙ sym is) in
             absurd (not_it (sym w.its_client ∙ ap (λ (r : StampedDecision). r.client) one)
             (sym w.its_place ∙ ap (λ (r : StampedDecision). r.place) one))

@@ -142,3 +142,11 @@ decisions_moved walked clients xs ys moved are = record {
   each = All-permutation (IsDecisionOf walked) xs ys moved are.each;
   all = λ c k stamp lt e. Contains-permutation xs ys (record { stamp = stamp; client = c; place = k }) moved (are.all c k stamp lt e);
 }
+
+-- those of so many clients are those of fewer
+pub decisions_all : (walked : Walked) (count clients : ℕ) (decisions : List StampedDecision) → clients ≤ count
+    → AreDecisionsOf walked count decisions → AreDecisionsOf walked clients decisions
+decisions_all walked count clients decisions le are = record {
+  each = are.each;
+  all = λ c k stamp lt e. are.all c k stamp (omega (arith, lt, le)) e;
+}

@@ -5,6 +5,7 @@ mod AppendedNodes
 mod DecidedGoing
 mod DecidedLaws
 mod DecidedLemmas
+mod DecidedSteps
 mod DecidedTexts
 mod DecisionLists
 mod FindingLemmas

@@ -1,5 +1,5 @@
 // Parts of transactional maps that are played on from decision to decision, while what the decisions say is computed.
-ghost use Rattle.std.specs.Prelude.{◌≡◌, ◌++◌, ◌≤◌, ◌<◌, List, Some, length, slice_get, take, IfOk, OnOk};
+ghost use Rattle.std.specs.Prelude.{◌≡◌, ◌++◌, ◌≤◌, ◌<◌, List, Some, length, slice_get, slice_index_or, take, IfOk, OnOk};
 ghost use Rattle.std.specs.List.{All};
 ghost use Rattle.log_node.specs.Vectors.{at};
 ghost use Rattle.object_fold.specs.Nodes.{ObjectNode};
@@ -33,6 +33,14 @@ pub(crate) struct DecidedPlay {
     shard: Shard,
     part: PartFold,
     count: usize,
+}
+
+// The key in a place of a line.
+fn key_at(keys: &[Key], place: usize) -> Key
+    requires { place < length keys.now }
+    ensures { result ≡ slice_index_or keys.now place result }
+{
+    keys[place]
 }
 
 // Feeds the node with a key, with the text that it has where decisions say this.
@@ -99,14 +107,8 @@ impl DecidedPlay {
         ensures shard { self.new.shard ≡ self.old.shard }
     {
         while self.count < count {
-            feed(
-                &mut self.part,
-                alloc,
-                subject,
-                nodes,
-                decisions,
-                keys[self.count],
-            )?;
+            let key = key_at(keys, self.count);
+            feed(&mut self.part, alloc, subject, nodes, decisions, key)?;
             self.count += 1;
         }
         Ok(())
@@ -162,6 +164,7 @@ impl DecidedPlay {
         ensures play { OnOk result (IsDecidedPlay subject.now self.new) }
         ensures shard { self.new.shard ≡ self.old.shard }
     {
+        subject.agrees();
         let keys = subject.track(self.shard.region, self.shard.colour).line();
         let count = (sync.counts.of_region(self.shard.region) as usize).min(keys.len());
         self.go_to(alloc, subject, nodes, decisions, keys, count)?;

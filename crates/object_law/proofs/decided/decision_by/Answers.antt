@@ -1,0 +1,24 @@
+use Rattle.std.proofs.Common.{◌≡◌, ◌∙◌, ap, refl, sym, subst, arith, ℕ, List, Option}
+use Rattle.std.specs.Option.{option_copied}
+use Rattle.report_text.specs.declared.report.Answer.{Answer}
+use Rattle.object_law.specs.Decided.{StandsDecided, stamp_of_read}
+use Rattle.walk_law.specs.Finds.{decision_at}
+use Rattle.object_law.proofs.DecidedSteps.{all_stand, are, has_parts, has_place, it_says, other_answer}
+use Rattle.object_law.proofs.decided.decision_by.Goals as goal
+
+pub waiting-requires-clause-own : goal.waiting-requires-clause-own
+waiting-requires-clause-own c =
+    let may = c.agrees.ensures.may in
+    let d = c.in-Decided in
+    (are c.decisions_stand.ensures c.args.subject.now may.0 may.1 c.requires.keeps c.requires.differ c.args.it c.requires.it
+    c.command.result.now c.command.ensures c.reply.result.now c.reply.ensures d.commits d.stamp d.sync d.read_stamp d.raises d.syncs
+    d.ended d.is c.in-Some.own.now (sym (c.in-Some.ensures c.args.it.client))).within
+
+pub waiting-requires-clause-stand : goal.waiting-requires-clause-stand
+waiting-requires-clause-stand c =
+    let may = c.agrees.ensures.may in
+    let d = c.in-Decided in
+    all_stand c.decisions_stand.ensures c.args.subject.now may.0 may.1 c.requires.keeps c.requires.differ c.args.it c.requires.it
+    c.command.result.now c.command.ensures c.reply.result.now c.reply.ensures d.commits d.stamp d.sync d.read_stamp d.raises d.syncs
+    d.ended d.is c.in-Some.own.now (sym (c.in-Some.ensures c.args.it.client)) c.own-region.result c.own-region.ensures.own
+    (decision_at c.args.decisions.now) c.requires.below
