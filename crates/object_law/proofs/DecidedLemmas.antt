@@ -117,6 +117,13 @@ pub others_say : (walked : Walked) (n k : ℕ) → stamp_of_read (answer_to walk
 others_say walked n k e =
     never walked.script walked.report n k (no_stamp (answer_to walked.report n k) e) (suc (last_decided (all_replies walked.report)))
 
+-- each that is gone over is a step
+pub step_at : (walked : Walked) (decisions : List StampedDecision) (at : ℕ) (it : StampedDecision)
+    → AreDecisionsOf walked (length walked.report.clients) decisions → at < length decisions → it ≡ get_or decisions at it
+    → IsStepOf walked it.client it.place
+step_at walked decisions at it are lt is =
+    let of = subst (IsDecisionOf walked) (sym is) (are.each at it lt) in of.step
+
 module _ (walked : Walked) where
   -- before any decision
   pub decided_none : (decisions : List StampedDecision) → AreDecisionsOf walked (length walked.report.clients) decisions
