@@ -8,19 +8,17 @@ use Rattle.log_node.specs.declared.node.Node.{Node}
 use Rattle.log_node.specs.declared.forms.Version.{Version}
 use Rattle.log_node.proofs.CallerLemmas.{same_some}
 use Rattle.part_fold.specs.declared.decision.Decision.{Decision}
-use Rattle.col_core.specs.Log.{Log}
 use Rattle.col_core.specs.Keeping.{Kept, nothing_kept}
 use Rattle.col_core.proofs.CallerLemmas.{by_test}
 use Rattle.column_track.specs.Tracks.{Tracked}
-use Rattle.script_text.specs.declared.commands.What.{What}
 use Rattle.script_text.specs.declared.script.Command.{Command}
 use Rattle.report_text.specs.declared.report.ReplyLine.{ReplyLine}
-use Rattle.lawful_run.specs.Callers.{Caller, caller_of, commands_of}
+use Rattle.lawful_run.specs.Callers.{caller_of, commands_of}
 use Rattle.lawful_run.specs.Refusals.{kept_before}
-use Rattle.run_rules.specs.Nodes.{any_decision, node_told, nodes_with}
+use Rattle.run_rules.specs.Nodes.{any_decision}
 use Rattle.run_rules.specs.Said.{with_text}
 use Rattle.run_rules.specs.Telling.{FindKeys, replies_to}
-use Rattle.object_law.specs.Decided.{AreDecided, AreDecidedOf, decided_at, decider, drafted, drafted_node, said_by}
+use Rattle.object_law.specs.Decided.{AreDecided, AreDecidedOf, decided_at, drafted, drafted_node, said_by}
 use Rattle.object_law.specs.Drafts.{StepsOn, filled}
 use Rattle.object_law.specs.declared.decided_nodes.DecidedNode.{DecidedNode}
 use Rattle.object_law.specs.declared.drafts.Draft.{Draft}

@@ -1,9 +1,8 @@
 -- A decision says for which transaction the part of its sync's colour waits, behind nodes that rest on decisions with lower reads.
 use Rattle.std.proofs.Common.{◌≡◌, ◌⊎◌, ◌∙◌, refl, ap, sym, subst, Bool, false, cond, ℕ, zero, suc, ◌<◌, ◌≤◌, List, [], ◌∷◌, ◌++◌, length, map, take, drop, take-append-drop, reverse, ◌%◌, mod-lt, Option, Some, None, inl, inr, arith}
 use Rattle.std.specs.Prelude.{◌==◌, ◌≢◌, max, slice_get, slice_index, sum}
-use Rattle.std.specs.List.{All, AllPairs, Contains, fold, list_any, range_with_len}
+use Rattle.std.specs.List.{All, AllPairs, fold, list_any, range_with_len}
 use Rattle.std.proofs.lemmas.Bool.{cases_lt, eq-eqb, eqb-true}
-use Rattle.std.proofs.lemmas.List.{take_all}
 use Rattle.std.proofs.lemmas.List.Elements.{All-contains}
 use Rattle.log_node.specs.declared.ids.Key.{Key}
 use Rattle.log_node.specs.declared.limits.TheConstants.{MAX_COLOURS}
@@ -21,13 +20,10 @@ use Rattle.col_core.specs.History as history
 use Rattle.col_core.specs.History.{line}
 use Rattle.col_core.specs.Legal.{IsColumnHistory}
 use Rattle.col_core.specs.Log.{Log}
-use Rattle.col_core.specs.Keeping.{Kept, updated, updated_at}
+use Rattle.col_core.specs.Keeping.{updated, updated_at}
 use Rattle.col_core.proofs.CallerLemmas.{In, IsLawfulPast, all_in, any_in, by_test, clock, clock-of, contains_in, dated-is_dated, entries-of, entry_within, if_false, if_true, in_filter-back, in_flat_map-back, in_line, in_take, lawful_beginning, lawful_past, range_has, slice_in}
-use Rattle.column_track.specs.Tracks.{Tracked}
-use Rattle.script_text.specs.declared.commands.What.{What}
 use Rattle.script_text.specs.declared.commands.What.TheVariants as whats
 use Rattle.script_text.specs.declared.script.Command.{Command}
-use Rattle.script_text.specs.declared.script.Kind.{Kind}
 use Rattle.script_text.specs.declared.script.Kind.TheVariants as kinds
 use Rattle.script_text.specs.declared.script.Script.{Script}
 use Rattle.script_text.specs.Fitting.{IsFitting}
@@ -50,14 +46,14 @@ use Rattle.run_rules.specs.Computing.{account_finding, answer_in, answer_to, fin
 use Rattle.run_rules.specs.Deciding.{ColoursDiffer, account_deciding, colours_named, colours_used, decided_at, decisions_below, decisions_of, key_or, last_decided, place_in, stamp_decided, waited_for}
 use Rattle.run_rules.specs.Keeping.{Keeps, RulesTo, all_replies}
 use Rattle.run_rules.specs.Laws.{FindsTell, FoundAccountDecides}
-use Rattle.run_rules.specs.Nodes.{any_decision, nodes_with}
+use Rattle.run_rules.specs.Nodes.{any_decision}
 use Rattle.run_rules.specs.Shown.{Shows}
-use Rattle.run_rules.specs.Telling.{IsWellFormed, replies_in, replies_to}
-use Rattle.run_rules.specs.Told.{Account, IsTold, Step, Untold, kept_at}
+use Rattle.run_rules.specs.Telling.{IsWellFormed, replies_in}
+use Rattle.run_rules.specs.Told.{Account, IsTold, Step, kept_at}
 use Rattle.run_rules.proofs.CallerLemmas.{Obeys, all_at, column_of, found_keys_of, home_within, keeps_fewer, keys_above, moves_named, obeys, rule1, rule2, rule3, rule4, rule5, rule9, slice_mapped, told_accounts_agree, told_nodes_agree, zip_at}
-use Rattle.walk_law.specs.Walking.{MayWalk, Walked, journal_walked}
+use Rattle.walk_law.specs.Walking.{Walked, journal_walked}
 use Rattle.walk_law.proofs.CallerLemmas.{shards_within}
-use Rattle.object_law.specs.Decided.{AreDecidedBelow, DecisionsStand, IsDecidedBy, IsReadFrom, StandsDecided, decided_nodes, node_deciding, synced_keys}
+use Rattle.object_law.specs.Decided.{AreDecidedBelow, DecisionsStand, IsDecidedBy, IsReadFrom, StandsDecided, node_deciding, synced_keys}
 use Rattle.object_law.specs.PartAnswers.{part_colours}
 use Rattle.object_law.proofs.DecidedTexts.{SameFrom, all_from}
 use Rattle.object_law.proofs.PartLemmas.{AreOwn, own_are}

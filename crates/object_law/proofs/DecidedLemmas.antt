@@ -1,14 +1,13 @@
 -- What decisions say, computed in rising order of the stamps of their reads: one node more, and one decision more.
 use Rattle.std.proofs.Common.{◌≡◌, ◌⊎◌, ◌∙◌, refl, ap, sym, subst, ℕ, zero, suc, ◌+◌, ◌<◌, ◌≤◌, List, [], ◌∷◌, ◌++◌, length, map, take, get_or, append-nil, Option, Some, None, inl, inr, arith}
 use Rattle.std.specs.Prelude.{◌≢◌, OnOk, Result, slice_get, slice_index_or, slice_set}
-use Rattle.std.specs.List.{All, Contains}
+use Rattle.std.specs.List.{All}
 use Rattle.std.specs.List.Sorted.{IsNonDecreasingBy}
 use Rattle.std.specs.Option.{option_map}
 use Rattle.std.proofs.lemmas.Bool.{cases_eq, cases_lt}
 use Rattle.std.proofs.lemmas.List.{get_or-set_other, get_or-set_same, take_more}
 use Rattle.std.proofs.lemmas.List.Concat.{flat_map-append}
 use Rattle.std.proofs.lemmas.Option.{get_or_from_slice_get, slice_get_within}
-use Rattle.log_node.specs.declared.forms.Version.{Version}
 use Rattle.log_node.specs.declared.ids.Id.{Id}
 use Rattle.log_node.specs.declared.ids.Key.{Key}
 use Rattle.log_node.specs.declared.node.Node.{Node}
@@ -16,12 +15,11 @@ use Rattle.object_fold.specs.Nodes.{ObjectNode}
 use Rattle.part_fold.specs.declared.decision.Decision.{Decision}
 use Rattle.part_fold.specs.declared.part_fold.PartFold.{PartFold}
 use Rattle.part_fold.specs.PartStates.{IsPart}
-use Rattle.col_core.specs.Log.{Log}
 use Rattle.col_core.proofs.CallerLemmas.{in_contains, in_slice}
 use Rattle.report_text.specs.declared.report.Answer.{Answer}
 use Rattle.report_text.specs.declared.report.Answer.TheVariants as answers
-use Rattle.run_rules.specs.Computing.{answer_to, finds_of, node_read, nodes_read}
-use Rattle.run_rules.specs.Deciding.{account_deciding, decisions_below, decisions_of, last_decided}
+use Rattle.run_rules.specs.Computing.{answer_to, finds_of, node_read}
+use Rattle.run_rules.specs.Deciding.{account_deciding, decisions_of, last_decided}
 use Rattle.run_rules.specs.Keeping.{all_replies}
 use Rattle.run_rules.specs.Nodes.{any_decision}
 use Rattle.object_law.specs.declared.decided_nodes.DecidedNode.{DecidedNode}

@@ -1,5 +1,5 @@
 -- One decision, by what those say whose reads have lower stamps.
-use Rattle.std.proofs.Common.{◌≡◌, ◌≢◌, ◌∙◌, refl, ap, sym, subst, Bool, ℕ, ◌<◌, List, take, Option, Some, None}
+use Rattle.std.proofs.Common.{◌≡◌, ◌∙◌, ap, sym, subst, Bool, ℕ, List, take, Option, Some, None}
 use Rattle.std.specs.Prelude.{slice_get}
 use Rattle.std.specs.List.{All}
 use Rattle.log_node.specs.declared.ids.Key.{Key}
@@ -10,10 +10,7 @@ use Rattle.part_fold.specs.Agreement.{part_at}
 use Rattle.part_fold.specs.Parts.{undecided_after}
 use Rattle.col_core.specs.History.{line}
 use Rattle.column_track.specs.Tracks.{Tracked}
-use Rattle.script_text.specs.Fitting.{AreObjectColours}
-use Rattle.script_text.specs.declared.commands.What.{What}
 use Rattle.script_text.specs.declared.script.Command.{Command}
-use Rattle.report_text.specs.declared.report.Answer.{Answer}
 use Rattle.report_text.specs.declared.report.Answer.TheVariants as answers
 use Rattle.report_text.specs.declared.report.Ended.{Ended}
 use Rattle.report_text.specs.declared.report.RaisePiece.{RaisePiece}

@@ -1,5 +1,5 @@
 // What the decisions of a report say.
-ghost use Rattle.std.specs.Prelude.{◌≡◌, ℕ, IfOk, OnOk, length};
+ghost use Rattle.std.specs.Prelude.{◌≡◌, ℕ, IfOk, OnOk};
 ghost use Rattle.std.specs.List.{All};
 ghost use Rattle.run_rules.specs.Computing.{finds_of};
 ghost use Rattle.run_rules.specs.Deciding.{ColoursDiffer, decisions_of, key_or};

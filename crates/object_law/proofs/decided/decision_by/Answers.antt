@@ -1,9 +1,6 @@
-use Rattle.std.proofs.Common.{◌≡◌, ◌∙◌, ap, refl, sym, subst, arith, ℕ, List, Option}
-use Rattle.std.specs.Option.{option_copied}
-use Rattle.report_text.specs.declared.report.Answer.{Answer}
-use Rattle.object_law.specs.Decided.{StandsDecided, stamp_of_read}
+use Rattle.std.proofs.Common.{sym}
 use Rattle.walk_law.specs.Finds.{decision_at}
-use Rattle.object_law.proofs.DecidedSteps.{all_stand, are, has_parts, has_place, it_says, other_answer}
+use Rattle.object_law.proofs.DecidedSteps.{all_stand, are, has_parts, has_place, it_says}
 use Rattle.object_law.proofs.decided.decision_by.Goals as goal
 
 pub waiting-requires-clause-own : goal.waiting-requires-clause-own

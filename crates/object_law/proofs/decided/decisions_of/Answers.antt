@@ -1,4 +1,4 @@
-use Rattle.std.proofs.Common.{◌≡◌, arith, ℕ, length}
+use Rattle.std.proofs.Common.{arith}
 use Rattle.object_law.proofs.DecidedLemmas.{decided_all, decided_before, decided_next, decided_none, step_at}
 use Rattle.object_law.proofs.decided.decisions_of.Goals as goal
 

@@ -1,4 +1,4 @@
-use Rattle.std.proofs.Common.{◌≡◌, ◌∙◌, ap, append-nil, sym, ℕ, List, [], ◌∷◌, ◌++◌, Option}
+use Rattle.std.proofs.Common.{◌≡◌, ◌∙◌, ap, append-nil, sym, ℕ, [], ◌∷◌, ◌++◌, Option}
 use Rattle.log_node.specs.declared.node.Node.{Node}
 use Rattle.log_node.proofs.CallerLemmas.{same_some}
 use Rattle.script_text.specs.declared.script.Command.{Command}

@@ -1,10 +1,9 @@
-use Rattle.std.proofs.Common.{arith, subst, ℕ, List}
-use Rattle.log_node.specs.declared.forms.Version.{Version}
+use Rattle.std.proofs.Common.{arith, subst}
 use Rattle.log_node.proofs.CallerLemmas.{get_within}
 use Rattle.part_fold.specs.declared.decision.Decision.{Decision}
 use Rattle.run_rules.specs.Telling.{replies_to}
 use Rattle.lawful_run.specs.Callers.{commands_of}
-use Rattle.walk_law.specs.Finds.{decision_at, finds_at}
+use Rattle.walk_law.specs.Finds.{finds_at}
 use Rattle.object_law.specs.Drafts.{StepsOn}
 use Rattle.object_law.proofs.DecidedGoing.{decided_all, decided_begun, decided_counted, decided_few, decided_on}
 use Rattle.object_law.proofs.decided_nodes.client_nodes.Goals as goal

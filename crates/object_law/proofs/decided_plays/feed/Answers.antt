@@ -1,16 +1,8 @@
-use Rattle.std.proofs.Common.{◌≡◌, ◌∙◌, ◌++◌, ◌∷◌, [], ap, refl, sym, ℕ, List, Option, Some, None}
-use Rattle.std.specs.Prelude.{OnOk}
-use Rattle.std.specs.Option.{option_copied, option_map}
+use Rattle.std.proofs.Common.{◌≡◌, ◌∙◌, ap, sym, ℕ, Option, Some, None}
 use Rattle.log_node.specs.declared.node.Node.{Node}
-use Rattle.log_node.proofs.CallerLemmas.{ok_then}
-use Rattle.object_fold.specs.Nodes.{ObjectNode}
-use Rattle.part_fold.specs.declared.decision.Decision.{Decision}
 use Rattle.part_fold.specs.Decisions.{decision_text}
-use Rattle.part_fold.specs.PartStates.{IsPart}
-use Rattle.run_rules.specs.Computing.{node_read}
 use Rattle.run_rules.specs.Said.{with_text}
 use Rattle.object_law.specs.Decided.{node_deciding, said_by, text_decided}
-use Rattle.object_law.specs.declared.decided_nodes.DecidedNode.{DecidedNode}
 use Rattle.walk_law.specs.Finds.{decision_at}
 use Rattle.object_law.proofs.DecidedLemmas.{fed_none, fed_ok, node_said_by}
 use Rattle.object_law.proofs.decided_plays.feed.Goals as goal

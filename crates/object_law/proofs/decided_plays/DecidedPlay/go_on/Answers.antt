@@ -1,4 +1,4 @@
-use Rattle.std.proofs.Common.{◌≡◌, ◌∙◌, ◌+◌, ◌<◌, ◌≤◌, ap, arith, refl, subst, sym, take, length, get_or, ℕ, List}
+use Rattle.std.proofs.Common.{◌≡◌, ◌∙◌, ◌+◌, ◌<◌, ◌≤◌, ap, arith, subst, sym, take, length, List}
 use Rattle.std.specs.Prelude.{slice_index_or}
 use Rattle.log_node.specs.declared.ids.Key.{Key}
 use Rattle.part_fold.specs.PartStates.{IsPart}

@@ -1,4 +1,4 @@
-use Rattle.std.proofs.Common.{◌≡◌, ◌-◌, ◌≤◌, ℕ}
+use Rattle.std.proofs.Common.{◌≡◌, ◌-◌, ◌≤◌}
 use Rattle.object_law.specs.Decided.{IsDecidedPlay}
 use Rattle.object_law.proofs.decided_plays.DecidedPlay.go_on.Given as goal
 

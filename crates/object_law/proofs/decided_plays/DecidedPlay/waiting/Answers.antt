@@ -1,4 +1,4 @@
-use Rattle.std.proofs.Common.{◌≡◌, ◌∙◌, ap, subst, sym, List, take, ℕ}
+use Rattle.std.proofs.Common.{◌∙◌, ap, subst, sym, List, take, ℕ}
 use Rattle.std.specs.List.{All}
 use Rattle.std.proofs.lemmas.List.{take_min}
 use Rattle.log_node.specs.Vectors.{at}
