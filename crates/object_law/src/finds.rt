@@ -65,7 +65,7 @@ impl Finds {
 /// What a client's decisions say, by the number of the command.
 #[derive(Drop)]
 pub(crate) struct ClientDecisions {
-    decided: Vec<Decision>,
+    pub(crate) decided: Vec<Decision>,
 }
 
 impl Model for ClientDecisions {
@@ -80,7 +80,7 @@ impl Model for ClientDecisions {
 /// What decisions say, by client and the number of the command. Contracts see the lists.
 #[derive(Drop)]
 pub struct Decisions {
-    clients: Vec<ClientDecisions>,
+    pub(crate) clients: Vec<ClientDecisions>,
 }
 
 impl Model for Decisions {
@@ -92,8 +92,8 @@ impl Model for Decisions {
     ghost view = { λ d. d.clients.items };
 }
 
-// A decision, on a transaction of nobody's.
-fn any_decision() -> Decision
+/// A decision, on a transaction of nobody's.
+pub(crate) fn any_decision() -> Decision
     ensures { result ≡ any_decision }
 {
     Decision {

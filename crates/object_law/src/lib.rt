@@ -4,6 +4,12 @@
 mod account_tables;
 mod among_map;
 mod causal_plays;
+mod decided;
+mod decided_laws;
+mod decided_nodes;
+mod decided_plays;
+mod decisions_by_stamp;
+mod decisions_noted;
 mod drafts;
 mod finds;
 mod fourteenth;
