@@ -2,6 +2,7 @@
 #![tactic(auto)]
 
 mod checking;
+mod start;
 mod verdict;
 
 pub use checking::{check, check_texts};
