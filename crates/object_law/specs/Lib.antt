@@ -1,4 +1,7 @@
+pub mod AccountTables
 pub mod AmongMaps
+pub mod AnswerPlays
+pub mod CausalPlays
 pub mod Drafts
 pub mod Fourteenth
 pub mod KeysRead

@@ -1,5 +1,5 @@
 use Rattle.object_law.proofs.TreeKeys.{none_commits, synced_whole}
-use Rattle.object_law.proofs.trees.synced_object.Goals as goal
+use Rattle.object_law.proofs.thirteenth.synced_object.Goals as goal
 
 pub returns-in_default : goal.returns-in_default
 returns-in_default c =
