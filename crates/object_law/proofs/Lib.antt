@@ -7,6 +7,7 @@ mod CausalNodes
 mod FindingLemmas
 mod FourteenthLaws
 mod GoingLemmas
+mod JudgedNodes
 mod LineOrder
 mod NamesTold
 mod ObjectOrders

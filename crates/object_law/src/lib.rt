@@ -7,6 +7,7 @@ mod causal_plays;
 mod drafts;
 mod finds;
 mod fourteenth;
+mod judged_tables;
 mod key_order;
 mod keys_read;
 mod line_play;
@@ -29,8 +30,10 @@ mod tree_play;
 mod tree_told;
 mod tx_plays;
 
+pub use account_tables::show;
 pub use finds::{Decisions, Finds};
 pub use fourteenth::keeps_fourteenth;
+pub use judged_tables::{nodes_decided, nodes_found};
 pub use node_table::NodeTable;
 pub use object_laws::{
     fourteenth_is_decided, fourteenth_is_of_parts, showing_is_found, tenth_is_right,

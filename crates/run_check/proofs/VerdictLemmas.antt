@@ -1,5 +1,5 @@
 -- What reading a script tells of the verdict, and how pieces of its line are joined.
-use Rattle.std.proofs.Common.{◌≡◌, refl, sym, subst, ℕ, List, ◌++◌, Option, Some, None, Result, Ok, Err, append_assoc}
+use Rattle.std.proofs.Common.{◌≡◌, refl, sym, subst, ℕ, List, ◌++◌, Option, Some, Result, Ok, Err, append_assoc}
 use Rattle.std.specs.Prelude.{IfOk}
 use Rattle.script_text.specs.declared.script.Script.{Script}
 use Rattle.script_text.specs.Grammar.{IsScript}

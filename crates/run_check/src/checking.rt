@@ -55,11 +55,7 @@ fn check_text(alloc: Global, script: &Script, text: &[u8]) -> Result<Verdict, Al
 }
 
 // What is said of a script's text, and of the text of its report, if there is one.
-fn check_parts(
-    alloc: Global,
-    script: &[u8],
-    report: Option<&[u8]>,
-) -> Result<Verdict, AllocError>
+fn check_parts(alloc: Global, script: &[u8], report: Option<&[u8]>) -> Result<Verdict, AllocError>
     ensures { IfOk result (IsVerdictOf script.now (option_copied report.entry)) }
 {
     scripts_name_apart();

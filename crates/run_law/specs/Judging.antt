@@ -1,5 +1,5 @@
 -- What a report is judged to be, and what is asked of it rule by rule.
-use Rattle.std.specs.Prelude.{◌≡◌, ◌↔◌, ℕ, ◌≤◌, Option, Some, None, Result, Ok, Err}
+use Rattle.std.specs.Prelude.{◌≡◌, ◌↔◌, ℕ, ◌≤◌, Option, Some, None, Result, Err}
 use Rattle.script_text.specs.Fitting.{IsFitting}
 use Rattle.script_text.specs.declared.script.Script.{Script}
 use Rattle.report_text.specs.declared.report.ReplyLine.{ReplyLine}

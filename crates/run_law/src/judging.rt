@@ -43,7 +43,10 @@ fn least_from_sixth(alloc: Global, subject: &Subject<'_>) -> Result<Option<u8>, 
 }
 
 /// The first of nine that is broken, of a report that keeps the first three.
-pub(crate) fn least_from_fourth(alloc: Global, subject: &Subject<'_>) -> Result<Option<u8>, AllocError>
+pub(crate) fn least_from_fourth(
+    alloc: Global,
+    subject: &Subject<'_>,
+) -> Result<Option<u8>, AllocError>
     ensures { IfOk result (IsLeastOf 9 subject.now.script subject.now.report) }
 {
     first_rules_decided();

@@ -1,7 +1,6 @@
 use Rattle.std.proofs.Common.{ap, subst}
 use Rattle.std.specs.Prelude.{Err}
 use Rattle.std.specs.Option.{option_copied}
-use Rattle.script_text.specs.declared.script.Script.{Script}
 use Rattle.script_text.specs.Parse.{GivesScript, IsFaultOf}
 use Rattle.script_text.proofs.CallerLemmas.{script_fits}
 use Rattle.run_check.proofs.VerdictLemmas.{said_of, the_script}

@@ -5,6 +5,6 @@ use Rattle.run_check.proofs.verdict.refusal.Goals as goal
 
 pub returns : goal.returns
 returns c =
-    subst (λ (b : List ℕ). IfOk c.format.result (λ text. string_bytes text ≡ b)) 
+    subst (λ (b : List ℕ). IfOk c.format.result (λ text. string_bytes text ≡ b))
     (joined (codes "refused: line ") (decimal c.args.line) (codes ": ") c.args.why.now (codes "\n"))
     c.format.ensures.ok
