@@ -2,8 +2,10 @@
 #![tactic(auto)]
 
 mod checking;
+mod laws;
 mod start;
 mod verdict;
 
 pub use checking::{check, check_texts};
+pub use laws::one_verdict;
 pub use verdict::Verdict;
