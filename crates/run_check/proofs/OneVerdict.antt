@@ -26,10 +26,10 @@ module _ (before : List ℕ) (given : Option (List ℕ)) (P Q : Script → List 
   of_both : OfText before given P → OfText before given Q → (script : Script) × (text : List ℕ) × P script text × Q script text
   of_both a b = (
     a.0,
-    a.2,
+    a.1,
     a.4,
-    subst (λ (text : List ℕ). Q a.0 text) (same_text given b.2 a.2 b.3 a.3)
-    (subst (λ (script : Script). Q script b.2) (b.1.only a.0 a.1.is) b.4),
+    subst (λ (text : List ℕ). Q a.0 text) (same_text given b.1 a.1 b.3 a.3)
+    (subst (λ (script : Script). Q script b.1) (b.2.only a.0 a.2.is) b.4),
   )
 
 -- what is said of a text's report
@@ -108,11 +108,13 @@ module _ (before : List ℕ) (given : Option (List ℕ)) where
 
   one : LeastIsOne → (a b : Verdict) → IsVerdictOf before given a → IsVerdictOf before given b → SaySame a b
   one least (NoScript line why) (NoScript other because) p q = tt
-  one least (NoScript line why) b p q = absurd (p.none q.0 q.1.is)
-  one least a (NoScript line why) p q = absurd (q.none p.0 p.1.is)
+  one least (NoScript line why) Missing p q = absurd (p.none q.0 q.1.is)
+  one least (NoScript line why) b p q = absurd (p.none q.0 q.2.is)
+  one least Missing (NoScript line why) p q = absurd (q.none p.0 p.1.is)
+  one least a (NoScript line why) p q = absurd (q.none p.0 p.2.is)
   one least Missing Missing p q = refl
-  one least Missing b p q = absurd (none_some given q.2 p.2 q.3)
-  one least a Missing p q = absurd (none_some given p.2 q.2 p.3)
+  one least Missing b p q = absurd (none_some given q.1 p.2 q.3)
+  one least a Missing p q = absurd (none_some given p.1 q.2 p.3)
   one least TooLong TooLong p q = refl
   one least TooLong BadForm p q = absurd (long_bad p q)
   one least TooLong (Hidden line) p q = absurd (long_read (Hides line) p q)

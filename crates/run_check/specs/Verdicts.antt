@@ -44,7 +44,7 @@ pub record IsTheReport (script : Script) (bytes : List ℕ) (report : Report) : 
 -- one text is a script, the other is given, and so it is of these
 abbrev pub OfText : List ℕ → Option (List ℕ) → (Script → List ℕ → Type 0) → Type 0
 OfText before given P =
-    (script : Script) × IsTheScript before script × (text : List ℕ) × (given ≡ Some text) × P script text
+    (script : Script) × (text : List ℕ) × IsTheScript before script × (given ≡ Some text) × P script text
 
 -- one text is a script, the other a report of it that is not too long, and so it is of these
 abbrev pub OfReport : List ℕ → Option (List ℕ) → (Script → Report → Type 0) → Type 0
