@@ -1,19 +1,18 @@
 -- Of one text no two verdicts are right.
-use Rattle.std.proofs.Common.{◌≡◌, refl, sym, ap, subst, ◌∙◌, ℕ, ◌+◌, ◌<◌, ◌≤◌, List, length, take, drop, Option, Some, None, arith}
+use Rattle.std.proofs.Common.{◌≡◌, refl, sym, ap, subst, ◌∙◌, ℕ, ◌<◌, ◌≤◌, List, length, take, drop, Option, Some, None, arith}
 use Rattle.script_text.specs.declared.script.Script.{Script}
 use Rattle.report_text.specs.declared.report.ReplyLine.{ReplyLine}
 use Rattle.report_text.specs.declared.report.Report.{Report}
 use Rattle.report_text.specs.ReportText.{report_bytes}
 use Rattle.report_reading.specs.Meant.{IsReportOf}
 use Rattle.lawful_run.specs.Lawful.{LawfulRun}
-use Rattle.run_rules.specs.Keeping.{HidesNothing, IsLeastBroken, first_hidden}
+use Rattle.run_rules.specs.Keeping.{HidesNothing, IsLeastBroken}
 use Rattle.run_rules.specs.Laws.{LeastIsOne}
 use Rattle.run_check.specs.declared.checking.TheConstants.{MAX_REPORT}
 use Rattle.run_check.specs.declared.verdict.Verdict.{Verdict}
 use Rattle.run_check.specs.declared.verdict.Verdict.TheVariants.{NoScript, Missing, TooLong, BadForm, Hidden, Broken, Lawful}
 use Rattle.run_check.specs.Laws.{OneVerdict, SaySame}
-use Rattle.run_check.specs.Refusals.{IsTheScript}
-use Rattle.run_check.specs.Verdicts.{HidesAt, IsTheReport, IsVerdict, IsVerdictFrom, IsVerdictOf, OfReport, OfText, report_start}
+use Rattle.run_check.specs.Verdicts.{HidesAt, IsTheReport, IsVerdictFrom, IsVerdictOf, OfReport, OfText, report_start}
 
 none_some : (given : Option (List ℕ)) (text : List ℕ) → given ≡ None → given ≡ Some text → ⊥
 none_some given text none some = let f : ⊥ = cc (none, some) in f
