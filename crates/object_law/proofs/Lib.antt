@@ -13,6 +13,7 @@ mod DecisionLists
 mod FindingLemmas
 mod FourteenthLaws
 mod GoingLemmas
+mod JudgedNodes
 mod LineOrder
 mod NamesTold
 mod NotedLemmas

@@ -13,6 +13,7 @@ mod decisions_noted;
 mod drafts;
 mod finds;
 mod fourteenth;
+mod judged_tables;
 mod key_order;
 mod keys_read;
 mod line_play;
@@ -37,8 +38,10 @@ mod tree_play;
 mod tx_plays;
 mod tx_told;
 
+pub use account_tables::show;
 pub use finds::{Decisions, Finds};
 pub use fourteenth::keeps_fourteenth;
+pub use judged_tables::{nodes_decided, nodes_found};
 pub use node_table::NodeTable;
 pub use object_laws::{
     fourteenth_is_decided, fourteenth_is_of_parts, showing_is_found, tenth_is_right,

@@ -2,7 +2,7 @@ use Rattle.std.proofs.Common.{◌∙◌, subst}
 use Rattle.walk_law.specs.Journals.{AreTracksOf}
 use Rattle.run_law.proofs.LeastLemmas.{first_kept, may_walk, second_broken, third_broken}
 use Rattle.walk_law.proofs.CallerLemmas.{told_not, told_so}
-use Rattle.run_law.proofs.judging.least_of_nine.Goals as goal
+use Rattle.run_law.proofs.judging.begin.Goals as goal
 
 pub tracks_of-requires-clause-columns : goal.tracks_of-requires-clause-columns
 tracks_of-requires-clause-columns c =
@@ -42,11 +42,11 @@ returns-then-not-branch-2 c =
     (subst (AreTracksOf script report) c.in-Some.is c.in_ok-tracks.ensures).1
     (told_not _ c.in_ok-keeps_third.ensures c.if-not-branch-2.true)
 
-pub least_walked-requires : goal.least_walked-requires
-least_walked-requires c =
+pub returns : goal.returns
+returns c =
     let script = c.args.script.now in
     let report = c.args.report.now in
     let are = subst (AreTracksOf script report) c.in-Some.is c.in_ok-tracks.ensures in
-    may_walk c.first_rules_decided.ensures script report c.requires c.as_slice-2.result.now (c.as_slice-2.ensures ∙ are.0)
+    may_walk c.first_rules_decided.ensures script report c.requires c.in-Some.tracks are.0
     (told_so _ c.in_ok-keeps_first.ensures c.if-not-branch.false) are.1
     (told_so _ c.in_ok-keeps_third.ensures c.if-not-branch-2.false)
