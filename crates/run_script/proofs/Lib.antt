@@ -30,4 +30,6 @@ mod RunningBeside
 mod StoreSizes
 mod RunsOf
 mod WordLemmas
+mod Fronts
+mod Verdicts
 mod Loads
