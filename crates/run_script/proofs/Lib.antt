@@ -31,5 +31,6 @@ mod StoreSizes
 mod RunsOf
 mod WordLemmas
 mod Fronts
+mod WholeVerdicts
 mod Verdicts
 mod Loads

@@ -1,5 +1,5 @@
 -- What the top call writes for the bytes that it reads.
-use Rattle.std.specs.Prelude.{◌≡◌, ◌⊎◌, ℕ, ◌+◌, List, ◌++◌, take, Option, IfSome}
+use Rattle.std.specs.Prelude.{◌≡◌, ◌⊎◌, ℕ, List, ◌++◌, Option, IfSome}
 use Rattle.std.specs.Io.KnownBytes.{Appends}
 use Rattle.fuzzy_io.specs.Causes.{AppendsFront}
 use Rattle.script_text.specs.declared.script.Script.{Script}
@@ -20,7 +20,6 @@ use Rattle.run_script.specs.declared.asked.Asked.{Asked}
 use Rattle.run_script.specs.declared.asked.Asked.TheVariants.{Step}
 use Rattle.run_script.specs.declared.status.Status.{Status}
 use Rattle.run_script.specs.declared.status.Status.TheVariants.{Done, Refused, Unlawful}
-use Rattle.run_script.specs.declared.checking.TheConstants.{MAX_JUDGED}
 
 -- The report is that of a script done in the order of the file; where no reply and no mark tells of want of memory, it is
 -- the one report that this means.
@@ -97,10 +96,6 @@ status_of _ = Refused
 abbrev pub TellsVerdict : Status → Type 0
 TellsVerdict status = (status ≡ Done) ⊎ (status ≡ Refused) ⊎ (status ≡ Unlawful)
 
--- Of what is left to read, the bytes that are judged: all, or as many as a script and a report may have and one more.
-abbrev pub judged_of : List ℕ → List ℕ
-judged_of all = take (MAX_JUDGED + 1) all
-
 -- the status is that of a verdict on these bytes, and the whole line that says it was written
 abbrev pub Says : Status → List ℕ → Option (List ℕ) → Option (List ℕ) → Type 0
 Says status bytes old new =
@@ -110,6 +105,6 @@ Says status bytes old new =
 abbrev pub SaysFront : List ℕ → Option (List ℕ) → Option (List ℕ) → Type 0
 SaysFront bytes old new = (verdict : Verdict) × IsVerdict bytes verdict × AppendsFront old new (verdict_text verdict)
 
--- it is so of some bytes; where the source tells what was left, they are the judged ones of these
-abbrev pub OfJudged : Option (List ℕ) → (List ℕ → Type 0) → Type 0
-OfJudged left P = (bytes : List ℕ) × IfSome left (λ all. bytes ≡ judged_of all) × P bytes
+-- it is so of some bytes; where the source tells what was left, these are the bytes
+abbrev pub OfAll : Option (List ℕ) → (List ℕ → Type 0) → Type 0
+OfAll left P = (bytes : List ℕ) × IfSome left (λ all. all ≡ bytes) × P bytes

@@ -1,7 +1,7 @@
 // Judging the report that stands behind its script in a source.
 ghost use Rattle.std.specs.Prelude.{◌≡◌, ◌≢◌};
 ghost use Rattle.fuzzy_io.specs.Causes.{Rose, ConsumesUpTo};
-ghost use Rattle.run_script.specs.TopCall.{status_of, TellsVerdict, Says, SaysFront, OfJudged};
+ghost use Rattle.run_script.specs.TopCall.{status_of, TellsVerdict, Says, SaysFront, OfAll};
 
 use crate::front::{FrontFault, read_front};
 use crate::status::Status;
@@ -45,13 +45,14 @@ fn judge_bytes<K: Sink>(alloc: Global, bytes: &[u8], sink: &mut K) -> Status
     }
 }
 
-/// Judges the report that stands behind its script in the source, and writes the line that says the verdict.
+/// Judges the report that stands behind its script in the source, and writes the line that says the verdict. What comes behind the most
+/// bytes that are judged and one more is not read, and would change nothing: script or report are too long.
 pub fn check_source<S: Source, K: Sink>(alloc: Global, source: &mut S, sink: &mut K) -> Status
-    ensures judged { TellsVerdict result → OfJudged (S.left source.old) (λ bytes.
+    ensures judged { TellsVerdict result → OfAll (S.left source.old) (λ bytes.
         Says result bytes (K.holds sink.old) (K.holds sink.new)) }
     ensures read_fault { result ≡ Status.ReadFault → Rose (S.faults source.old) (S.faults source.new) }
     ensures write_fault { result ≡ Status.WriteFault → Rose (K.faults sink.old) (K.faults sink.new) }
-    ensures front { result ≡ Status.WriteFault → OfJudged (S.left source.old) (λ bytes.
+    ensures front { result ≡ Status.WriteFault → OfAll (S.left source.old) (λ bytes.
         SaysFront bytes (K.holds sink.old) (K.holds sink.new)) }
     ensures read_fault_unwritten { result ≡ Status.ReadFault → sink.new ≡ sink.old }
     ensures no_memory { result ≡ Status.NoMemory → sink.new ≡ sink.old }

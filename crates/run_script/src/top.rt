@@ -18,7 +18,7 @@ ghost use Rattle.run_script.specs.Running.{CanRun};
 ghost use Rattle.run_check.specs.declared.verdict.Verdict.{Verdict};
 ghost use Rattle.run_check.specs.Verdicts.{IsVerdict};
 ghost use Rattle.run_script.specs.TopCall.{IsRunText, IsRefusalText, WritesWhole, WritesFront, Shows, ShowsFront, IsLoaded, WritesLoad, WritesLoadFront};
-ghost use Rattle.run_script.specs.TopCall.{status_of, TellsVerdict, judged_of, OfJudged, Says, SaysFront};
+ghost use Rattle.run_script.specs.TopCall.{status_of, TellsVerdict, OfAll, Says, SaysFront};
 
 use crate::asked::{Asked, Task, read_words};
 use crate::checking::{MAX_JUDGED, check_source};
@@ -270,7 +270,7 @@ pub fn run<S: Source, K: Sink, G: Gate, R: Threads + Wait + Sync>(
         → (source.new ≡ source.old) × (result ≢ Status.Refused) × (result ≢ Status.ReadFault) }
     // What was said of a script and its report: the line of the verdict, which goes with the status.
     ensures judged { task_of (map string_bytes words.now) ≡ Some Task.Check → TellsVerdict result
-        → OfJudged (S.left source.old) (λ bytes. Says result bytes (K.holds sink.old) (K.holds sink.new)) }
+        → OfAll (S.left source.old) (λ bytes. Says result bytes (K.holds sink.old) (K.holds sink.new)) }
     ensures unlawful { result ≡ Status.Unlawful → task_of (map string_bytes words.now) ≡ Some Task.Check }
     // What holds of the report of each run, for a reader.
     ensures reads { LawsForReaders }
@@ -290,7 +290,7 @@ pub fn run<S: Source, K: Sink, G: Gate, R: Threads + Wait + Sync>(
     ensures load_front { (count : ℕ) → task_of (map string_bytes words.now) ≡ Some (Task.Load count)
         → result ≡ Status.WriteFault → WritesLoadFront count (K.holds sink.old) (K.holds sink.new) }
     ensures judged_front { task_of (map string_bytes words.now) ≡ Some Task.Check → result ≡ Status.WriteFault
-        → OfJudged (S.left source.old) (λ bytes. SaysFront bytes (K.holds sink.old) (K.holds sink.new)) }
+        → OfAll (S.left source.old) (λ bytes. SaysFront bytes (K.holds sink.old) (K.holds sink.new)) }
     ensures taken { task_of (map string_bytes words.now) ≢ Some Task.Check
         → ConsumesUpTo MAX_BYTES (S.left source.old) (S.left source.new) }
     ensures judged_taken { task_of (map string_bytes words.now) ≡ Some Task.Check
@@ -306,7 +306,7 @@ pub fn run<S: Source, K: Sink, G: Gate, R: Threads + Wait + Sync>(
         → TellsVerdict result ⊎ (result ≡ Status.NoMemory) }
     // The status is that of each verdict that the source's bytes have.
     ensures judged_exact { (bytes : List ℕ) → (verdict : Verdict) → task_of (map string_bytes words.now) ≡ Some Task.Check
-        → S.left source.old ≡ Some bytes → IsVerdict (judged_of bytes) verdict → TellsVerdict result
+        → S.left source.old ≡ Some bytes → IsVerdict bytes verdict → TellsVerdict result
         → result ≡ status_of verdict }
 {
     laws_for_readers();

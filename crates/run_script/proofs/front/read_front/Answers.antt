@@ -8,6 +8,6 @@ returns-then-is_err-clause-taken g c =
     let asked = length-take c.next_room.result c.loop-piece.piece in (
       _,
       within_limit c.args.most c.in-Ok.count c.next_room.result c.loop-piece.bytes.items c.read.new.into c.in-Ok.ensures.bound.0
-      (omega (arith, asked, c.read.auto.into)) (omega (arith, c.next_room.ensures.limit, c.loop-piece.bytes.ok.0)),
+          (omega (arith, asked, c.read.auto.into)) (omega (arith, c.next_room.ensures.limit, c.loop-piece.bytes.ok.0)),
       consumes_more _ _ _ _ _ c.loop-piece.invariant.gone c.in-Ok.ensures.bytes.0,
     )
