@@ -17,14 +17,13 @@ use Rattle.log_node.specs.Order.{key_below, same_key}
 use Rattle.log_node.proofs.CallerLemmas.{get_map, get_within, key-irrefl, key-trans, same_id-refl, same_key-is, same_some}
 use Rattle.object_fold.specs.Folds.{IsAbsent, told_among, told_of}
 use Rattle.object_fold.specs.Nodes.{ObjectNode, nodes_before}
+use Rattle.object_fold.specs.Transactions.{ruling, verdict_among, verdict_of}
 use Rattle.object_fold.proofs.CallerLemmas.{found_there, passed_cond}
-use Rattle.tree_fold.specs.declared.told.Told.{Told}
-use Rattle.tree_fold.specs.Trees.{telling}
 use Rattle.col_core.proofs.CallerLemmas.{In, contains_in, in_take}
 use Rattle.playback.specs.Merging.{AreRising}
 use Rattle.run_rules.specs.Computing.{node_read}
 use Rattle.object_law.specs.NodeTables.{node_in, nodes_under}
-use Rattle.object_law.specs.TreePlays.{HasPlace, told_each, told_next}
+use Rattle.object_law.specs.ToldNodes.{HasPlace, told_each, told_next}
 
 module _ (own : Key) where
   abbrev is_own : ObjectNode → Bool
@@ -149,10 +148,10 @@ module _ (before behind : List Key) (key : Key) (rises : AreRising (before ++ ke
       other_above x key below
 
   -- the node with it is told what it is told behind those before it
-  told_there : (table : List (List Node))
-      → told_next (nodes_under table before) (node_read key (node_in table key.id))
+  told_there : {T : Type 0} (telling : List ObjectNode → ObjectNode → Option T) (table : List (List Node))
+      → told_next telling (nodes_under table before) (node_read key (node_in table key.id))
       ≡ told_of telling (nodes_under table (before ++ key ∷ behind)) key
-  told_there table =
+  told_there {T} telling table =
       by (node_in table key.id)
       ∙ ap (λ (l : List ObjectNode). told_of telling l key)
       (sym (flat_map-append (λ (k : Key). node_read k (node_in table k.id)) before (key ∷ behind))) where
@@ -162,7 +161,7 @@ module _ (before behind : List Key) (key : Key) (rises : AreRising (before ++ ke
         back : IsAbsent key (nodes_under table behind)
         back = absent_under key table behind apart_behind
 
-        by : (o : Option Node) → told_next (nodes_under table before) (node_read key o)
+        by : (o : Option Node) → told_next telling (nodes_under table before) (node_read key o)
             ≡ told_of telling (nodes_under table before ++ (node_read key o ++ nodes_under table behind)) key
         by None =
             sym (none_told key telling (nodes_under table before ++ nodes_under table behind)
@@ -179,28 +178,29 @@ module _ (table : List (List Node)) (keys : List Key) (rises : AreRising keys) (
   parts : keys ≡ take n keys ++ next ∷ drop (n + 1) keys
   parts = sym (take-append-drop n keys) ∙ ap (λ (l : List Key). take n keys ++ l) (drop_more keys n d lt)
 
-  pub next_told : told_next (nodes_under table (take n keys)) (node_read next (node_in table next.id))
-      ≡ told_of telling (nodes_under table keys) next
-  next_told =
-      told_there (take n keys) (drop (n + 1) keys) next (subst AreRising parts rises) table
-      ∙ ap (λ (l : List Key). told_of telling (nodes_under table l) next) (sym parts)
-
   pub nodes_more : nodes_under table (take (n + 1) keys) ≡ nodes_under table (take n keys) ++ node_read next (node_in table next.id)
   nodes_more =
       ap (nodes_under table) (take_more keys n d lt)
       ∙ (flat_map-append (λ (k : Key). node_read k (node_in table k.id)) (take n keys) (next ∷ [])
       ∙ ap (λ (l : List ObjectNode). nodes_under table (take n keys) ++ l) (append-nil (node_read next (node_in table next.id))))
 
-  pub told_more : (told : Option Told) (old new : List (Option Told))
-      → told ≡ told_next (nodes_under table (take n keys)) (node_read next (node_in table next.id)) → new ≡ old ++ told ∷ []
-      → old ≡ map (told_of telling (nodes_under table keys)) (take n keys)
-      → new ≡ map (told_of telling (nodes_under table keys)) (take (n + 1) keys)
-  told_more told old new is more so =
-      let f = told_of telling (nodes_under table keys) in
-      more
-      ∙ (ap (λ (l : List (Option Told)). l ++ told ∷ []) so
-      ∙ (ap (λ (t : Option Told). map f (take n keys) ++ t ∷ []) (is ∙ next_told)
-      ∙ (sym (map-append f (take n keys) (next ∷ [])) ∙ ap (map f) (sym (take_more keys n d lt)))))
+  module _ {T : Type 0} (telling : List ObjectNode → ObjectNode → Option T) where
+    pub next_told : told_next telling (nodes_under table (take n keys)) (node_read next (node_in table next.id))
+        ≡ told_of telling (nodes_under table keys) next
+    next_told =
+        told_there (take n keys) (drop (n + 1) keys) next (subst AreRising parts rises) telling table
+        ∙ ap (λ (l : List Key). told_of telling (nodes_under table l) next) (sym parts)
+
+    pub told_more : (told : Option T) (old new : List (Option T))
+        → told ≡ told_next telling (nodes_under table (take n keys)) (node_read next (node_in table next.id)) → new ≡ old ++ told ∷ []
+        → old ≡ map (told_of telling (nodes_under table keys)) (take n keys)
+        → new ≡ map (told_of telling (nodes_under table keys)) (take (n + 1) keys)
+    told_more told old new is more so =
+        let f = told_of telling (nodes_under table keys) in
+        more
+        ∙ (ap (λ (l : List (Option T)). l ++ told ∷ []) so
+        ∙ (ap (λ (t : Option T). map f (take n keys) ++ t ∷ []) (is ∙ next_told)
+        ∙ (sym (map-append f (take n keys) (next ∷ [])) ∙ ap (map f) (sym (take_more keys n d lt)))))
 
 -- THE PLACE OF A KEY
 
@@ -266,9 +266,9 @@ module _ (table : List (List Node)) (keys : List Key) (rises : AreRising keys) (
       ap (nodes_under table) (sym (take-append-drop count keys))
       ∙ flat_map-append (λ (k : Key). node_read k (node_in table k.id)) (take count keys) (drop count keys)
 
-  pub told_none : ((other : Key) → In other (take count keys) → same_key other key ≡ false)
+  pub told_none : {T : Type 0} (telling : List ObjectNode → ObjectNode → Option T) → ((other : Key) → In other (take count keys) → same_key other key ≡ false)
       → told_of telling (nodes_under table (take count keys)) key ≡ None
-  told_none others =
+  told_none telling others =
       none_told key telling (nodes_under table (take count keys)) (absent_under key table (take count keys) others)
 
   -- a key that stands among the first
@@ -286,16 +286,17 @@ module _ (table : List (List Node)) (keys : List Key) (rises : AreRising keys) (
         (rises place (count + c.0) other (omega (arith, low)) (omega (arith, less, long)))) in
         other_above other key below
 
-    pub told_front_place : told_of telling (nodes_under table (take count keys)) key ≡ told_of telling (nodes_under table keys) key
-    told_front_place =
+    pub told_front_place : {T : Type 0} (telling : List ObjectNode → ObjectNode → Option T)
+        → told_of telling (nodes_under table (take count keys)) key ≡ told_of telling (nodes_under table keys) key
+    told_front_place telling =
         sym (told_front key telling (nodes_under table (take count keys)) (nodes_under table (drop count keys))
         (absent_under key table (drop count keys) later))
         ∙ ap (λ (l : List ObjectNode). told_of telling l key) (sym begun)
 
   -- one that stands behind them
-  pub told_behind : (place : ℕ) → slice_get keys place ≡ Some key → count ≤ place
+  pub told_behind : {T : Type 0} (telling : List ObjectNode → ObjectNode → Option T) (place : ℕ) → slice_get keys place ≡ Some key → count ≤ place
       → told_of telling (nodes_under table (take count keys)) key ≡ None
-  told_behind place at over = told_none (λ other i.
+  told_behind telling place at over = told_none telling (λ other i.
       let c = contains_in (take count keys) other i in
       let less = c.1 in
       let long = length-take count keys in
@@ -311,24 +312,31 @@ module _ (table : List (List Node)) (keys : List Key) (rises : AreRising keys) (
 
 -- WHAT IS TOLD UP TO A STAMP
 
-module _ (table : List (List Node)) (keys : List Key) (rises : AreRising keys) (own : Key) (count : ℕ) (begun : List Key)
+module _ {T : Type 0} (telling : List ObjectNode → ObjectNode → Option T) (table : List (List Node)) (keys : List Key) (rises : AreRising keys) (own : Key) (count : ℕ) (begun : List Key)
     (is : take count keys ≡ begun) where
-  pub told_up : (told : List (Option Told)) → told ≡ told_each table keys → (place : ℕ) → HasPlace keys own (Some place)
-      → place < count → (d : Option Told) → get_or told place d ≡ told_of telling (nodes_under table begun) own
+  pub told_up : (told : List (Option T)) → told ≡ told_each telling table keys → (place : ℕ) → HasPlace keys own (Some place)
+      → place < count → (d : Option T) → get_or told place d ≡ told_of telling (nodes_under table begun) own
   told_up told are place at low d =
       let f = told_of telling (nodes_under table keys) in
-      ap (λ (l : List (Option Told)). get_or l place d) are
+      ap (λ (l : List (Option T)). get_or l place d) are
       ∙ (get_or_from_slice_get (map f keys) place (f own) d (get_map f keys place own at)
-      ∙ (sym (told_front_place table keys rises own count place at low)
+      ∙ (sym (told_front_place table keys rises own count place at low telling)
       ∙ ap (λ (l : List Key). told_of telling (nodes_under table l) own) is))
 
   pub none_up : (place : ℕ) → HasPlace keys own (Some place) → count ≤ place → None ≡ told_of telling (nodes_under table begun) own
   none_up place at over =
-      sym (told_behind table keys rises own count place at over)
+      sym (told_behind table keys rises own count telling place at over)
       ∙ ap (λ (l : List Key). told_of telling (nodes_under table l) own) is
 
   pub none_there : HasPlace keys own None → None ≡ told_of telling (nodes_under table begun) own
   none_there others =
-      sym (told_none table keys rises own count
+      sym (told_none table keys rises own count telling
       (λ other i. others other (contains_in keys other (in_take count keys other i))))
       ∙ ap (λ (l : List Key). told_of telling (nodes_under table l) own) is
+
+-- what a transaction is told is the verdict on it
+pub told_verdict : (nodes : List ObjectNode) (own : Key) → told_of ruling nodes own ≡ verdict_of nodes own
+told_verdict nodes own = among (find (λ (node : ObjectNode). same_key node.key own) nodes) where
+  among : (node : Option ObjectNode) → told_among ruling nodes node ≡ verdict_among nodes node
+  among None = refl
+  among (Some node) = refl

@@ -1,4 +1,7 @@
+pub mod AccountTables
 pub mod AmongMaps
+pub mod AnswerPlays
+pub mod CausalPlays
 pub mod Drafts
 pub mod Fourteenth
 pub mod KeysRead
@@ -10,4 +13,5 @@ pub mod ReadNodes
 pub mod Showing
 pub mod Tenth
 pub mod Thirteenth
+pub mod ToldNodes
 pub mod TreePlays

@@ -1,7 +1,9 @@
 //! Which of the rules that objects decide a report of a script keeps: the tenth, the thirteenth and the fourteenth.
 #![tactic(auto)]
 
+mod account_tables;
 mod among_map;
+mod causal_plays;
 mod drafts;
 mod finds;
 mod fourteenth;
@@ -12,6 +14,7 @@ mod node_said;
 mod node_table;
 mod node_told;
 mod object_laws;
+mod order_ids;
 mod part_plays;
 mod play_walk;
 mod queue_plays;
@@ -21,12 +24,18 @@ mod ruled_plays;
 mod several_plays;
 mod shard_plays;
 mod showing;
+mod thirteenth;
+mod told_nodes;
 mod tree_play;
-mod tree_told;
-mod trees;
 mod tx_plays;
+mod tx_told;
 
+pub use finds::{Decisions, Finds};
+pub use fourteenth::keeps_fourteenth;
+pub use node_table::NodeTable;
 pub use object_laws::{
     fourteenth_is_decided, fourteenth_is_of_parts, showing_is_found, tenth_is_right,
     thirteenth_is_said,
 };
+pub use showing::{keeps_showing, shows_decisions};
+pub use thirteenth::keeps_thirteenth;

@@ -13,12 +13,13 @@ ghost use Rattle.lawful_run.specs.Explains.{ShowsNames};
 ghost use Rattle.column_track.specs.Tracks.{Tells};
 ghost use Rattle.object_law.specs.NodeTables.{nodes_under};
 ghost use Rattle.object_law.specs.ObjectPlays.{HoldsKeys};
-ghost use Rattle.object_law.specs.TreePlays.{AreKeysOf, HasPlace, IsTreePlay, told_each, tree_colours};
+ghost use Rattle.object_law.specs.ToldNodes.{told_each};
+ghost use Rattle.object_law.specs.TreePlays.{AreKeysOf, IsTreePlay, tree_colours};
 
 use crate::keys_read::whole_order;
 use crate::node_table::NodeTable;
 use crate::region_play::RegionPlay;
-use crate::tree_told::tell_each;
+use crate::told_nodes::{place_of, tell_each};
 use col_core::region_order_is_unique;
 use log_node::{ColourList, Key, Names, Text};
 use playback::{count_up_to, region_order_is_lawful};
@@ -30,6 +31,8 @@ use walk_law::{Subject, all_colours, colours_of, same_text};
 /// The nodes of an object in a region, in their order, with what the tree tells of each; and the tree up to a place.
 #[derive(Drop)]
 pub(crate) struct TreePlay {
+    region: u8,
+    object: u8,
     keys: Vec<Key>,
     told: Vec<Option<Told>>,
     play: RegionPlay<TreeFold>,
@@ -71,26 +74,8 @@ fn keys_of(
     Ok(keys)
 }
 
-// The place of a key, where it is one of these.
-fn place_of(keys: &[Key], key: Key) -> Option<usize>
-    requires { AreRising keys.now }
-    ensures { HasPlace keys.now key result }
-{
-    let place = keys.partition_point(|other| other.is_below(key));
-    match keys.get(place) {
-        Some(found) => {
-            if found.is_same(key) {
-                Some(place)
-            } else {
-                None
-            }
-        }
-        None => None,
-    }
-}
-
-// Whether these are the same names.
-fn are_same(one: &[Text], other: &[Text]) -> bool
+/// Whether these are the same names.
+pub(crate) fn are_same(one: &[Text], other: &[Text]) -> bool
     ensures { Tells result (one.now ≡ other.now) }
 {
     if one.len() != other.len() {
@@ -127,24 +112,35 @@ impl TreePlay {
         object: u8,
     ) -> Result<TreePlay, AllocError>
         requires { region < subject.now.script.shape.regions }
-        ensures { IfOk result (IsTreePlay subject.now nodes.now region (tree_colours subject.now.script object)) }
+        ensures play { IfOk result (IsTreePlay subject.now nodes.now) }
+        ensures region { IfOk result (λ p. p.region ≡ region) }
+        ensures object { IfOk result (λ p. p.object ≡ object) }
     {
         subject.agrees();
         let colours = tree_colours(alloc, subject, object)?;
         let keys = keys_of(alloc, subject, region, colours.as_slice())?;
-        let told = tell_each(alloc, nodes, keys.as_slice())?;
+        let told = tell_each::<TreeFold>(alloc, nodes, keys.as_slice())?;
         Ok(TreePlay {
+            region,
+            object,
             keys,
             told,
             play: RegionPlay::new(alloc),
         })
     }
 
+    /// Whether it is that of this object in this region.
+    pub(crate) fn is_of(&self, region: u8, object: u8) -> bool
+        ensures { Tells result ((self.now.region ≡ region) × (self.now.object ≡ object)) }
+    {
+        self.region == region && self.object == object
+    }
+
     /// What the tree up to a stamp tells of the change with a key.
     pub(crate) fn told(&self, own: Key, stamp: u64) -> Option<Told>
         requires rising { AreRising self.now.keys.items }
         requires many { length self.now.told.items ≡ length self.now.keys.items }
-        ensures { (table : List (List Appended)) → self.now.told.items ≡ told_each table self.now.keys.items
+        ensures { (table : List (List Appended)) → self.now.told.items ≡ told_each telling table self.now.keys.items
             → result ≡ told_of telling (nodes_under table (up_to stamp self.now.keys.items)) own }
     {
         let count = count_up_to(self.keys.as_slice(), stamp);
@@ -176,6 +172,7 @@ impl TreePlay {
         ensures holds { OnOk result (HoldsKeys IsTree nodes.now self.new.keys.items self.new.play) }
         ensures keys { self.new.keys.items ≡ self.old.keys.items }
         ensures told { self.new.told.items ≡ self.old.told.items }
+        ensures same { (self.new.region ≡ self.old.region) × (self.new.object ≡ self.old.object) }
     {
         names_are_one();
         let Some(path) = Path::of(alloc, path.as_bytes())? else {

@@ -2,7 +2,9 @@ use Rattle.std.proofs.Common.{◌≡◌, ◌∙◌, List, ℕ, ◌<◌, refl, su
 use Rattle.std.specs.List.{All}
 use Rattle.log_node.specs.declared.ids.Key.{Key}
 use Rattle.playback.specs.Merging.{AreRising}
-use Rattle.object_law.specs.TreePlays.{AreKeysOf, told_each}
+use Rattle.tree_fold.specs.Trees.{telling}
+use Rattle.object_law.specs.ToldNodes.{told_each}
+use Rattle.object_law.specs.TreePlays.{AreKeysOf}
 use Rattle.object_law.proofs.TreeKeys.{colours_within}
 use Rattle.object_law.proofs.tree_play.TreePlay.open.Goals as goal
 
@@ -16,11 +18,11 @@ pub tell_each-requires : goal.tell_each-requires
 tell_each-requires c =
     subst AreRising (sym c.as_slice-2.ensures.value) c.in_ok-keys.ensures.rising
 
-pub returns : goal.returns
-returns c = record {
+pub returns-clause-play : goal.returns-clause-play
+returns-clause-play c = record {
   keys = subst (λ (l : List ℕ). AreKeysOf c.args.subject.now c.args.region l c.in_ok-keys.keys.items)
       (c.as_slice.ensures ∙ c.in_ok-colours.ensures) c.in_ok-keys.ensures;
   told = c.in_ok-told.ensures
-      ∙ (let same = c.as_slice-2.ensures.value in subst (λ (l : List Key). told_each c.args.nodes.now l ≡ told_each c.args.nodes.now c.in_ok-keys.keys.items) (sym same) refl);
+      ∙ (let same = c.as_slice-2.ensures.value in subst (λ (l : List Key). told_each telling c.args.nodes.now l ≡ told_each telling c.args.nodes.now c.in_ok-keys.keys.items) (sym same) refl);
   holds = c.new.ensures c.args.nodes.now c.in_ok-keys.keys.items;
 }
