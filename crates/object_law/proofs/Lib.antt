@@ -2,6 +2,9 @@ mod AmongLemmas
 mod AnswerLemmas
 mod AppendedNodes
 mod FindingLemmas
+mod FoundLemmas
+mod FoundTexts
+mod FoundVersions
 mod FourteenthLaws
 mod GoingLemmas
 mod LineOrder

@@ -1,5 +1,6 @@
 pub mod AmongMaps
 pub mod Drafts
+pub mod Found
 pub mod Fourteenth
 pub mod KeysRead
 pub mod NodeTables
@@ -11,3 +12,4 @@ pub mod Showing
 pub mod Tenth
 pub mod Thirteenth
 pub mod TreePlays
+pub mod Unnamed

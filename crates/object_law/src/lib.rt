@@ -4,6 +4,9 @@
 mod among_map;
 mod drafts;
 mod finds;
+mod found;
+mod found_laws;
+mod found_plays;
 mod fourteenth;
 mod key_order;
 mod keys_read;
@@ -16,6 +19,7 @@ mod part_plays;
 mod play_walk;
 mod queue_plays;
 mod read_places;
+mod reads_by_stamp;
 mod region_play;
 mod ruled_plays;
 mod several_plays;
