@@ -5,7 +5,7 @@ use Rattle.std.specs.List.{All, Contains, fold}
 use Rattle.std.specs.List.Sorted.{IsNonDecreasingBy}
 use Rattle.std.specs.Option.{option_map}
 use Rattle.std.proofs.lemmas.Bool.{cases_eq, cases_lt}
-use Rattle.std.proofs.lemmas.List.{get_or-set_other, get_or-set_same, length-map, take_more}
+use Rattle.std.proofs.lemmas.List.{get_or-set_other, get_or-set_same, length-map, map-append, take_more}
 use Rattle.std.proofs.lemmas.List.Concat.{flat_map-append}
 use Rattle.std.proofs.lemmas.List.Elements.{All-push}
 use Rattle.std.proofs.lemmas.List.Sums.{fold-append}
@@ -17,23 +17,27 @@ use Rattle.log_node.specs.declared.node.Node.{Node}
 use Rattle.object_form.specs.Readings.{form_of}
 use Rattle.object_fold.specs.Nodes.{ObjectNode}
 use Rattle.object_fold.specs.States.{HoldsWrites, IsTxState}
-use Rattle.object_fold.specs.Transactions.{Write, writes_after, writes_with}
+use Rattle.object_fold.specs.Transactions.{Write, versions_after, writer_of, writes_after, writes_with}
 use Rattle.object_fold.specs.declared.tx_state.TxState.{TxState}
 use Rattle.col_core.specs.Log.{Log}
 use Rattle.col_core.proofs.CallerLemmas.{in_contains, in_slice}
+use Rattle.script_text.specs.declared.script.Command.{Command}
 use Rattle.script_text.specs.declared.script.Script.{Script}
 use Rattle.report_text.specs.declared.report.Answer.{Answer}
 use Rattle.report_text.specs.declared.report.Answer.TheVariants as answers
 use Rattle.report_text.specs.declared.report.ClientReport.{ClientReport}
+use Rattle.report_text.specs.declared.report.KeyAnswer.{KeyAnswer}
 use Rattle.report_text.specs.declared.report.ReplyLine.{ReplyLine}
 use Rattle.report_text.specs.declared.report.Report.{Report}
 use Rattle.lawful_run.specs.Callers.{caller_of, commands_of}
-use Rattle.run_rules.specs.Computing.{answer_in, answer_to, any_decisions, finds_of, node_read, nodes_read, stamp_read}
+use Rattle.run_rules.specs.Computing.{answer_in, answer_to, any_decisions, finds_of, keys_shown, node_read, nodes_read, stamp_read}
 use Rattle.run_rules.specs.Nodes.{nodes_with}
 use Rattle.run_rules.specs.Telling.{FindKeys, IsWellFormed, replies_in, replies_to, unnamed}
 use Rattle.run_rules.specs.Told.{AreKeysFound}
-use Rattle.object_law.specs.Drafts.{AreDrafts, draft_in, drafts_at, filled}
+use Rattle.run_rules.specs.Said.{with_text}
+use Rattle.object_law.specs.Drafts.{AreDrafts, draft_in, drafts_at, filled, text_used}
 use Rattle.object_law.specs.declared.drafts.Draft.{Draft}
+use Rattle.object_law.specs.declared.drafts.Used.{Used}
 use Rattle.object_law.specs.declared.reads_by_stamp.StampedRead.{StampedRead}
 use Rattle.object_law.specs.Found.{AreFoundBelow, AreFoundTo, AreReadsOf, IsReadOf, IsWaiting, StandsAs, account_found, form_in, found_nodes, node_finding, read_stamp}
 use Rattle.object_law.specs.Unnamed.{unnamed_finds, unnamed_to}
@@ -69,6 +73,18 @@ node_filled walked drafts are found keys id made e =
     let fill = filled (commands_of walked.script id.client) (found id.client) in
     ap (λ (nodes : List Node). slice_get nodes id.count) (sym (are id.client found keys))
     ∙ (get_mapped fill (drafts_at drafts id.client) id.count ∙ ap (option_map fill) e)
+
+-- its text is that of a commit, by what the read found that it uses up
+pub filled_used : (commands : List Command) (found : ℕ → List Version) (draft : Draft) (used : Used) → draft.used ≡ Some used
+    → (filled commands found draft).text ≡ text_used commands found used
+filled_used commands found draft used e =
+    ap (λ (o : Option Used). (with_text (option_map (text_used commands found) o) draft.node).text) e
+
+-- or that of the draft
+pub filled_plain : (commands : List Command) (found : ℕ → List Version) (draft : Draft) → draft.used ≡ None
+    → (filled commands found draft).text ≡ draft.node.text
+filled_plain commands found draft e =
+    ap (λ (o : Option Used). (with_text (option_map (text_used commands found) o) draft.node).text) e
 
 -- a node is fed with the text that it has
 pub fed : (state : TxState) (nodes : List ObjectNode) (key : Key) (text : List ℕ) (o : Option Node) (node : Node) → o ≡ Some node
@@ -122,6 +138,21 @@ stands_at P (y ∷ ys) zero n x all lt low is = absurd (let f : ⊥ = omega (ari
 stands_at P (y ∷ ys) (suc count) zero x all lt low is = subst P (sym is) (all 0 y (omega arith))
 stands_at P (y ∷ ys) (suc count) (suc n) x all lt low is =
     stands_at P ys count n x (λ k d less. all (suc k) d (omega (arith, less))) (omega (arith, lt)) (omega (arith, low)) is
+
+-- a version is its key with its writer
+pub version_is : (a b : Version) → a.key ≡ b.key → a.writer ≡ b.writer → a ≡ b
+version_is a b k w i = record { key = k i; writer = w i }
+
+-- the version of one key more
+pub version_more : (nodes : List ObjectNode) (shown : List KeyAnswer) (n : ℕ) (a : KeyAnswer) → n < length shown
+    → a ≡ get_or shown n a
+    → versions_after nodes (keys_shown (take (n + 1) shown))
+    ≡ versions_after nodes (keys_shown (take n shown)) ++ record { key = a.key; writer = writer_of (writes_after nodes) a.key } ∷ []
+version_more nodes shown n a lt is =
+    let of : List ℕ → Version = λ key. record { key = key; writer = writer_of (writes_after nodes) key } in
+    let before = take n shown in
+    ap (λ (l : List KeyAnswer). versions_after nodes (keys_shown l)) (take_more shown n a lt ∙ ap (λ (k : KeyAnswer). before ++ k ∷ []) (sym is))
+    ∙ (ap (map of) (map-append (λ (k : KeyAnswer). k.key) before (a ∷ [])) ∙ map-append of (keys_shown before) (a.key ∷ []))
 
 -- READS
 
@@ -253,7 +284,7 @@ module _ (walked : Walked) (well : IsWellFormed walked.script walked.report) whe
       slots = λ n k there. slots_by n k there (cases_eq n read.client);
       found = λ n k. found_by n k (cases_eq n read.client) (cases_eq k read.place);
     } where
-      abbrev row : List (List Version)
+      row : List (List Version)
       row = slice_index_or table read.client []
 
       slot : (read.client < length table) × (read.place < length row)

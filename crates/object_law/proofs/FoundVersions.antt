@@ -95,16 +95,15 @@ forms_write : (one two : Log) (keys : List Key)
     → (writes : List Write) → fold write writes (nodes_read one keys) ≡ fold write writes (nodes_read two keys)
 forms_write one two [] f writes = refl
 forms_write one two (k ∷ ks) f writes =
-    by (slice_get (one.nodes k.id.client) k.id.count) (slice_get (two.nodes k.id.client) k.id.count) (f k (inl refl)) where
-      rest : (ws : List Write) → fold write ws (nodes_read one ks) ≡ fold write ws (nodes_read two ks)
-      rest = forms_write one two ks (λ m i. f m (inr i))
-
-      by : (o p : Option Node) → form_in o ≡ form_in p
+    by (forms_write one two ks (λ m i. f m (inr i))) (slice_get (one.nodes k.id.client) k.id.count)
+    (slice_get (two.nodes k.id.client) k.id.count) (f k (inl refl)) where
+      by : ((ws : List Write) → fold write ws (nodes_read one ks) ≡ fold write ws (nodes_read two ks)) → (o p : Option Node)
+          → form_in o ≡ form_in p
           → fold write writes (node_read k o ++ nodes_read one ks) ≡ fold write writes (node_read k p ++ nodes_read two ks)
-      by None None e = rest writes
-      by None (Some q) e = absurd (let f : ⊥ = cc (e) in f)
-      by (Some p) None e = absurd (let f : ⊥ = cc (e) in f)
-      by (Some p) (Some q) e =
+      by rest None None e = rest writes
+      by rest None (Some q) e = absurd (let f : ⊥ = cc (e) in f)
+      by rest (Some p) None e = absurd (let f : ⊥ = cc (e) in f)
+      by rest (Some p) (Some q) e =
           let same : form_of p.text ≡ form_of q.text = cc (e) in
           rest (writes_with k writes (form_of p.text))
           ∙ ap (λ (ws : List Write). fold write ws (nodes_read two ks)) (ap (writes_with k writes) same)

@@ -12,6 +12,7 @@ mod NamesTold
 mod ObjectOrders
 mod PartLemmas
 mod ReadDecides
+mod ReadLemmas
 mod ReadsWhole
 mod ShowingLaws
 mod ShowingLemmas
