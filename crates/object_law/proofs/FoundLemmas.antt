@@ -63,6 +63,12 @@ length_set [] n x = refl
 length_set (y ∷ ys) zero x = refl
 length_set (y ∷ ys) (suc n) x = ap (λ (m : ℕ). suc m) (length_set ys n x)
 
+-- one item more
+pub mapped_more : {A B : Type 0} (f : A → B) (xs : List A) (n : ℕ) (x : A) → n < length xs → x ≡ get_or xs n x
+    → map f (take (n + 1) xs) ≡ map f (take n xs) ++ f x ∷ []
+mapped_more {A} f xs n x lt is =
+    ap (map f) (take_more xs n x lt ∙ ap (λ (y : A). take n xs ++ y ∷ []) (sym is)) ∙ map-append f (take n xs) (x ∷ [])
+
 -- NODES
 
 -- the node with an id is that of its draft
@@ -195,8 +201,8 @@ module _ (walked : Walked) (well : IsWellFormed walked.script walked.report) whe
         index_none (map (λ (r : ReplyLine). unnamed r.answer) rs) k []
         (get_mapped (λ (r : ReplyLine). unnamed r.answer) rs k ∙ ap (option_map (λ (r : ReplyLine). unnamed r.answer)) s)
     at rs (Some r) s =
-        sym (get_or_from_slice_get (map (λ (r : ReplyLine). unnamed r.answer) rs) k (unnamed r.answer) []
-        (get_mapped (λ (r : ReplyLine). unnamed r.answer) rs k ∙ ap (option_map (λ (r : ReplyLine). unnamed r.answer)) s))
+        get_or_from_slice_get (map (λ (r : ReplyLine). unnamed r.answer) rs) k (unnamed r.answer) []
+        (get_mapped (λ (r : ReplyLine). unnamed r.answer) rs k ∙ ap (option_map (λ (r : ReplyLine). unnamed r.answer)) s)
 
     by : (o : Option ClientReport) → slice_get walked.report.clients n ≡ o
         → finds_at (unnamed_finds walked.report) n k ≡ unnamed (answer_in (slice_get (replies_in o) k))
@@ -205,8 +211,8 @@ module _ (walked : Walked) (well : IsWellFormed walked.script walked.report) whe
         (index_none (unnamed_finds walked.report) n [] (get_mapped unnamed_to walked.report.clients n ∙ ap (option_map unnamed_to) s))
     by (Some c) s =
         ap (λ (l : List (List Version)). slice_index_or l k [])
-        (sym (get_or_from_slice_get (unnamed_finds walked.report) n (unnamed_to c) []
-        (get_mapped unnamed_to walked.report.clients n ∙ ap (option_map unnamed_to) s)))
+        (get_or_from_slice_get (unnamed_finds walked.report) n (unnamed_to c) []
+        (get_mapped unnamed_to walked.report.clients n ∙ ap (option_map unnamed_to) s))
         ∙ at c.replies (slice_get c.replies k) refl
 
   -- before any read
@@ -236,7 +242,7 @@ module _ (walked : Walked) (well : IsWellFormed walked.script walked.report) whe
         let long = length-map c.replies (λ (r : ReplyLine). unnamed r.answer) in
         let many = well.replied n c s in
         let lt = step.there in
-        subst (λ (l : List (List Version)). k < length l) is (omega (arith, long, many, lt))
+        subst (λ (l : List (List Version)). k < length l) (sym is) (omega (arith, long, many, lt))
 
     by : (n k : ℕ) (o : Option ℕ) → read_stamp (answer_to walked.report n k) ≡ o
         → (finds_at (unnamed_finds walked.report) n k ≡ finds_of walked.script walked.report n k) ⊎ IsWaiting reads 0 n k
@@ -262,8 +268,8 @@ module _ (walked : Walked) (well : IsWellFormed walked.script walked.report) whe
       by n k lt (inl e) = e
       by n k lt (inr w) =
           let at = slice_get_within reads w.place w.read w.there in
-          let its : w.read ≡ get_or reads w.place read = get_or_from_slice_get reads w.place w.read read w.there in
-          let of = subst (IsReadOf walked) (sym its) (are.each w.place read at) in
+          let its : get_or reads w.place read ≡ w.read = get_or_from_slice_get reads w.place w.read read w.there in
+          let of = subst (IsReadOf walked) its (are.each w.place read at) in
           let told : read_stamp (answer_to walked.report n k) ≡ Some w.read.stamp =
           ap (λ (m : ℕ). read_stamp (answer_to walked.report m k)) (sym w.its_client)
           ∙ (ap (λ (j : ℕ). read_stamp (answer_to walked.report w.read.client j)) (sym w.its_number) ∙ of.stamp) in
@@ -355,8 +361,8 @@ module _ (walked : Walked) (well : IsWellFormed walked.script walked.report) whe
           → (finds_at table n k ≡ finds_of walked.script walked.report n k) ⊎ IsWaiting reads from n k
           → finds_at more n k ≡ finds_at table n k
           → (finds_at more n k ≡ finds_of walked.script walked.report n k) ⊎ IsWaiting reads (from + 1) n k
-      waits n k no (inl e) same = inl (same ∙ e)
-      waits n k no (inr w) same = inr (record {
+      waits n k apart (inl e) same = inl (same ∙ e)
+      waits n k apart (inr w) same = inr (record {
         place = w.place;
         after = later (cases_lt from w.place);
         read = w.read;
@@ -370,8 +376,8 @@ module _ (walked : Walked) (well : IsWellFormed walked.script walked.report) whe
             let after = w.after in
             let at : w.place ≡ from = omega (arith, after, le) in
             let one : w.read ≡ read =
-            get_or_from_slice_get reads w.place w.read read w.there ∙ (ap (λ (p : ℕ). get_or reads p read) at ∙ sym is) in
-            absurd (no (sym w.its_client ∙ ap (λ (r : StampedRead). r.client) one)
+            sym (get_or_from_slice_get reads w.place w.read read w.there) ∙ (ap (λ (p : ℕ). get_or reads p read) at ∙ sym is) in
+            absurd (apart (sym w.its_client ∙ ap (λ (r : StampedRead). r.client) one)
             (sym w.its_number ∙ ap (λ (r : StampedRead). r.place) one))
 
       found_by : (n k : ℕ) → (n ≡ read.client) ⊎ (n ≢ read.client) → (k ≡ read.place) ⊎ (k ≢ read.place)

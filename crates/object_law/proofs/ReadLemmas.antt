@@ -106,6 +106,14 @@ module _ (walked : Walked) (client place : ℕ) (reads : List StampedRead) where
         subst (λ (m : ℕ). Contains reads (record { stamp = stamp; client = m; place = k })) (sym at)
         (so_far.here k stamp (omega (arith, low, past)) told)
 
+-- those of as many clients as there are, or more, are all
+pub reads_all : (walked : Walked) (clients many : ℕ) (reads : List StampedRead) → many ≤ clients → AreReadsOf walked clients reads
+    → AreReadsOf walked many reads
+reads_all walked clients many reads le are = record {
+  each = are.each;
+  all = λ c k stamp lt e. are.all c k stamp (omega (arith, lt, le)) e;
+}
+
 -- in another order they are the same
 pub reads_moved : (walked : Walked) (clients : ℕ) (xs ys : List StampedRead) → IsPermutation xs ys → AreReadsOf walked clients xs
     → AreReadsOf walked clients ys
