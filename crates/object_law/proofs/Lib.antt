@@ -1,6 +1,9 @@
+mod AccountLemmas
 mod AmongLemmas
 mod AnswerLemmas
 mod AppendedNodes
+mod AtPlaces
+mod CausalNodes
 mod FindingLemmas
 mod FoundLemmas
 mod FoundTexts
@@ -10,6 +13,7 @@ mod GoingLemmas
 mod LineOrder
 mod NamesTold
 mod ObjectOrders
+mod OneAnswer
 mod PartLemmas
 mod ReadDecides
 mod ReadLemmas
@@ -17,6 +21,7 @@ mod ReadsWhole
 mod ShowingLaws
 mod ShowingLemmas
 mod ShownFinds
+mod Shuffles
 mod TenthLaws
 mod ThirteenthLaws
 mod ToldOfLemmas

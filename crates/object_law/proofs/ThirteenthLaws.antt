@@ -1,6 +1,6 @@
 -- The thirteenth rule, at the account with what reads found and node lines show, is what trees say of each step.
-use Rattle.std.proofs.Common.{◌≡◌, ◌∙◌, refl, ap, sym, subst, ℕ, ◌<◌, List, length, map, Option, Some, arith}
-use Rattle.std.specs.Prelude.{◌↔◌, slice_get}
+use Rattle.std.proofs.Common.{◌≡◌, ◌∙◌, refl, ap, sym, subst, Bool, ℕ, ◌<◌, List, length, Some, arith}
+use Rattle.std.specs.Prelude.{slice_get}
 use Rattle.std.specs.List.{All}
 use Rattle.std.proofs.lemmas.List.{length-map}
 use Rattle.std.proofs.lemmas.List.Elements.{All-contains}
@@ -9,7 +9,6 @@ use Rattle.log_node.specs.declared.ids.Key.{Key}
 use Rattle.log_node.specs.declared.node.Node.{Node}
 use Rattle.log_node.specs.Seen.{PlacedNode}
 use Rattle.object_fold.specs.Nodes.{ObjectNode}
-use Rattle.object_form.specs.declared.tree_why.TreeWhy.{TreeWhy}
 use Rattle.col_core.specs.Keeping.{Kept}
 use Rattle.col_core.specs.Laws.{RegionOrderIsUnique}
 use Rattle.col_core.proofs.CallerLemmas.{In, all_in, contains_in}
@@ -26,6 +25,7 @@ use Rattle.report_text.specs.declared.report.RaisePiece.{RaisePiece}
 use Rattle.report_text.specs.declared.report.ReplyLine.{ReplyLine}
 use Rattle.report_text.specs.declared.report.Report.{Report}
 use Rattle.report_text.specs.declared.report.SyncPiece.{SyncPiece}
+use Rattle.column_track.specs.Tracks.{Tells}
 use Rattle.lawful_run.specs.Callers.{Caller, caller_of}
 use Rattle.lawful_run.specs.Deeds.{colours_synced}
 use Rattle.lawful_run.specs.Explains.{ShowsChange, ShowsNames}
@@ -33,24 +33,23 @@ use Rattle.lawful_run.specs.Laws.{ReadItemsLast}
 use Rattle.lawful_run.specs.Reads.{ReadsAt}
 use Rattle.lawful_run.specs.Refusals.{kept_before}
 use Rattle.run_rules.specs.Agreeing.{AreStepsAlike}
-use Rattle.run_rules.specs.Answering.{CanHave}
 use Rattle.run_rules.specs.Deciding.{account_showing, nodes_showing}
 use Rattle.run_rules.specs.Keeping.{RulesTo}
 use Rattle.run_rules.specs.Laws.{ComputedAccountAgrees, FindsTell}
-use Rattle.run_rules.specs.Rules.{IsReplyTo, Rule1}
+use Rattle.run_rules.specs.Rules.{Rule1}
 use Rattle.run_rules.specs.Shown.{OfNodesRead, Rule13, Rule9, Shows, TreeAnswers, own_key}
 use Rattle.run_rules.specs.Telling.{IsWellFormed, account_of, no_nodes}
-use Rattle.run_rules.specs.Told.{Account, Step, Untold, kept_at, stamp_told}
-use Rattle.run_rules.proofs.CallerLemmas.{rule1, rule9}
+use Rattle.run_rules.specs.Told.{Account, OfEachStep, Step, Untold, kept_at, stamp_told}
+use Rattle.run_rules.proofs.CallerLemmas.{rule1, rule9, rules_fewer}
 use Rattle.object_law.specs.NodeTables.{AreNodes}
 use Rattle.object_law.specs.ReadNodes.{AreNodesRead, HasTable}
 use Rattle.object_law.specs.Tenth.{stamped_nodes}
 use Rattle.object_law.specs.Thirteenth.{IsTreeAnswer, OfPathAsked, ThirteenthIsSaid, TreesSaySo}
-use Rattle.walk_law.specs.Walking.{Walked}
+use Rattle.walk_law.specs.Walking.{DecidesEachStep, Walked}
 use Rattle.object_law.proofs.ReadDecides.{stamped}
-use Rattle.walk_law.proofs.CallerLemmas.{before_same}
+use Rattle.walk_law.proofs.CallerLemmas.{before_same, told_as}
 use Rattle.walk_law.proofs.CallerLemmas.{synced_within}
-use Rattle.walk_law.proofs.CallerLemmas.{home_low, its_within_shown as its_within, to_bare_shown as to_bare, to_shown, told_shown as told}
+use Rattle.walk_law.proofs.CallerLemmas.{its_within_shown as its_within, to_bare_shown as to_bare, to_shown, told_shown as told}
 use Rattle.object_law.proofs.TenthLaws.{own_same}
 
 module _ (tell : FindsTell) (agrees : ComputedAccountAgrees) (ordered : RegionOrderIsLawful) (unique : RegionOrderIsUnique)
@@ -190,3 +189,16 @@ thirteenth_is_said tell agrees ordered unique last script report table fits well
   λ so. record { tree = λ n c there. back tell agrees ordered unique last script report table fits well nodes rules n c there (so n c there) },
   λ rule n c there. onto tell agrees ordered unique last script report table fits well nodes rules n c there (rule.tree n c there),
 )
+
+-- what is told of the steps is told of the report
+pub thirteenth_told : ThirteenthIsSaid → (script : Script) (report : Report) (table : List (List Node)) → IsFitting script
+    → IsWellFormed script report → AreNodes (nodes_showing script report) table
+    → RulesTo script report (account_showing script report) 12 → (b : Bool)
+    → DecidesEachStep (record { script = script; report = report }) (TreesSaySo (record { script = script; report = report }) table) b
+    → Tells b (Rule13 script report (account_showing script report))
+thirteenth_told said script report table fits well nodes rules b told_steps =
+    let law = said script report table fits well nodes
+    (rules_fewer script report (account_showing script report) 12 9 (omega arith) rules) in
+    told_as b (OfEachStep script report (account_of script report no_nodes)
+    (TreesSaySo (record { script = script; report = report }) table)) (Rule13 script report (account_showing script report))
+    law.0 law.1 (told_steps no_nodes)

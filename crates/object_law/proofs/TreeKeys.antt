@@ -1,20 +1,16 @@
 -- The keys of a tree's nodes in a region, and their colours.
-use Rattle.std.proofs.Common.{◌≡◌, ◌⊎◌, ◌∙◌, inl, inr, ap, refl, sym, subst, ℕ, ◌+◌, ◌-◌, ◌^◌, ◌<◌, ◌≤◌, List, [], ◌∷◌, ◌++◌, arith, get_or, length, take}
-use Rattle.std.specs.Prelude.{Bool, IsTrue, Option, Some, None, nat_le, slice_get, ◌≢◌}
+use Rattle.std.proofs.Common.{◌≡◌, ◌⊎◌, ◌∙◌, inl, inr, ap, refl, sym, subst, ℕ, ◌-◌, ◌^◌, ◌<◌, List, [], arith, length}
+use Rattle.std.specs.Prelude.{Bool, IsTrue, Option, Some, None, nat_le, slice_get}
 use Rattle.std.specs.List.{All, Contains}
 use Rattle.std.specs.Option.{option_map}
-use Rattle.std.proofs.lemmas.Bool.{cases_eq, le-leb, leb-true}
+use Rattle.std.proofs.lemmas.Bool.{le-leb, leb-true}
 use Rattle.std.proofs.lemmas.List.Elements.{All-contains, All-nil}
-use Rattle.std.proofs.lemmas.List.{length-append, length-map}
-use Rattle.std.proofs.lemmas.Option.{get_or_from_slice_get, slice_get-get_or, slice_get_within}
-use lib.Seq.{get_or-set_other, get_or-set_same}
-use lib.ListN.{length-set, set}
+use Rattle.std.proofs.lemmas.List.{length-map}
 use Rattle.lawful_run.specs.Explains.{ShowsNames}
 use Rattle.tree_fold.specs.TreeStates.{IsTree}
 use Rattle.object_law.specs.ObjectPlays.{HoldsKeys}
 use Rattle.log_node.specs.declared.node.Node.{Node}
 use Rattle.object_law.specs.declared.tree_play.TreePlay.{TreePlay}
-use Rattle.walk_law.proofs.CallerLemmas.{longer_cases}
 use Rattle.std.proofs.lemmas.List.Kept.{AllPairs-filter}
 use Rattle.log_node.specs.declared.ids.Key.{Key}
 use Rattle.log_node.specs.Order.{key_below}
@@ -24,7 +20,7 @@ use Rattle.col_core.specs.History.{line}
 use Rattle.col_core.specs.Laws.{RegionOrderIsUnique}
 use Rattle.col_core.specs.Legal.{IsColumnHistory}
 use Rattle.col_core.specs.RegionOrder.{IsRegionOrder}
-use Rattle.col_core.proofs.CallerLemmas.{In, all_in, contains_in, in_contains, in_filter, in_filter-back, in_map, slice_in}
+use Rattle.col_core.proofs.CallerLemmas.{all_in, contains_in, in_contains, in_filter, in_filter-back, in_map, slice_in}
 use Rattle.playback.specs.Laws.{RegionOrderIsLawful}
 use Rattle.playback.specs.Merging.{AreRising, region_order, up_to}
 use Rattle.script_text.specs.declared.commands.What.{What}
@@ -51,7 +47,7 @@ use Rattle.run_rules.specs.Rules.{IsLawfulColumn}
 use Rattle.run_rules.specs.Telling.{journal_among, no_nodes}
 use Rattle.walk_law.specs.Asking.{AreLow, all_of}
 use Rattle.object_law.specs.KeysRead.{whole_lines, whole_order}
-use Rattle.object_law.specs.TreePlays.{AreKeysOf, AreTrees, IsTreePlay, SyncsWhole, told_each, tree_colours}
+use Rattle.object_law.specs.TreePlays.{AreKeysOf, IsTreePlay, SyncsWhole, told_each, tree_colours}
 use Rattle.walk_law.specs.Walking.{MayWalk, Walked, journal_walked, log_walked}
 use Rattle.walk_law.proofs.CallerLemmas.{low_objects}
 use Rattle.walk_law.proofs.CallerLemmas.{by_place, journal_is}
@@ -125,40 +121,6 @@ used_low script fits object own is = subst AreLow (sym is) (by (slice_get script
       All-contains (λ (x : Object). AreLow (object_colours (Some x.kind))) script.objects o (low_objects script fits)
       (contains_in script.objects o (slice_in script.objects object o e))
 
--- THE TREES OF ALL OBJECTS
-
-module _ (walked : Walked) (table : List (List Node)) (region : ℕ) where
-  -- there are those of so many objects
-  pub record ArePlays (plays : List TreePlay) (count : ℕ) : Type 0 where
-    pub many : length plays ≡ count
-    pub each : (object : ℕ) (p : TreePlay) → slice_get plays object ≡ Some p
-        → IsTreePlay walked table region (tree_colours walked.script object) p
-
-  pub no_plays : (plays : List TreePlay) → plays ≡ [] → ArePlays plays 0
-  no_plays plays none =
-      subst (λ (l : List TreePlay). ArePlays l 0) (sym none) (record {
-        many = refl;
-        each = λ object p at.
-            absurd (let f : ⊥ = cc (at) in f);
-      })
-
-  pub plays_more : (old new : List TreePlay) (count : ℕ) (p : TreePlay) → new ≡ old ++ p ∷ [] → ArePlays old count
-      → IsTreePlay walked table region (tree_colours walked.script count) p → ArePlays new (count + 1)
-  plays_more old new count p more so is =
-      subst (λ (l : List TreePlay). ArePlays l (count + 1)) (sym more) (record {
-        many = length-append old (p ∷ []) ∙ ap (λ (n : ℕ). n + 1) so.many;
-        each = λ object q at. by object q (longer_cases old p q object at);
-      }) where
-        by : (object : ℕ) (q : TreePlay) → (slice_get old object ≡ Some q) ⊎ ((object ≡ length old) × (q ≡ p))
-            → IsTreePlay walked table region (tree_colours walked.script object) q
-        by object q (inl here) = so.each object q here
-        by object q (inr last) =
-            subst (λ (n : ℕ). IsTreePlay walked table region (tree_colours walked.script n) q) (sym (last.0 ∙ so.many))
-            (subst (IsTreePlay walked table region (tree_colours walked.script count)) (sym last.1) is)
-
-  pub plays_all : (plays : List TreePlay) (count : ℕ) → count ≡ 256 → ArePlays plays count → AreTrees walked table region plays
-  plays_all plays count all so = record { many = so.many ∙ all; each = so.each }
-
 -- COMMANDS THAT SYNC ALL COLOURS OF AN OBJECT
 
 pub synced_whole : (what : What) (object : ℕ)
@@ -184,28 +146,18 @@ none_commits (whats.Mv o x y) a b c d m = d o x y refl
 none_commits _ a b c d m = let no : ⊥ = cc (m) in no
 
 -- what a change is told by the tree of its object
-module _ (walked : Walked) (table : List (List Node)) (client : ℕ) (what : What) (object : ℕ) (plays : List TreePlay)
-    (are : AreTrees walked table (caller_of walked.script client).own plays) (p : TreePlay)
-    (at : slice_get plays object ≡ Some p) where
+module _ (walked : Walked) (table : List (List Node)) (client : ℕ) (what : What) (object : ℕ) (p : TreePlay)
+    (play : IsTreePlay walked table p) (region_is : p.region ≡ (caller_of walked.script client).own) (object_is : p.object ≡ object) where
   abbrev it : Caller
   it = caller_of walked.script client
-
-  play : IsTreePlay walked table it.own (tree_colours walked.script object) p
-  play = are.each object p at
-
-  pub play_rises : AreRising p.keys.items
-  play_rises = play.keys.rising
-
-  pub play_long : length p.told.items ≡ length p.keys.items
-  play_long =
-      ap length play.told
-      ∙ length-map p.keys.items (told_of telling (nodes_under table p.keys.items))
 
   pub nodes_to : SyncsWhole what (Some object) → (stamp : ℕ) → stamp < 2 ^ 64
       → nodes_under table (up_to stamp p.keys.items) ≡ stamped_nodes walked table it.own (colours_synced it what) stamp
   nodes_to whole stamp small =
       ap (nodes_under table) (play.keys.begun stamp small)
-      ∙ ap (λ (cs : List ℕ). stamped_nodes walked table it.own cs stamp) (sym (whole walked.script client))
+      ∙ (ap (λ (r : ℕ). stamped_nodes walked table r (tree_colours walked.script p.object) stamp) region_is
+      ∙ (ap (λ (o : ℕ). stamped_nodes walked table it.own (tree_colours walked.script o) stamp) object_is
+      ∙ ap (λ (cs : List ℕ). stamped_nodes walked table it.own cs stamp) (sym (whole walked.script client))))
 
   pub change_told : SyncsWhole what (Some object) → (failed : Option TreeWhy) (stamp : ℕ) (own : Key) (read_stamp : ℕ) → read_stamp < 2 ^ 64
       → (told : Option Told)
@@ -226,38 +178,23 @@ module _ (walked : Walked) (table : List (List Node)) (client : ℕ) (what : Wha
       (subst (λ (ns : List ObjectNode). Tells b (ShowsNames path names ns))
       (nodes_to (synced_whole what object (inr (inr (inr (inr (inr (path, is))))))) stamp small) told)
 
-  -- with one tree in the place of another, all are there
-  pub trees_set : (q : TreePlay) → q.keys.items ≡ p.keys.items → q.told.items ≡ p.told.items
-      → HoldsKeys IsTree table q.keys.items q.play → AreTrees walked table it.own (set plays object q)
-  trees_set q keys told holds = record {
-    many = length-set plays object q ∙ are.many;
-    each = λ other x there. by other x there (cases_eq other object);
-  } where
-    new : IsTreePlay walked table it.own (tree_colours walked.script object) q
-    new = record {
-      keys = subst (AreKeysOf walked it.own (tree_colours walked.script object)) (sym keys) play.keys;
-      told = told ∙ (play.told ∙ ap (told_each table) (sym keys));
-      holds = holds;
-    }
+-- what stands of a play, and what is left so
+module _ (walked : Walked) (table : List (List Node)) (p : TreePlay) (play : IsTreePlay walked table p) where
+  pub play_rises : AreRising p.keys.items
+  play_rises = play.keys.rising
 
-    by : (other : ℕ) (x : TreePlay) → slice_get (set plays object q) other ≡ Some x → (other ≡ object) ⊎ (other ≢ object)
-        → IsTreePlay walked table it.own (tree_colours walked.script other) x
-    by other x there (inl e) =
-        let lt = slice_get_within plays object p at in
-        let is : x ≡ q =
-        sym (get_or_from_slice_get (set plays object q) object x x (ap (slice_get (set plays object q)) (sym e) ∙ there))
-        ∙ get_or-set_same plays object q x lt in
-        subst (λ (n : ℕ). IsTreePlay walked table it.own (tree_colours walked.script n) x) (sym e)
-        (subst (IsTreePlay walked table it.own (tree_colours walked.script object)) (sym is) new)
-    by other x there (inr apart) =
-        let long = length-set plays object q in
-        let lt = slice_get_within (set plays object q) other x there in
-        are.each other x
-        (slice_get-get_or plays other x (omega (arith, lt, long))
-        ∙ ap (λ (y : TreePlay). Some y)
-        (sym (get_or-set_other plays object other q x apart)
-        ∙ get_or_from_slice_get (set plays object q) other x x there))
+  pub play_long : length p.told.items ≡ length p.keys.items
+  play_long =
+      ap length play.told
+      ∙ length-map p.keys.items (told_of telling (nodes_under table p.keys.items))
 
-pub there_is : (plays : List TreePlay) (object : ℕ) (p : TreePlay) → object < length plays → p ≡ get_or plays object p
-    → slice_get plays object ≡ Some p
-there_is plays object p lt is = slice_get-get_or plays object p lt ∙ ap (λ (x : TreePlay). Some x) (sym is)
+  pub tree_kept : (q : TreePlay) → q.keys.items ≡ p.keys.items → q.told.items ≡ p.told.items
+      → (q.region ≡ p.region) × (q.object ≡ p.object) → HoldsKeys IsTree table q.keys.items q.play → IsTreePlay walked table q
+  tree_kept q keys told same holds = record {
+    keys =
+        subst (λ (r : ℕ). AreKeysOf walked r (tree_colours walked.script q.object) q.keys.items) (sym same.0)
+        (subst (λ (o : ℕ). AreKeysOf walked p.region (tree_colours walked.script o) q.keys.items) (sym same.1)
+        (subst (AreKeysOf walked p.region (tree_colours walked.script p.object)) (sym keys) play.keys));
+    told = told ∙ (play.told ∙ ap (told_each table) (sym keys));
+    holds = holds;
+  }

@@ -1,5 +1,7 @@
 -- What a tree says of a step that shows a change.
-use Rattle.std.proofs.Common.{◌≡◌, ◌∙◌, ap, sym, subst, Bool, ℕ, List, Option}
+use Rattle.std.proofs.Common.{◌≡◌, ◌∙◌, ap, sym, subst, Bool, IfOk, Result, ℕ, List, Option}
+use Rattle.log_node.specs.declared.ids.Id.{Id}
+use Rattle.log_node.specs.declared.ids.Key.{Key}
 use Rattle.log_node.specs.declared.node.Node.{Node}
 use Rattle.log_node.proofs.CallerLemmas.{same_some}
 use Rattle.object_form.specs.declared.tree_why.TreeWhy.{TreeWhy}
@@ -14,7 +16,7 @@ use Rattle.report_text.specs.declared.report.RaisePiece.{RaisePiece}
 use Rattle.report_text.specs.declared.report.ReplyLine.{ReplyLine}
 use Rattle.report_text.specs.declared.report.SyncPiece.{SyncPiece}
 use Rattle.lawful_run.specs.Asks.{Committing}
-use Rattle.lawful_run.specs.Callers.{Caller, caller_of, commands_of}
+use Rattle.lawful_run.specs.Callers.{caller_of, commands_of}
 use Rattle.lawful_run.specs.Deeds.{manner_of}
 use Rattle.column_track.specs.Tracks.{Tells}
 use Rattle.run_rules.specs.Answering.{CanHave}
@@ -29,15 +31,15 @@ pub change_said : (walked : Walked) (table : List (List Node)) (client place : �
     → IsSeen walked client place counted step → (command : Command) → slice_get (commands_of walked.script client) place ≡ Some command
     → (reply : ReplyLine) → slice_get (replies_to walked.report client) place ≡ Some reply
     → (failed : Option TreeWhy) (stamp : ℕ) (row : Option ℕ) (points : List PointPiece) (read_stamp : ℕ) (raises : List RaisePiece)
-    (syncs : List SyncPiece) → reply.answer ≡ answers.Changed failed stamp row points read_stamp raises syncs → (own : ℕ)
+    (syncs : List SyncPiece) → reply.answer ≡ answers.Changed failed stamp row points read_stamp raises syncs → (own : ℕ) (id : Id)
     → ((kept : Kept) → IsCounted (replies_to walked.report client) kept counted
-    → own ≡ stamp_told (log_walked walked) (caller_of walked.script client) kept row points) → (b : Bool)
-    → (manner_of command.what ≡ Committing → (kept : Kept) → IsCounted (replies_to walked.report client) kept counted
-    → Tells b (TellsChange walked table (caller_of walked.script client) command.what failed stamp
-    (own_key (caller_of walked.script client) kept own) read_stamp))
-    → Tells b (TreesSaySo walked table (caller_of walked.script client) step)
-change_said walked table client place counted step seen command at_c reply at_r failed stamp row points read_stamp raises syncs is own
-    of_log b told =
+    → own ≡ stamp_told (log_walked walked) (caller_of walked.script client) kept row points)
+    → id ≡ record { client = client; count = counted.ids } → {E : Type 0} (r : Result Bool E) → (manner_of command.what ≡ Committing
+    → IfOk r (λ b. Tells b (TellsChange walked table (caller_of walked.script client) command.what failed stamp
+    (record { stamp = own; id = id }) read_stamp)))
+    → IfOk r (λ b. Tells b (TreesSaySo walked table (caller_of walked.script client) step))
+change_said walked table client place counted step seen command at_c reply at_r failed stamp row points read_stamp raises syncs is own id
+    of_log next r told =
     let it = caller_of walked.script client in
     let answer : Answer = answers.Changed failed stamp row points read_stamp raises syncs in
     let kept = kept_at step in
@@ -46,7 +48,13 @@ change_said walked table client place counted step seen command at_c reply at_r 
     ap (λ (r : ReplyLine). r.answer) (same_some (sym seen.reply ∙ at_r)) ∙ is in
     let can = subst (CanHave it kept step.command.what step.reply.nodes) shown seen.can.answer in
     let manner = subst (λ (d : Command). manner_of d.what ≡ Committing) (sym same) can.1 in
-    subst (λ (a : Answer). Tells b (IsTreeAnswer walked table it kept step.command.what a)) (sym shown)
-    (subst (λ (d : Command). Tells b (IsTreeAnswer walked table it kept d.what answer)) same
-    (subst (λ (n : ℕ). Tells b (TellsChange walked table it command.what failed stamp (own_key it kept n) read_stamp))
-    (of_log kept seen.kept) (told manner kept seen.kept)))
+    let key : Key = record { stamp = own; id = id } in
+    let at_id : id ≡ record { client = it.client; count = kept.ids } =
+    next ∙ ap (λ (n : ℕ). let i : Id = record { client = client; count = n } in i) seen.kept.ids in
+    let key_is : key ≡ own_key it kept (stamp_told (log_walked walked) it kept row points) =
+    ap (λ (n : ℕ). let k : Key = record { stamp = n; id = id } in k) (of_log kept seen.kept)
+    ∙ ap (λ (i : Id). let k : Key = record { stamp = stamp_told (log_walked walked) it kept row points; id = i } in k) at_id in
+    subst (λ (a : Answer). IfOk r (λ (b : Bool). Tells b (IsTreeAnswer walked table it kept step.command.what a))) (sym shown)
+    (subst (λ (d : Command). IfOk r (λ (b : Bool). Tells b (IsTreeAnswer walked table it kept d.what answer))) same
+    (subst (λ (k : Key). IfOk r (λ (b : Bool). Tells b (TellsChange walked table it command.what failed stamp k read_stamp)))
+    key_is (told manner)))

@@ -1,4 +1,7 @@
+pub mod AccountTables
 pub mod AmongMaps
+pub mod AnswerPlays
+pub mod CausalPlays
 pub mod Drafts
 pub mod Found
 pub mod Fourteenth

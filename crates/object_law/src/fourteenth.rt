@@ -493,7 +493,7 @@ impl PlayCheck for PartPlays {
 
 /// Whether a report that keeps the rules before the last keeps this one too: the decisions that are computed are those that are
 /// shown, and each answer of a map that is played by its parts is right by the nodes of commands.
-pub(crate) fn keeps_fourteenth(
+pub fn keeps_fourteenth(
     alloc: Global,
     subject: &Subject<'_>,
     nodes: &NodeTable,

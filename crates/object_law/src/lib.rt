@@ -1,7 +1,9 @@
 //! Which of the rules that objects decide a report of a script keeps: the tenth, the thirteenth and the fourteenth.
 #![tactic(auto)]
 
+mod account_tables;
 mod among_map;
+mod causal_plays;
 mod drafts;
 mod finds;
 mod found;
@@ -15,6 +17,7 @@ mod node_said;
 mod node_table;
 mod node_told;
 mod object_laws;
+mod order_ids;
 mod part_plays;
 mod play_walk;
 mod queue_plays;
@@ -25,12 +28,17 @@ mod ruled_plays;
 mod several_plays;
 mod shard_plays;
 mod showing;
+mod thirteenth;
 mod tree_play;
 mod tree_told;
-mod trees;
 mod tx_plays;
 
+pub use finds::{Decisions, Finds};
+pub use fourteenth::keeps_fourteenth;
+pub use node_table::NodeTable;
 pub use object_laws::{
     fourteenth_is_decided, fourteenth_is_of_parts, showing_is_found, tenth_is_right,
     thirteenth_is_said,
 };
+pub use showing::{keeps_showing, shows_decisions};
+pub use thirteenth::keeps_thirteenth;

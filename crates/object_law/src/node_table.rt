@@ -75,4 +75,11 @@ impl NodeTable {
         }
         Ok(())
     }
+
+    /// The lists of nodes, by client; takes no memory.
+    pub(crate) fn into_lists(self) -> Vec<ListOf<Node>>
+        ensures { result.items ≡ self }
+    {
+        self.lists
+    }
 }

@@ -25,8 +25,8 @@ pub(crate) struct ShardPlay {
     play: LinePlay<ShardMap>,
 }
 
-// The colours of an object, by its number.
-fn colours_used(script: &Script, object: u8) -> &[u8]
+/// The colours of an object, by its number.
+pub(crate) fn colours_used(script: &Script, object: u8) -> &[u8]
     ensures { result.now ≡ colours_used script.now object }
 {
     match script.objects.get(object as usize) {

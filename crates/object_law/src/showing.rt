@@ -62,11 +62,7 @@ fn each_says_shown(
 
 /// Whether a report that keeps the first nine rules keeps them at the account that shows what reads found: whether the nodes of its
 /// commands, by these finds and whatever decisions, say what is shown of them.
-pub(crate) fn keeps_showing(
-    subject: &Subject<'_>,
-    nodes: &NodeTable,
-    texts: &ShownTexts<'_>,
-) -> bool
+pub fn keeps_showing(subject: &Subject<'_>, nodes: &NodeTable, texts: &ShownTexts<'_>) -> bool
     requires texts { texts.now ≡ subject.now.report }
     requires nodes { AreNodes (nodes_with subject.now.script subject.now.report
         (finds_of subject.now.script subject.now.report) any_decisions) nodes.now }
@@ -80,11 +76,7 @@ pub(crate) fn keeps_showing(
 }
 
 /// Whether the nodes of commands, by what reads found and the decisions that are computed, say what is shown of them.
-pub(crate) fn shows_decisions(
-    subject: &Subject<'_>,
-    nodes: &NodeTable,
-    texts: &ShownTexts<'_>,
-) -> bool
+pub fn shows_decisions(subject: &Subject<'_>, nodes: &NodeTable, texts: &ShownTexts<'_>) -> bool
     requires texts { texts.now ≡ subject.now.report }
     requires nodes { AreNodes (nodes_with subject.now.script subject.now.report
         (finds_of subject.now.script subject.now.report) (decisions_of subject.now.script subject.now.report)) nodes.now }

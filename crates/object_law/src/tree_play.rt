@@ -30,6 +30,8 @@ use walk_law::{Subject, all_colours, colours_of, same_text};
 /// The nodes of an object in a region, in their order, with what the tree tells of each; and the tree up to a place.
 #[derive(Drop)]
 pub(crate) struct TreePlay {
+    region: u8,
+    object: u8,
     keys: Vec<Key>,
     told: Vec<Option<Told>>,
     play: RegionPlay<TreeFold>,
@@ -89,8 +91,8 @@ fn place_of(keys: &[Key], key: Key) -> Option<usize>
     }
 }
 
-// Whether these are the same names.
-fn are_same(one: &[Text], other: &[Text]) -> bool
+/// Whether these are the same names.
+pub(crate) fn are_same(one: &[Text], other: &[Text]) -> bool
     ensures { Tells result (one.now ≡ other.now) }
 {
     if one.len() != other.len() {
@@ -127,17 +129,28 @@ impl TreePlay {
         object: u8,
     ) -> Result<TreePlay, AllocError>
         requires { region < subject.now.script.shape.regions }
-        ensures { IfOk result (IsTreePlay subject.now nodes.now region (tree_colours subject.now.script object)) }
+        ensures play { IfOk result (IsTreePlay subject.now nodes.now) }
+        ensures region { IfOk result (λ p. p.region ≡ region) }
+        ensures object { IfOk result (λ p. p.object ≡ object) }
     {
         subject.agrees();
         let colours = tree_colours(alloc, subject, object)?;
         let keys = keys_of(alloc, subject, region, colours.as_slice())?;
         let told = tell_each(alloc, nodes, keys.as_slice())?;
         Ok(TreePlay {
+            region,
+            object,
             keys,
             told,
             play: RegionPlay::new(alloc),
         })
+    }
+
+    /// Whether it is that of this object in this region.
+    pub(crate) fn is_of(&self, region: u8, object: u8) -> bool
+        ensures { Tells result ((self.now.region ≡ region) × (self.now.object ≡ object)) }
+    {
+        self.region == region && self.object == object
     }
 
     /// What the tree up to a stamp tells of the change with a key.
@@ -176,6 +189,7 @@ impl TreePlay {
         ensures holds { OnOk result (HoldsKeys IsTree nodes.now self.new.keys.items self.new.play) }
         ensures keys { self.new.keys.items ≡ self.old.keys.items }
         ensures told { self.new.told.items ≡ self.old.told.items }
+        ensures same { (self.new.region ≡ self.old.region) × (self.new.object ≡ self.old.object) }
     {
         names_are_one();
         let Some(path) = Path::of(alloc, path.as_bytes())? else {

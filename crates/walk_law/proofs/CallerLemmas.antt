@@ -1,4 +1,5 @@
 -- For the crates above.
+pub use Rattle.walk_law.proofs.ChainBeginnings.{begins}
 pub use Rattle.walk_law.proofs.FirstLemmas.{low_objects}
 pub use Rattle.walk_law.proofs.FoundSteps.{find_keys, its_within, keys_unnamed, to_bare, to_found, told}
 pub use Rattle.walk_law.proofs.LeftLemmas.{by_place, journal_is}

@@ -61,8 +61,8 @@ impl Subject<'_> {
         head_at(journal, self.track(region, colour), position as usize)
     }
 
-    // The next node of a region's chain, where it is to be played and its needs are played.
-    fn free_head(&self, colour: u8, played: Counts, to: Counts, region: u8) -> Option<Head>
+    /// The next node of a region's chain, where it is to be played and its needs are played.
+    pub fn free_head(&self, colour: u8, played: Counts, to: Counts, region: u8) -> Option<Head>
         requires { region < 4 }
         ensures { result ≡ free_head (lines_of self.now colour) played to region }
     {

@@ -16,8 +16,8 @@ pub tell_each-requires : goal.tell_each-requires
 tell_each-requires c =
     subst AreRising (sym c.as_slice-2.ensures.value) c.in_ok-keys.ensures.rising
 
-pub returns : goal.returns
-returns c = record {
+pub returns-clause-play : goal.returns-clause-play
+returns-clause-play c = record {
   keys = subst (λ (l : List ℕ). AreKeysOf c.args.subject.now c.args.region l c.in_ok-keys.keys.items)
       (c.as_slice.ensures ∙ c.in_ok-colours.ensures) c.in_ok-keys.ensures;
   told = c.in_ok-told.ensures

@@ -1,0 +1,13 @@
+use Rattle.std.specs.Prelude.{None}
+use Rattle.std.specs.List.{All}
+use Rattle.std.proofs.Common.{subst, sym, List, Option}
+use Rattle.std.proofs.lemmas.List.Elements.{All-push}
+use Rattle.object_law.specs.declared.tree_play.TreePlay.{TreePlay}
+use Rattle.object_law.specs.PartAnswers.{IfThere}
+use Rattle.object_law.specs.TreePlays.{IsTreePlay}
+use Rattle.object_law.proofs.thirteenth.TreePlays.new.Goals as goal
+
+pub loop-preserved : goal.loop-preserved
+loop-preserved c = λ walked table.
+    subst (λ (xs : List (Option TreePlay)). All (IfThere (IsTreePlay walked table)) xs) (sym c.in_ok-push.ensures.items)
+    (All-push (IfThere (IsTreePlay walked table)) c.loop.plays.items None (c.loop.invariant walked table) tt)
