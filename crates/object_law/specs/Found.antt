@@ -23,6 +23,7 @@ use Rattle.run_rules.specs.Computing.{account_finding, answer_to, any_decisions,
 use Rattle.run_rules.specs.Keeping.{Keeps}
 use Rattle.run_rules.specs.Nodes.{nodes_with}
 use Rattle.run_rules.specs.Told.{Account, AreKeysFound}
+use Rattle.object_law.specs.AnswerPlays.{IsAt}
 use Rattle.object_law.specs.KeysRead.{whole_lines}
 use Rattle.object_law.specs.ObjectAnswers.{IsKeyOrder}
 use Rattle.object_law.specs.declared.found_plays.FoundPlay.{FoundPlay}
@@ -122,11 +123,9 @@ abbrev pub AreFoundPlays : Walked → FoundPlays → Type 0
 AreFoundPlays walked all = All (IsFoundPlay walked) all.plays.items
 
 -- the play of these colours of a region stands at the place
-pub record IsFoundAt (all : FoundPlays) (region : ℕ) (colours : List ℕ) (place : ℕ) : Type 0 where
-  pub play : FoundPlay
-  pub there : slice_get all.plays.items place ≡ Some play
-  pub its_region : play.order.region ≡ region
-  pub its_colours : play.order.colours ≡ colours
+abbrev pub IsFoundAt : FoundPlays → ℕ → List ℕ → ℕ → Type 0
+IsFoundAt all region colours place =
+    IsAt (λ (p : FoundPlay). (p.order.region ≡ region) × (p.order.colours ≡ colours)) all.plays.items place
 
 -- WHAT IS FOUND SO FAR
 

@@ -65,7 +65,7 @@ fn found_by(
 }
 
 /// What the reads of a report that keeps the first nine rules found.
-pub(crate) fn finds_of(alloc: Global, subject: &Subject<'_>) -> Result<Finds, AllocError>
+pub fn finds_of(alloc: Global, subject: &Subject<'_>) -> Result<Finds, AllocError>
     requires { Keeps subject.now.script subject.now.report 9 }
     ensures finds { IfOk result (λ f. (client k : ℕ)
         → finds_at f client k ≡ finds_of subject.now.script subject.now.report client k) }

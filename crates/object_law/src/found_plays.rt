@@ -1,5 +1,5 @@
 // Transactional maps that are played on from read to read, while what the reads found is computed.
-ghost use Rattle.std.specs.Prelude.{◌≡◌, ◌++◌, ◌<◌, ◌≤◌, ℕ, List, length, take, IfOk, OnOk};
+ghost use Rattle.std.specs.Prelude.{◌≡◌, ◌++◌, ◌<◌, ◌≤◌, ℕ, List, length, slice_index_or, take, IfOk, OnOk};
 ghost use Rattle.std.specs.List.{All};
 ghost use Rattle.object_fold.specs.Nodes.{ObjectNode};
 ghost use Rattle.object_fold.specs.States.{IsTxState};
@@ -17,6 +17,7 @@ use crate::finds::Finds;
 use crate::found_laws::texts_stand;
 use crate::key_order::KeyOrder;
 use crate::node_told::text_used;
+use crate::order_ids::OrderId;
 use log_node::{ColourList, Key, ListOf, Text, Version, Versions};
 use object_fold::TxState;
 use report_text::KeyAnswer;
@@ -62,6 +63,14 @@ fn feed(
     Ok(())
 }
 
+// The key at a place.
+fn key_at(keys: &[Key], place: usize) -> Key
+    requires { place < length keys.now }
+    ensures { result ≡ slice_index_or keys.now place result }
+{
+    keys[place]
+}
+
 // The versions of the keys that a read shows.
 fn versions(
     alloc: Global,
@@ -95,6 +104,13 @@ impl FoundPlay {
         }
     }
 
+    // Whether it is that of this region and these colours.
+    fn is_of(&self, region: u8, colours: &[u8]) -> bool
+        ensures { Tells result ((self.now.order.region ≡ region) × (self.now.order.colours ≡ colours.now)) }
+    {
+        self.order.is_of(region, colours)
+    }
+
     // Feeds the nodes up to a place.
     fn go_on(
         &mut self,
@@ -115,7 +131,7 @@ impl FoundPlay {
         ensures order { self.new.order ≡ self.old.order }
     {
         while self.count < count {
-            let key = self.order.keys()[self.count];
+            let key = key_at(self.order.keys(), self.count);
             feed(&mut self.state, alloc, subject, drafts, finds, key)?;
             self.count += 1;
         }
@@ -173,30 +189,12 @@ impl FoundPlay {
     }
 }
 
-// Some colours of a region, for a search.
-#[derive(Clone, Copy, Debug, PartialEq, Eq, PartialOrd, Ord)]
-struct ColoursRead {
-    region: u8,
-    set: u64,
-}
-
-// The colours as the bits of a number.
-fn bits(colours: &[u8]) -> u64 {
-    let mut set = 0;
-    for colour in colours {
-        if *colour < 64 {
-            set |= 1 << *colour;
-        }
-    }
-    set
-}
-
 /// The plays of all colours that were read so far. The table says at which place each stands; what stands there says itself what it
 /// is of.
 #[derive(Drop)]
 pub(crate) struct FoundPlays {
     plays: Vec<FoundPlay>,
-    places: BTreeMap<ColoursRead, usize>,
+    places: BTreeMap<OrderId, usize>,
 }
 
 impl FoundPlays {
@@ -216,7 +214,7 @@ impl FoundPlays {
         ensures { Tells result (IsFoundAt self.now region colours.now place) }
     {
         match self.plays.get(place) {
-            Some(play) => play.order.is_of(region, colours),
+            Some(play) => play.is_of(region, colours),
             None => false,
         }
     }
@@ -226,7 +224,6 @@ impl FoundPlays {
         &mut self,
         alloc: Global,
         subject: &Subject<'_>,
-        id: ColoursRead,
         region: u8,
         colours: ColourList,
     ) -> Result<usize, AllocError>
@@ -237,6 +234,7 @@ impl FoundPlays {
         ensures plays { OnOk result (AreFoundPlays subject.now self.new) }
     {
         let place = self.plays.len();
+        let id = OrderId::of(region, colours.as_slice());
         let order = KeyOrder::of(alloc, subject, region, colours)?;
         self.plays.push(FoundPlay::new(alloc, subject, order))?;
         self.places.insert(id, place)?;
@@ -257,16 +255,13 @@ impl FoundPlays {
         ensures at { IfOk result (IsFoundAt self.new region colours) }
         ensures plays { OnOk result (AreFoundPlays subject.now self.new) }
     {
-        let id = ColoursRead {
-            region,
-            set: bits(colours.as_slice()),
-        };
+        let id = OrderId::of(region, colours.as_slice());
         if let Some(place) = self.places.get(&id).copied() {
             if self.is_at(place, region, colours.as_slice()) {
                 return Ok(place);
             }
         }
-        self.add(alloc, subject, id, region, colours)
+        self.add(alloc, subject, region, colours)
     }
 
     /// The versions of the keys that a read of these colours of a region shows behind the nodes up to its stamp, by what the reads below

@@ -34,6 +34,7 @@ mod tree_told;
 mod tx_plays;
 
 pub use finds::{Decisions, Finds};
+pub use found::finds_of;
 pub use fourteenth::keeps_fourteenth;
 pub use node_table::NodeTable;
 pub use object_laws::{
