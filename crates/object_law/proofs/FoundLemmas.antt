@@ -1,13 +1,12 @@
 -- What reads found, computed in rising order of their stamps: one node more, and one read more.
 use Rattle.std.proofs.Common.{◌≡◌, ◌⊎◌, ◌∙◌, refl, ap, sym, subst, ℕ, zero, suc, ◌+◌, ◌<◌, ◌≤◌, List, [], ◌∷◌, ◌++◌, length, map, take, get_or, append-nil, Option, Some, None, inl, inr, arith}
-use Rattle.std.specs.Prelude.{◌≢◌, ◌==◌, slice_get, slice_index_or, slice_set}
-use Rattle.std.specs.List.{All, Contains, fold}
+use Rattle.std.specs.Prelude.{◌≢◌, slice_get, slice_index_or, slice_set}
+use Rattle.std.specs.List.{All}
 use Rattle.std.specs.List.Sorted.{IsNonDecreasingBy}
 use Rattle.std.specs.Option.{option_map}
 use Rattle.std.proofs.lemmas.Bool.{cases_eq, cases_lt}
 use Rattle.std.proofs.lemmas.List.{get_or-set_other, get_or-set_same, length-map, map-append, take_more}
 use Rattle.std.proofs.lemmas.List.Concat.{flat_map-append}
-use Rattle.std.proofs.lemmas.List.Elements.{All-push}
 use Rattle.std.proofs.lemmas.List.Sums.{fold-append}
 use Rattle.std.proofs.lemmas.Option.{get_or_from_slice_get, slice_get_within}
 use Rattle.log_node.specs.declared.forms.Version.{Version}
@@ -19,7 +18,6 @@ use Rattle.object_fold.specs.Nodes.{ObjectNode}
 use Rattle.object_fold.specs.States.{HoldsWrites, IsTxState}
 use Rattle.object_fold.specs.Transactions.{Write, versions_after, writer_of, writes_after, writes_with}
 use Rattle.object_fold.specs.declared.tx_state.TxState.{TxState}
-use Rattle.col_core.specs.Log.{Log}
 use Rattle.col_core.proofs.CallerLemmas.{in_contains, in_slice}
 use Rattle.script_text.specs.declared.script.Command.{Command}
 use Rattle.script_text.specs.declared.script.Script.{Script}
@@ -29,9 +27,8 @@ use Rattle.report_text.specs.declared.report.ClientReport.{ClientReport}
 use Rattle.report_text.specs.declared.report.KeyAnswer.{KeyAnswer}
 use Rattle.report_text.specs.declared.report.ReplyLine.{ReplyLine}
 use Rattle.report_text.specs.declared.report.Report.{Report}
-use Rattle.lawful_run.specs.Callers.{caller_of, commands_of}
-use Rattle.run_rules.specs.Computing.{answer_in, answer_to, any_decisions, finds_of, keys_shown, node_read, nodes_read, stamp_read}
-use Rattle.run_rules.specs.Nodes.{nodes_with}
+use Rattle.lawful_run.specs.Callers.{commands_of}
+use Rattle.run_rules.specs.Computing.{answer_in, answer_to, any_decisions, finds_of, keys_shown, node_read, stamp_read}
 use Rattle.run_rules.specs.Telling.{FindKeys, IsWellFormed, replies_in, replies_to, unnamed}
 use Rattle.run_rules.specs.Told.{AreKeysFound}
 use Rattle.run_rules.specs.Said.{with_text}
@@ -222,8 +219,8 @@ module _ (walked : Walked) (well : IsWellFormed walked.script walked.report) whe
     keys = λ n k. subst (λ (f : List Version). AreKeysFound f (answer_to walked.report n k)) (sym (unnamed_at n k))
         (keys_unnamed (answer_to walked.report n k));
     slots = λ n k step. (
-        (let long = length-map walked.report.clients unnamed_to in let lt = step.walker in omega (arith, long, lt)),
-        slot n k step (slice_get walked.report.clients n) refl,
+      (let long = length-map walked.report.clients unnamed_to in let lt = step.walker in omega (arith, long, lt)),
+      slot n k step (slice_get walked.report.clients n) refl,
     );
     found = λ n k. by n k (read_stamp (answer_to walked.report n k)) refl;
   } where

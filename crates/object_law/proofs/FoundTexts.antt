@@ -1,7 +1,7 @@
 -- Nodes up to a stamp have texts of one form by finds that agree below it.
-use Rattle.std.proofs.Common.{◌≡◌, ◌⊎◌, ◌∙◌, refl, ap, sym, subst, ℕ, zero, suc, ◌<◌, ◌≤◌, List, [], ◌∷◌, length, take, Option, Some, None, inl, inr, arith}
+use Rattle.std.proofs.Common.{◌≡◌, ◌⊎◌, ◌∙◌, ap, sym, subst, ℕ, suc, ◌<◌, ◌≤◌, List, [], ◌∷◌, length, take, Some, inl, inr, arith}
 use Rattle.std.specs.Prelude.{slice_get}
-use Rattle.std.specs.List.{All, AllZip, Contains}
+use Rattle.std.specs.List.{All, AllZip}
 use Rattle.std.proofs.lemmas.List.{take_all}
 use Rattle.std.proofs.lemmas.List.Elements.{All-contains}
 use Rattle.std.proofs.lemmas.Option.{slice_get_within}
@@ -25,20 +25,18 @@ use Rattle.script_text.specs.declared.script.Command.{Command}
 use Rattle.script_text.specs.declared.script.Script.{Script}
 use Rattle.report_text.specs.declared.report.Answer.{Answer}
 use Rattle.report_text.specs.declared.report.Answer.TheVariants as answers
-use Rattle.report_text.specs.declared.report.ClientReport.{ClientReport}
 use Rattle.report_text.specs.declared.report.ReplyLine.{ReplyLine}
 use Rattle.report_text.specs.declared.report.Report.{Report}
 use Rattle.lawful_run.specs.Callers.{Caller, caller_of, commands_of}
 use Rattle.lawful_run.specs.Deeds.{ADecision, IsText}
 use Rattle.run_rules.specs.Agreeing.{AreNodesAlike, HasColumn}
-use Rattle.run_rules.specs.Computing.{account_finding, answer_in, answer_to, any_decisions, finds_of, stamp_read}
-use Rattle.run_rules.specs.Finding.{HaveText}
+use Rattle.run_rules.specs.Computing.{account_finding, answer_in, any_decisions, finds_of, stamp_read}
 use Rattle.run_rules.specs.Keeping.{Keeps, RulesTo}
 use Rattle.run_rules.specs.Laws.{FindsTell, FoundAccountDecides}
-use Rattle.run_rules.specs.Telling.{IsWellFormed, journal_among, places_shown, replies_to, step_finding, steps_finding}
-use Rattle.run_rules.specs.Told.{Account, IsTold, Step, kept_past}
+use Rattle.run_rules.specs.Telling.{IsWellFormed, places_shown, replies_to, step_finding, steps_finding}
+use Rattle.run_rules.specs.Told.{Account, IsTold, kept_past}
 use Rattle.run_rules.proofs.CallerLemmas.{FoundBelow, NodeBelow, SameFound, found_keys_of, keeps_fewer, keys_above, nodes_below, told_accounts_agree, told_nodes_agree, zip_at}
-use Rattle.object_law.specs.Found.{AreFoundBelow, StandsAs, TextsStand, form_in, node_finding, stamped_keys}
+use Rattle.object_law.specs.Found.{AreFoundBelow, StandsAs, TextsStand, form_in, stamped_keys}
 use Rattle.object_law.specs.KeysRead.{whole_lines}
 use Rattle.walk_law.specs.Finds.{FindsKeys}
 use Rattle.walk_law.specs.Walking.{MayWalk, Walked, journal_walked, log_walked}

@@ -1,6 +1,6 @@
 // What the reads of a report found.
-ghost use Rattle.std.specs.Prelude.{◌≡◌, ℕ, IfOk, OnOk, length, map};
-ghost use Rattle.run_rules.specs.Computing.{any_decisions, answer_to, finds_of};
+ghost use Rattle.std.specs.Prelude.{◌≡◌, ℕ, IfOk, OnOk};
+ghost use Rattle.run_rules.specs.Computing.{any_decisions, finds_of};
 ghost use Rattle.run_rules.specs.Keeping.{Keeps};
 ghost use Rattle.object_law.specs.Drafts.{AreDrafts};
 ghost use Rattle.object_law.specs.Found.{AreFoundBelow, AreFoundPlays, IsReadOf, colours_read};

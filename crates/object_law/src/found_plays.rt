@@ -1,5 +1,5 @@
 // Transactional maps that are played on from read to read, while what the reads found is computed.
-ghost use Rattle.std.specs.Prelude.{◌≡◌, ◌++◌, ◌<◌, ◌≤◌, ℕ, List, length, slice_index_or, take, IfOk, OnOk};
+ghost use Rattle.std.specs.Prelude.{◌≡◌, ◌++◌, ◌<◌, ◌≤◌, List, length, slice_index_or, take, IfOk, OnOk};
 ghost use Rattle.std.specs.List.{All};
 ghost use Rattle.object_fold.specs.Nodes.{ObjectNode};
 ghost use Rattle.object_fold.specs.States.{IsTxState};
@@ -72,11 +72,7 @@ fn key_at(keys: &[Key], place: usize) -> Key
 }
 
 // The versions of the keys that a read shows.
-fn versions(
-    alloc: Global,
-    state: &TxState,
-    shown: &[KeyAnswer],
-) -> Result<Versions, AllocError>
+fn versions(alloc: Global, state: &TxState, shown: &[KeyAnswer]) -> Result<Versions, AllocError>
     ensures { (nodes : List ObjectNode) → IsTxState state.now nodes
         → IfOk result (λ found. found ≡ versions_after nodes (keys_shown shown.now)) }
 {

@@ -1,11 +1,9 @@
 use mathlib.Core.Path.{fun_ext}
-use Rattle.std.proofs.Common.{◌≡◌, ◌∙◌, ◌<◌, ap, arith, length, rules, subst, sym, ℕ}
+use Rattle.std.proofs.Common.{◌≡◌, ◌∙◌, ap, arith, length, rules, subst, sym, ℕ}
 use Rattle.part_fold.specs.declared.decision.Decision.{Decision}
-use Rattle.run_rules.specs.Computing.{any_decisions}
 use Rattle.object_law.specs.Drafts.{AreDrafts}
 use Rattle.object_law.specs.Found.{AreFoundTo, IsReadOf}
 use Rattle.object_law.specs.Unnamed.{unnamed_finds}
-use Rattle.walk_law.specs.Finds.{decision_at}
 use Rattle.object_law.proofs.FoundLemmas.{found_all, found_before, found_keys, found_next, found_none}
 use Rattle.object_law.proofs.found.finds_of.Goals as goal
 

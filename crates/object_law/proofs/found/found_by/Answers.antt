@@ -5,7 +5,6 @@ use Rattle.log_node.proofs.CallerLemmas.{ok_then}
 use Rattle.object_fold.specs.Transactions.{versions_after}
 use Rattle.report_text.specs.declared.report.Answer.TheVariants as answers
 use Rattle.report_text.specs.declared.report.KeyAnswer.{KeyAnswer}
-use Rattle.report_text.specs.declared.report.ReplyLine.{ReplyLine}
 use Rattle.report_text.specs.declared.report.SyncPiece.{SyncPiece}
 use Rattle.lawful_run.specs.Callers.{caller_of}
 use Rattle.run_rules.specs.Computing.{answer_in, answer_to, finds_of, keys_shown}

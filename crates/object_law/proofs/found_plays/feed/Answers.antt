@@ -1,5 +1,4 @@
-use Rattle.std.proofs.Common.{◌∙◌, refl, sym, None, Some}
-use Rattle.log_node.specs.declared.node.Node.{Node}
+use Rattle.std.proofs.Common.{◌∙◌, sym, None, Some}
 use Rattle.lawful_run.specs.Callers.{commands_of}
 use Rattle.object_law.specs.Drafts.{filled}
 use Rattle.object_law.specs.Found.{node_finding}

@@ -1,9 +1,8 @@
-use Rattle.std.proofs.Common.{◌≡◌, ◌∙◌, ◌<◌, ◌+◌, ap, arith, length, sym}
+use Rattle.std.proofs.Common.{◌≡◌, ◌∙◌, ◌<◌, List, ap, arith, get_or, length, subst, sym, take}
+use Rattle.std.specs.List.{All}
 use Rattle.log_node.specs.declared.ids.Key.{Key}
 use Rattle.object_law.specs.Found.{StandsAs, found_nodes}
 use Rattle.object_law.specs.declared.key_order.KeyOrder.{KeyOrder}
-use Rattle.std.proofs.Common.{List, subst, take, get_or, ℕ}
-use Rattle.std.specs.List.{All}
 use Rattle.walk_law.specs.Finds.{finds_at}
 use Rattle.object_law.proofs.FoundLemmas.{found_more, stands_at}
 use Rattle.object_law.proofs.found_plays.FoundPlay.go_on.Goals as goal

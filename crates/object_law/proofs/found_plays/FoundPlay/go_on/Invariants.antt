@@ -1,4 +1,4 @@
-use Rattle.std.proofs.Common.{◌≡◌, ◌-◌, ◌≤◌, ℕ}
+use Rattle.std.proofs.Common.{◌≡◌, ◌-◌, ◌≤◌}
 use Rattle.object_law.specs.Found.{IsFoundPlay}
 use Rattle.object_law.proofs.found_plays.FoundPlay.go_on.Given as goal
 
