@@ -11,6 +11,9 @@ mod DecidedSteps
 mod DecidedTexts
 mod DecisionLists
 mod FindingLemmas
+mod FoundLemmas
+mod FoundTexts
+mod FoundVersions
 mod FourteenthLaws
 mod GoingLemmas
 mod JudgedNodes
@@ -21,6 +24,7 @@ mod ObjectOrders
 mod OneAnswer
 mod PartLemmas
 mod ReadDecides
+mod ReadLemmas
 mod ReadsWhole
 mod RulingLemmas
 mod ShowingLaws
