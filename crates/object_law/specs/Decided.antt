@@ -122,9 +122,9 @@ pub record IsDecidedBy (walked : Walked) (client k : ℕ) (what : What) (commits
   pub place : ℕ
   pub there : slice_get own place ≡ Some sync.colour
   pub says : decisions_of walked.script walked.report client k ≡ record {
-      key = key_or (undecided_after (part_at own place) (decided_nodes walked (synced_keys walked client sync)));
-      commits = commits;
-    }
+    key = key_or (undecided_after (part_at own place) (decided_nodes walked (synced_keys walked client sync)));
+    commits = commits;
+  }
   pub stand : (decided : ℕ → ℕ → Decision) → AreDecidedBelow walked stamp decided
       → All (StandsDecided walked decided) (synced_keys walked client sync)
 

@@ -218,7 +218,13 @@ impl DecidedPlays {
     }
 
     // The part of a shard: what was played of it, or before any node.
-    fn part_of(&mut self, alloc: Global, subject: &Subject<'_>, at: usize, shard: Shard) -> DecidedPlay
+    fn part_of(
+        &mut self,
+        alloc: Global,
+        subject: &Subject<'_>,
+        at: usize,
+        shard: Shard,
+    ) -> DecidedPlay
         requires place { shard.place < shard.colours }
         requires plays { All (IfThere (IsDecidedPlay subject.now)) self.old.parts.items }
         ensures play { IsDecidedPlay subject.now result }
