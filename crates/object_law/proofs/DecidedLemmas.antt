@@ -27,6 +27,7 @@ use Rattle.object_law.specs.declared.decisions_by_stamp.StampedDecision.{Stamped
 use Rattle.object_law.specs.Decided.{AreDecided, AreDecidedBelow, AreDecidedTo, AreDecisionsOf, IsDecisionOf, IsReadFrom, StandsDecided, Waits, decided_at, decided_in, decided_nodes, node_deciding, said_by, stamp_of_read}
 use Rattle.object_law.proofs.DecidedLaws.{IsNoDecision, never}
 use Rattle.object_law.proofs.DecisionLists.{client_low}
+use Rattle.object_law.proofs.GoingLemmas.{at_before, at_last}
 use Rattle.walk_law.specs.Finds.{decision_at}
 use Rattle.walk_law.specs.Walking.{IsStepOf, Walked}
 
@@ -95,6 +96,21 @@ decided_more walked decided keys n key lt is stands part holds =
     ∙ (ap (λ (l : List ObjectNode). before ++ l) (sym (append-nil (node_read key its)))
     ∙ sym (flat_map-append (λ (k : Key). node_read k (slice_get (log.nodes k.id.client) k.id.count)) (take n keys) (key ∷ []))))
     holds)
+
+-- what is noted behind each node, with what is noted behind one more
+pub noted_more : (waits more : List (Option Key)) (last : Option Key) → more ≡ waits ++ last ∷ [] → (says : ℕ → Option Key)
+    → (n : ℕ) → length waits ≡ n → ((k : ℕ) (d : Option Key) → k < n → slice_index_or waits k d ≡ says k) → last ≡ says n
+    → (k : ℕ) (d : Option Key) → k < n + 1 → slice_index_or more k d ≡ says k
+noted_more waits more last is says n many noted here k d lt = by (cases_lt k n) where
+  by : (k < n) ⊎ (n ≤ k) → slice_index_or more k d ≡ says k
+  by (inl less) =
+      ap (λ (l : List (Option Key)). slice_index_or l k d) is
+      ∙ (at_before waits (last ∷ []) k d (omega (arith, less, many)) ∙ noted k d less)
+  by (inr le) =
+      let e : k ≡ length waits = omega (arith, lt, le, many) in
+      ap (λ (l : List (Option Key)). slice_index_or l k d) is
+      ∙ (ap (λ (m : ℕ). slice_index_or (waits ++ last ∷ []) m d) e
+      ∙ (at_last waits last d ∙ (here ∙ ap says (sym many ∙ sym e))))
 
 -- DECISIONS
 

@@ -35,11 +35,6 @@ module _ (law : DecisionsStand) (walked : Walked) (tracks : List Tracked) (may :
   answered : answer_to walked.report it.client it.place ≡ reply.answer
   answered = ap answer_in replied
 
-  -- another answer is none that is gone over
-  pub other_answer : stamp_of_read reply.answer ≡ None → ⊥
-  other_answer none =
-      let told = sym of.stamp ∙ (ap stamp_of_read answered ∙ none) in let f : ⊥ = cc (told) in f
-
   module _ (commits : Bool) (stamp : ℕ) (sync : SyncPiece) (read_stamp : ℕ) (raises : List RaisePiece) (syncs : List SyncPiece)
       (ended : Ended) (is : reply.answer ≡ answers.Decided commits stamp sync read_stamp raises syncs ended) where
     pub stands : IsDecidedBy walked it.client it.place command.what commits sync read_stamp

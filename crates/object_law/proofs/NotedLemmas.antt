@@ -1,5 +1,5 @@
 -- What decisions say, before anything is known.
-use Rattle.std.proofs.Common.{◌≡◌, ◌⊎◌, ◌∙◌, refl, ap, sym, subst, ℕ, zero, suc, ◌+◌, ◌<◌, ◌≤◌, List, [], ◌∷◌, ◌++◌, length, length-append, inl, inr, arith}
+use Rattle.std.proofs.Common.{◌≡◌, ◌⊎◌, ◌∙◌, ap, sym, subst, ℕ, ◌+◌, ◌<◌, ◌≤◌, List, [], ◌∷◌, ◌++◌, length, length-append, inl, inr, arith}
 use Rattle.std.specs.Prelude.{slice_index_or}
 use Rattle.std.proofs.lemmas.Bool.{cases_lt}
 use Rattle.part_fold.specs.declared.decision.Decision.{Decision}
@@ -8,14 +8,6 @@ use Rattle.run_rules.specs.Nodes.{any_decision}
 use Rattle.object_law.proofs.GoingLemmas.{at_before, at_last, at_past}
 use Rattle.walk_law.specs.Finds.{decision_at}
 use Rattle.walk_law.specs.Walking.{IsStepOf, Walked}
-
--- one more of which nothing is known
-pub unknown_more : (ds : List Decision) → ((k : ℕ) → slice_index_or ds k any_decision ≡ any_decision) → (k : ℕ)
-    → slice_index_or (ds ++ any_decision ∷ []) k any_decision ≡ any_decision
-unknown_more [] none zero = refl
-unknown_more [] none (suc k) = refl
-unknown_more (d ∷ ds) none zero = none 0
-unknown_more (d ∷ ds) none (suc k) = unknown_more ds (λ j. none (suc j)) k
 
 -- one for each command of the first so many clients, of which nothing is known
 pub record AreUnknown (walked : Walked) (count : ℕ) (table : List (List Decision)) : Type 0 where

@@ -1,5 +1,5 @@
 -- What decisions say, computed in rising order of the stamps of their reads: what is so between one decision and the next.
-use Rattle.std.specs.Prelude.{◌≡◌, ◌⊎◌, Bool, ℕ, ◌<◌, ◌≤◌, List, [], ◌∷◌, length, map, take, Option, Some, None, slice_get, slice_index_or}
+use Rattle.std.specs.Prelude.{◌≡◌, ◌⊎◌, Bool, ℕ, ◌+◌, ◌<◌, ◌≤◌, List, [], ◌∷◌, length, map, take, Option, Some, None, slice_get, slice_index_or}
 use Rattle.std.specs.List.{All, Contains}
 use Rattle.std.specs.Option.{option_map}
 use Rattle.log_node.specs.declared.ids.Id.{Id}
@@ -122,9 +122,9 @@ pub record IsDecidedBy (walked : Walked) (client k : ℕ) (what : What) (commits
   pub place : ℕ
   pub there : slice_get own place ≡ Some sync.colour
   pub says : decisions_of walked.script walked.report client k ≡ record {
-      key = key_or (undecided_after (part_at own place) (decided_nodes walked (synced_keys walked client sync)));
-      commits = commits;
-    }
+    key = key_or (undecided_after (part_at own place) (decided_nodes walked (synced_keys walked client sync)));
+    commits = commits;
+  }
   pub stand : (decided : ℕ → ℕ → Decision) → AreDecidedBelow walked stamp decided
       → All (StandsDecided walked decided) (synced_keys walked client sync)
 
@@ -156,11 +156,16 @@ pub record AreDecisionsOf (walked : Walked) (clients : ℕ) (decisions : List St
 
 -- PLAYS
 
--- the part of a shard is played over the first nodes of the own line of its colour, by the decisions that are computed
+-- The part of a shard is played over the first nodes of the own line of its colour, by the decisions that are computed; and for
+-- which transaction it waited is noted behind each of them.
 pub record IsDecidedPlay (walked : Walked) (p : DecidedPlay) : Type 0 where
   pub count : p.count ≤ length (line (journal_walked walked p.shard.region p.shard.colour))
   pub part : p.part.part ≡ record { place = p.shard.place; colours = p.shard.colours }
   pub holds : IsPart p.part (decided_nodes walked (take p.count (line (journal_walked walked p.shard.region p.shard.colour))))
+  pub many : length p.waits.items ≡ p.count
+  pub noted : (k : ℕ) (d : Option Key) → k < p.count → slice_index_or p.waits.items k d
+      ≡ undecided_after (record { place = p.shard.place; colours = p.shard.colours })
+      (decided_nodes walked (take (k + 1) (line (journal_walked walked p.shard.region p.shard.colour))))
 
 -- WHAT IS DECIDED SO FAR
 

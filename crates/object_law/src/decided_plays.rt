@@ -1,5 +1,5 @@
 // Parts of transactional maps that are played on from decision to decision, while what the decisions say is computed.
-ghost use Rattle.std.specs.Prelude.{◌≡◌, ◌++◌, ◌≤◌, ◌<◌, List, Some, length, slice_get, slice_index_or, take, IfOk, OnOk};
+ghost use Rattle.std.specs.Prelude.{◌≡◌, ◌++◌, ◌≤◌, ◌<◌, [], List, Some, length, slice_get, slice_index_or, take, IfOk, OnOk};
 ghost use Rattle.std.specs.List.{All};
 ghost use Rattle.log_node.specs.Vectors.{at};
 ghost use Rattle.object_fold.specs.Nodes.{ObjectNode};
@@ -27,11 +27,13 @@ use walk_law::Subject;
 // How many columns a log can have.
 const COLUMNS: usize = MAX_REGIONS as usize * MAX_COLOURS as usize;
 
-/// The part of a shard, over the own line of its colour.
+/// The part of a shard, over the own line of its colour. It never goes back: behind each node that was fed it is noted for which
+/// transaction the part waited there.
 #[derive(Drop)]
 pub(crate) struct DecidedPlay {
     shard: Shard,
     part: PartFold,
+    waits: Vec<Option<Key>>,
     count: usize,
 }
 
@@ -71,6 +73,15 @@ fn feed(
     }
 }
 
+// For which transaction a part waits before any node.
+fn before_any(alloc: Global, shard: Shard) -> Option<Key>
+    requires { shard.place < shard.colours }
+    ensures { result ≡ undecided_after (record { place = shard.place; colours = shard.colours }) [] }
+{
+    let part = PartFold::open(alloc, shard.place, shard.colours);
+    part.undecided()
+}
+
 impl DecidedPlay {
     // Before any node.
     fn open(alloc: Global, subject: &Subject<'_>, shard: Shard) -> DecidedPlay
@@ -82,39 +93,12 @@ impl DecidedPlay {
         DecidedPlay {
             shard,
             part: PartFold::open(alloc, shard.place, shard.colours),
+            waits: Vec::new(alloc),
             count: 0,
         }
     }
 
-    // Feeds the nodes up to a place of the line.
-    fn go_on(
-        &mut self,
-        alloc: Global,
-        subject: &Subject<'_>,
-        nodes: &DecidedNodes,
-        decisions: &Decisions,
-        keys: &[Key],
-        count: usize,
-    ) -> Result<(), AllocError>
-        requires keys { keys.now ≡ line_of (journal_walked subject.now self.old.shard.region self.old.shard.colour) }
-        requires play { IsDecidedPlay subject.now self.old }
-        requires within { count ≤ length keys.now }
-        requires behind { self.old.count ≤ count }
-        requires nodes { AreDecided subject.now (finds_of subject.now.script subject.now.report) nodes.now }
-        requires stand { All (StandsDecided subject.now (decision_at decisions.now)) (take count keys.now) }
-        ensures play { OnOk result (IsDecidedPlay subject.now self.new) }
-        ensures count { OnOk result (self.new.count ≡ count) }
-        ensures shard { self.new.shard ≡ self.old.shard }
-    {
-        while self.count < count {
-            let key = key_at(keys, self.count);
-            feed(&mut self.part, alloc, subject, nodes, decisions, key)?;
-            self.count += 1;
-        }
-        Ok(())
-    }
-
-    // Goes to a place of the line; from its beginning where that is an earlier one.
+    // Feeds the nodes up to a place of the line, where they are not fed yet.
     fn go_to(
         &mut self,
         alloc: Global,
@@ -126,19 +110,37 @@ impl DecidedPlay {
     ) -> Result<(), AllocError>
         requires keys { keys.now ≡ line_of (journal_walked subject.now self.old.shard.region self.old.shard.colour) }
         requires play { IsDecidedPlay subject.now self.old }
-        requires place { self.old.shard.place < self.old.shard.colours }
         requires within { count ≤ length keys.now }
         requires nodes { AreDecided subject.now (finds_of subject.now.script subject.now.report) nodes.now }
         requires stand { All (StandsDecided subject.now (decision_at decisions.now)) (take count keys.now) }
         ensures play { OnOk result (IsDecidedPlay subject.now self.new) }
-        ensures count { OnOk result (self.new.count ≡ count) }
+        ensures fed { OnOk result (count ≤ self.new.count) }
         ensures shard { self.new.shard ≡ self.old.shard }
     {
-        if count < self.count {
-            self.part = PartFold::open(alloc, self.shard.place, self.shard.colours);
-            self.count = 0;
+        while self.count < count {
+            let key = key_at(keys, self.count);
+            feed(&mut self.part, alloc, subject, nodes, decisions, key)?;
+            self.waits.push(self.part.undecided())?;
+            self.count += 1;
         }
-        self.go_on(alloc, subject, nodes, decisions, keys, count)
+        Ok(())
+    }
+
+    // The transaction for which the part waited behind so many nodes.
+    fn behind(&self, alloc: Global, subject: &Subject<'_>, count: usize) -> Option<Key>
+        requires play { IsDecidedPlay subject.now self.now }
+        requires place { self.now.shard.place < self.now.shard.colours }
+        requires fed { count ≤ self.now.count }
+        ensures { result ≡ undecided_after
+            (record { place = self.now.shard.place; colours = self.now.shard.colours })
+            (decided_nodes subject.now (take count
+            (line_of (journal_walked subject.now self.now.shard.region self.now.shard.colour)))) }
+    {
+        let _subject = subject;
+        if count == 0 {
+            return before_any(alloc, self.shard);
+        }
+        self.waits[count - 1]
     }
 
     // The transaction for which the part waits behind the nodes that a sync played.
@@ -168,7 +170,7 @@ impl DecidedPlay {
         let keys = subject.track(self.shard.region, self.shard.colour).line();
         let count = (sync.counts.of_region(self.shard.region) as usize).min(keys.len());
         self.go_to(alloc, subject, nodes, decisions, keys, count)?;
-        Ok(self.part.undecided())
+        Ok(self.behind(alloc, subject, count))
     }
 }
 
@@ -218,7 +220,13 @@ impl DecidedPlays {
     }
 
     // The part of a shard: what was played of it, or before any node.
-    fn part_of(&mut self, alloc: Global, subject: &Subject<'_>, at: usize, shard: Shard) -> DecidedPlay
+    fn part_of(
+        &mut self,
+        alloc: Global,
+        subject: &Subject<'_>,
+        at: usize,
+        shard: Shard,
+    ) -> DecidedPlay
         requires place { shard.place < shard.colours }
         requires plays { All (IfThere (IsDecidedPlay subject.now)) self.old.parts.items }
         ensures play { IsDecidedPlay subject.now result }

@@ -28,7 +28,7 @@ module _ (before : List ℕ) (given : Option (List ℕ)) (P Q : Script → List 
     a.1,
     a.4,
     subst (λ (text : List ℕ). Q a.0 text) (same_text given b.1 a.1 b.3 a.3)
-    (subst (λ (script : Script). Q script b.1) (b.2.only a.0 a.2.is) b.4),
+        (subst (λ (script : Script). Q script b.1) (b.2.only a.0 a.2.is) b.4),
   )
 
 -- what is said of a text's report
@@ -40,8 +40,7 @@ InReport P script text =
 module _ (before : List ℕ) (given : Option (List ℕ)) (P Q : Script → Report → Type 0) where
   of_reports : OfReport before given P → OfReport before given Q → (script : Script) × (report : Report) × P script report × Q script report
   of_reports a b =
-      let both = of_both before given (InReport P) (InReport Q) a b in
-      (
+      let both = of_both before given (InReport P) (InReport Q) a b in (
         both.0,
         both.2.0,
         both.2.3,
