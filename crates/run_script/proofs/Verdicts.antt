@@ -1,5 +1,5 @@
 -- What is said of a text goes with one status, and what is said of the bytes that were read is said of all.
-use Rattle.std.proofs.Common.{◌≡◌, ℕ, ◌+◌, List, take, Option, Some, None, refl, ap, sym, subst, ◌∙◌, inl, inr, ◌⊎◌, lit<}
+use Rattle.std.proofs.Common.{◌≡◌, ℕ, ◌+◌, List, take, Option, Some, None, refl, ap, subst, ◌∙◌, inl, inr, ◌⊎◌, lit<}
 use Rattle.std.specs.Prelude.{IfSome, ◌≢◌}
 use Rattle.run_check.specs.declared.verdict.Verdict.{Verdict}
 use Rattle.run_check.specs.declared.verdict.Verdict.TheVariants.{NoScript}
