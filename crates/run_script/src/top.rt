@@ -30,6 +30,7 @@ use load_script::{found_memory, loads_come_to_their_summary, loads_fit, make, su
 use log_node::MAX_ROWS;
 use report_beside::print_beside;
 use report_text::{print, print_refusal};
+use run_check::one_verdict;
 use script_beside::{DealtScript, deal, parse_beside};
 use script_in_order::run_in_order;
 use script_meaning::scripts_stop_last;
@@ -310,6 +311,7 @@ pub fn run<S: Source, K: Sink, G: Gate, R: Threads + Wait + Sync>(
         → result ≡ status_of verdict }
 {
     laws_for_readers();
+    one_verdict();
     match read_words(alloc, words) {
         Ok(Some(Task::Script(asked))) => perform(rt, alloc, asked, gate, source, sink),
         Ok(Some(Task::Load { count })) => do_load(rt, alloc, gate, count, sink),

@@ -21,5 +21,5 @@ returns-in-Ok-Some-Check-clause-judged_complete g c = λ asks no_read no_write.
 
 pub returns-in-Ok-Some-Check-clause-judged_exact : goal.returns-in-Ok-Some-Check-clause-judged_exact
 returns-in-Ok-Some-Check-clause-judged_exact g c = λ bytes verdict asks known is tells.
-    says_each c.check_source.result (g.S.Source.left c.args.source.now) (g.K.Sink.holds c.args.sink.now)
+    says_each c.one_verdict.ensures c.check_source.result (g.S.Source.left c.args.source.now) (g.K.Sink.holds c.args.sink.now)
     (g.K.Sink.holds c.check_source.new.sink) bytes verdict (c.check_source.ensures.judged tells) known is
