@@ -1,4 +1,5 @@
 // Whole runs, from the bytes of a script to the bytes of a report.
+use crate::tests::checks::is_judged;
 use fuzzy_io::{MemorySink, MemorySource, OpenGate};
 use run_script::{Status, run};
 use std::alloc::{AllocError, Global};
@@ -8,6 +9,7 @@ use std::test::Fail;
 use std::thread::Threads;
 
 mod causal;
+mod checks;
 mod colours_apart;
 mod decisions;
 mod edges;
@@ -97,7 +99,8 @@ fn script_of(alloc: Global, begin: &str, lines: &str) -> Result<String, AllocErr
     Ok(script)
 }
 
-/// Scripts that begin so and go on with the lines of a row are done by this word, and leave the row's report.
+/// Scripts that begin so and go on with the lines of a row are done by this word, and leave the row's report, which is judged as it
+/// should be.
 fn all_leave<R: Threads + Wait + Sync + Abort>(
     alloc: Global,
     rt: &R,
@@ -115,6 +118,7 @@ fn all_leave<R: Threads + Wait + Sync + Abort>(
             Status::Done,
             report.as_bytes(),
         )?;
+        is_judged(alloc, rt, &script, report)?;
     }
     Ok(())
 }

@@ -259,16 +259,16 @@ module _ {A : Type 0} where
   none_left [] none = refl
   none_left (x ∷ xs) none = absurd (let f : ⊥ = omega (arith, none) in f)
 
-  at_before : (xs ys : List A) (n : ℕ) (d : A) → n < length xs → slice_index_or (xs ++ ys) n d ≡ slice_index_or xs n d
+  pub at_before : (xs ys : List A) (n : ℕ) (d : A) → n < length xs → slice_index_or (xs ++ ys) n d ≡ slice_index_or xs n d
   at_before [] ys n d lt = absurd (let f : ⊥ = omega (arith, lt) in f)
   at_before (x ∷ xs) ys zero d lt = refl
   at_before (x ∷ xs) ys (suc n) d lt = at_before xs ys n d (omega (arith, lt))
 
-  at_last : (xs : List A) (x d : A) → slice_index_or (xs ++ x ∷ []) (length xs) d ≡ x
+  pub at_last : (xs : List A) (x d : A) → slice_index_or (xs ++ x ∷ []) (length xs) d ≡ x
   at_last [] x d = refl
   at_last (y ∷ ys) x d = at_last ys x d
 
-  at_past : (xs : List A) (n : ℕ) (d : A) → length xs ≤ n → slice_index_or xs n d ≡ d
+  pub at_past : (xs : List A) (n : ℕ) (d : A) → length xs ≤ n → slice_index_or xs n d ≡ d
   at_past [] n d le = refl
   at_past (x ∷ xs) zero d le = absurd (let f : ⊥ = omega (arith, le) in f)
   at_past (x ∷ xs) (suc n) d le = at_past xs n d (omega (arith, le))

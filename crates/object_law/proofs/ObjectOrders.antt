@@ -38,7 +38,7 @@ module _ (ordered : RegionOrderIsLawful) (walked : Walked) (tracks : List Tracke
       (All-contains (IsLawfulColumn walked.script) walked.report.columns c may.second.each (contains_in walked.report.columns c j)).legal)
       region colour low (All-contains (λ (c : ℕ). c < walked.script.shape.colours) colours colour within (contains_in colours colour i))
 
-  rising : (l : List Key) → Contains lines l → AreRising l
+  pub rising : (l : List Key) → Contains lines l → AreRising l
   rising l c =
       let m = in_map (λ colour. line (journal_walked walked region colour)) colours l (in_contains lines l c) in
       subst AreRising m.2 (line_rising region walked.script.shape.regions (journal_walked walked region m.0) (lawful m.0 m.1))

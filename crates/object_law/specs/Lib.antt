@@ -2,7 +2,9 @@ pub mod AccountTables
 pub mod AmongMaps
 pub mod AnswerPlays
 pub mod CausalPlays
+pub mod Decided
 pub mod Drafts
+pub mod Found
 pub mod Fourteenth
 pub mod KeysRead
 pub mod NodeTables
@@ -16,3 +18,4 @@ pub mod TenthPlays
 pub mod Thirteenth
 pub mod ToldNodes
 pub mod TreePlays
+pub mod Unnamed

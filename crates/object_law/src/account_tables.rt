@@ -40,7 +40,7 @@ fn list_showing(
 
 /// The nodes of each client's commands by what reads found, whatever decisions say, each with the text that is shown of it, where
 /// one is.
-pub(crate) fn show(
+pub fn show(
     alloc: Global,
     subject: &Subject<'_>,
     nodes: NodeTable,

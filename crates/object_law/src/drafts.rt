@@ -95,16 +95,16 @@ fn draft_appended(
     Ok(drafted(node, used))
 }
 
-// A client's commands that are gone over: what it keeps, and the places of the reads that commits may use up.
+/// A client's commands that are gone over: what it keeps, and the places of the reads that commits may use up.
 #[derive(Drop)]
-struct Going {
+pub(crate) struct Going {
     keeping: Keeping,
     places: ReadPlaces,
 }
 
 impl Going {
-    // Before the first command.
-    fn new(alloc: Global) -> Result<Going, AllocError>
+    /// Before the first command.
+    pub(crate) fn new(alloc: Global) -> Result<Going, AllocError>
         ensures counts { (replies : List Replied) (found : ℕ → List Found)
             → IfOk result (λ g. CountsFinding replies found nothing_kept g.keeping g.places) }
         ensures none { IfOk result (λ g. (g.keeping.ids ≡ 0) × (g.keeping.rows ≡ 0)) }
@@ -130,8 +130,8 @@ impl Going {
         }
     }
 
-    // Goes on behind the command in this place, and gives the draft of the node that is told of it, if one is.
-    fn next(
+    /// Goes on behind the command in this place, and gives the draft of the node that is told of it, if one is.
+    pub(crate) fn next(
         &mut self,
         alloc: Global,
         subject: &Subject<'_>,

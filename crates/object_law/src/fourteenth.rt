@@ -64,8 +64,8 @@ fn cell(region: u8, colour: u8) -> usize {
     MAX_COLOURS as usize * region as usize + colour as usize
 }
 
-// The colours of the map of a command that is played by its parts.
-fn parts_of<'s>(subject: &'s Subject<'_>, what: &What) -> Option<&'s [u8]>
+/// The colours of the map of a command that is played by its parts.
+pub(crate) fn parts_of<'s>(subject: &'s Subject<'_>, what: &What) -> Option<&'s [u8]>
     ensures { (client : ℕ) → option_copied result ≡ part_colours (kind_asked (caller_of subject.now.script client) what.now) }
 {
     subject.agrees();

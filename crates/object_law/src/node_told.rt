@@ -44,8 +44,8 @@ pub(crate) fn text_used(
     transaction_text(alloc, finds.versions(client, used.read), pairs)
 }
 
-// The node of a draft, where reads found this.
-fn filled(
+/// The node of a draft, where reads found this.
+pub(crate) fn filled(
     alloc: Global,
     subject: &Subject<'_>,
     client: u8,

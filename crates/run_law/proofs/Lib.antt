@@ -1,2 +1,4 @@
+mod HidingLemmas
+mod JudgementLemmas
 mod JudgingLaws
 mod LeastLemmas

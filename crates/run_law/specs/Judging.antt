@@ -1,7 +1,8 @@
 -- What a report is judged to be, and what is asked of it rule by rule.
-use Rattle.std.specs.Prelude.{◌≡◌, ◌↔◌, ℕ, ◌≤◌}
+use Rattle.std.specs.Prelude.{◌≡◌, ◌↔◌, ℕ, ◌≤◌, Option, Some, None, Result, Err}
 use Rattle.script_text.specs.Fitting.{IsFitting}
 use Rattle.script_text.specs.declared.script.Script.{Script}
+use Rattle.report_text.specs.declared.report.ReplyLine.{ReplyLine}
 use Rattle.report_text.specs.declared.report.Report.{Report}
 use Rattle.lawful_run.specs.Lawful.{LawfulRun}
 use Rattle.run_rules.specs.Telling.{IsWellFormed, account_of, no_nodes}
@@ -13,12 +14,21 @@ use Rattle.run_rules.specs.Deciding.{ColoursDiffer, account_deciding, account_sh
 use Rattle.run_rules.specs.Keeping.{HidesNothing, IsLeastBroken, Keeps, RulesTo, rule_count}
 use Rattle.run_law.specs.declared.judged.Judged.{Judged}
 use Rattle.run_law.specs.declared.judged.Judged.TheVariants.{Lawful, Broken}
+use Rattle.run_law.specs.declared.judged.JudgeFault.{JudgeFault}
+use Rattle.run_law.specs.declared.judged.JudgeFault.TheVariants.{Hidden}
 use Rattle.object_law.specs.Showing.{ShownAreDecided}
 
 -- it keeps all rules, or this one is the least that it breaks
 abbrev pub IsJudged : Script → Report → Judged → Type 0
 IsJudged script report Lawful = Keeps script report rule_count
 IsJudged script report (Broken rule) = IsLeastBroken script report rule
+
+-- That a reply hides what was done is told exactly where one does, and of the first such reply its line.
+abbrev pub TellsHidden : {T : Type 0} → Option ReplyLine → Result T JudgeFault → Type 0
+TellsHidden (Some reply) (Err (Hidden line)) = line ≡ reply.line
+TellsHidden (Some reply) _ = ⊥
+TellsHidden None (Err (Hidden line)) = ⊥
+TellsHidden None _ = Unit {0}
 
 -- A report that hides nothing is judged to be lawful where it is that of a lawful run.
 abbrev pub JudgedIsLawful : Type 0

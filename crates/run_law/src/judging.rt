@@ -4,10 +4,11 @@ ghost use Rattle.script_text.specs.Fitting.{IsFitting};
 ghost use Rattle.run_rules.specs.Keeping.{RulesTo};
 ghost use Rattle.run_rules.specs.Nodes.{nodes_told};
 ghost use Rattle.run_rules.specs.Telling.{account_of};
-ghost use Rattle.run_law.specs.LeastOf.{IsLeastOf};
+ghost use Rattle.run_law.specs.LeastOf.{BeginsSo, IsLeastOf};
 ghost use Rattle.walk_law.specs.Walking.{MayWalk};
 
 use column_track::Track;
+use log_node::ListOf;
 use report_text::Report;
 use run_rules::{first_rules_decided, later_rules_decided, ninth_rule_decided};
 use script_text::Script;
@@ -41,8 +42,11 @@ fn least_from_sixth(alloc: Global, subject: &Subject<'_>) -> Result<Option<u8>, 
     Ok(None)
 }
 
-// The first that is broken of a report that keeps the first three.
-fn least_from_fourth(alloc: Global, subject: &Subject<'_>) -> Result<Option<u8>, AllocError>
+/// The first of nine that is broken, of a report that keeps the first three.
+pub(crate) fn least_from_fourth(
+    alloc: Global,
+    subject: &Subject<'_>,
+) -> Result<Option<u8>, AllocError>
     ensures { IfOk result (IsLeastOf 9 subject.now.script subject.now.report) }
 {
     first_rules_decided();
@@ -57,7 +61,34 @@ fn least_from_fourth(alloc: Global, subject: &Subject<'_>) -> Result<Option<u8>,
     least_from_sixth(alloc, subject)
 }
 
-// The same, by the tracks of the report's columns.
+/// How a report fares by the first three rules.
+#[derive(Drop)]
+pub(crate) enum Begun {
+    /// It breaks this one first.
+    Broken { rule: u8 },
+    /// It keeps them, and these are the tracks of its columns.
+    Kept { tracks: ListOf<Track> },
+}
+
+/// Which of the first three rules a report of a script that fits is the first to break, or the tracks of its columns.
+pub(crate) fn begin(alloc: Global, script: &Script, report: &Report) -> Result<Begun, AllocError>
+    requires { IsFitting script.now }
+    ensures { IfOk result (BeginsSo script.now report.now) }
+{
+    first_rules_decided();
+    if !keeps_first(alloc, script, report)? {
+        return Ok(Begun::Broken { rule: 1 });
+    }
+    let Some(tracks) = tracks_of(alloc, script, report)? else {
+        return Ok(Begun::Broken { rule: 2 });
+    };
+    if !keeps_third(alloc, script, report, tracks.as_slice())? {
+        return Ok(Begun::Broken { rule: 3 });
+    }
+    Ok(Begun::Kept { tracks })
+}
+
+// The first of nine that is broken, by the tracks of the report's columns.
 fn least_walked(
     alloc: Global,
     script: &Script,
@@ -80,15 +111,8 @@ pub fn least_of_nine(
     requires { IsFitting script.now }
     ensures { IfOk result (IsLeastOf 9 script.now report.now) }
 {
-    first_rules_decided();
-    if !keeps_first(alloc, script, report)? {
-        return Ok(Some(1));
+    match begin(alloc, script, report)? {
+        Begun::Broken { rule } => Ok(Some(rule)),
+        Begun::Kept { tracks } => least_walked(alloc, script, report, tracks.as_slice()),
     }
-    let Some(tracks) = tracks_of(alloc, script, report)? else {
-        return Ok(Some(2));
-    };
-    if !keeps_third(alloc, script, report, tracks.as_slice())? {
-        return Ok(Some(3));
-    }
-    least_walked(alloc, script, report, tracks.as_slice())
 }

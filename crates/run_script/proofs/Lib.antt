@@ -30,4 +30,7 @@ mod RunningBeside
 mod StoreSizes
 mod RunsOf
 mod WordLemmas
+mod Fronts
+mod WholeVerdicts
+mod Verdicts
 mod Loads

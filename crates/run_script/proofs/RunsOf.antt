@@ -15,7 +15,7 @@ use Rattle.run_script.specs.declared.asked.Asked.{Asked}
 use Rattle.run_script.specs.declared.asked.Asked.TheVariants.{Step, Run}
 use Rattle.run_script.specs.declared.asked.Task.{Task}
 use Rattle.run_script.specs.declared.asked.Task.TheVariants as tasks
-use Rattle.run_script.specs.Refusals.{IsTheScript}
+use Rattle.run_check.specs.Refusals.{IsTheScript}
 use Rattle.run_script.specs.Running.{CanRun}
 use Rattle.run_script.specs.TopCall.{IsRunOf}
 

@@ -13,8 +13,9 @@ use Rattle.script_text.specs.Grammar.{IsScript}
 use Rattle.report_text.specs.ReportText.{report_bytes, refusal_bytes}
 use Rattle.run_script.specs.declared.asked.Asked.{Asked}
 use Rattle.run_script.specs.declared.status.Status.{Status}
-use Rattle.run_script.specs.declared.status.Status.TheVariants.{Done, BadWords, Refused, ReadFault, WriteFault, NoMemory}
-use Rattle.run_script.specs.Refusals.{IsTheScript, IsRefusedFor, IsAScript}
+use Rattle.run_script.specs.declared.status.Status.TheVariants.{Done, BadWords, Refused, ReadFault, WriteFault, NoMemory, Unlawful}
+use Rattle.run_check.specs.Refusals.{IsTheScript, IsRefusedFor}
+use Rattle.run_script.specs.Refusals.{IsAScript}
 use Rattle.run_script.specs.TopCall.{IsRunOf, IsRunText, IsRefusalText, WritesWhole, WritesFront, Shows, ShowsFront}
 
 -- the beginning of a text is the beginning of it and of the rest
@@ -135,13 +136,14 @@ script_not_refused (Some all) old new (bytes, script, e, is) (shown, text, same,
 
 -- with no fault and a script, it is done or memory was refused
 pub completes : (status : Status) (left old new : Option (List ℕ)) (read_fault write_fault : Type 0)
-    → (status ≢ BadWords) → (status ≡ Refused → WritesWhole IsRefusalText left old new)
+    → (status ≢ BadWords) × (status ≢ Unlawful) → (status ≡ Refused → WritesWhole IsRefusalText left old new)
     → (status ≡ ReadFault → read_fault) → (status ≡ WriteFault → write_fault)
     → (read_fault → ⊥) → (write_fault → ⊥) → IsAScript left → (status ≡ Done) ⊎ (status ≡ NoMemory)
-completes Done left old new r w no_words refused reading writing no_r no_w script = inl refl
-completes BadWords left old new r w no_words refused reading writing no_r no_w script = absurd (no_words refl)
-completes Refused left old new r w no_words refused reading writing no_r no_w script =
+completes Done left old new r w others refused reading writing no_r no_w script = inl refl
+completes BadWords left old new r w others refused reading writing no_r no_w script = absurd (others.0 refl)
+completes Refused left old new r w others refused reading writing no_r no_w script =
     absurd (script_not_refused left old new script (refused refl))
-completes ReadFault left old new r w no_words refused reading writing no_r no_w script = absurd (no_r (reading refl))
-completes WriteFault left old new r w no_words refused reading writing no_r no_w script = absurd (no_w (writing refl))
-completes NoMemory left old new r w no_words refused reading writing no_r no_w script = inr refl
+completes ReadFault left old new r w others refused reading writing no_r no_w script = absurd (no_r (reading refl))
+completes WriteFault left old new r w others refused reading writing no_r no_w script = absurd (no_w (writing refl))
+completes NoMemory left old new r w others refused reading writing no_r no_w script = inr refl
+completes Unlawful left old new r w others refused reading writing no_r no_w script = absurd (others.1 refl)

@@ -17,7 +17,7 @@ use Rattle.script_text.specs.Pieces.{is_between, is_digit, number_value}
 use Rattle.load_script.specs.declared.script.TheConstants.{MAX_LOAD}
 use Rattle.run_script.specs.declared.asked.Task.{Task}
 use Rattle.run_script.specs.declared.asked.Task.TheVariants as tasks
-use Rattle.run_script.specs.Words.{asked_by, rounds_asked, task_by, task_of}
+use Rattle.run_script.specs.Words.{rounds_asked, task_by, task_of}
 
 -- digits read from the left, after a number
 abbrev read_on : ℕ → List ℕ → ℕ
@@ -94,8 +94,9 @@ not_as word plain odd even = go (bytes_eq word plain) refl where
       let bad : true ≡ false = sym even ∙ (sym (ap is_plain_word same) ∙ odd) in absurd (let f : ⊥ = cc (bad) in f)
   go false e = e
 
-odd_asks_nothing : (word : List ℕ) → is_plain_word word ≡ false → asked_by word ≡ None
-odd_asks_nothing word odd = rw (not_as word (codes "step") odd refl, not_as word (codes "run") odd refl) refl
+odd_asks_nothing : (word : List ℕ) → is_plain_word word ≡ false → task_by (word, None) ≡ None
+odd_asks_nothing word odd =
+    rw (not_as word (codes "check") odd refl, not_as word (codes "step") odd refl, not_as word (codes "run") odd refl) refl
 
 -- a number of rounds is plain
 odd_rounds : (word : List ℕ) → is_plain_word word ≡ false → rounds_asked word ≡ None
@@ -130,8 +131,7 @@ task_parted [] = refl
 task_parted (word ∷ []) = go (is_plain_word word) refl where
   go : (t : Bool) → is_plain_word word ≡ t → option_and_then task_by (parted (word ∷ [])) ≡ task_of (word ∷ [])
   go true p = ap (λ t. option_and_then task_by (cond t (Some (word, None)) None)) p
-  go false p = ap (λ t. option_and_then task_by (cond t (Some (word, None)) None)) p
-      ∙ sym (ap (option_map tasks.Script) (odd_asks_nothing word p))
+  go false p = ap (λ t. option_and_then task_by (cond t (Some (word, None)) None)) p ∙ sym (odd_asks_nothing word p)
 task_parted (word ∷ number ∷ []) = go (is_plain_word word) (is_plain_word number) refl refl where
   parts : (s t : Bool) → is_plain_word word ≡ s → is_plain_word number ≡ t → option_and_then task_by (parted (word ∷ number ∷ []))
       ≡ option_and_then task_by (cond (s && t) (Some (word, Some number)) None)

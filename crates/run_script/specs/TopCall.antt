@@ -12,9 +12,14 @@ use Rattle.script_meaning.specs.Meaning.{IsStepReport, FindsMemory, step_report}
 use Rattle.load_script.specs.Generated.{load_script}
 use Rattle.load_script.specs.Plain.{IsUnwanting}
 use Rattle.load_script.specs.Summing.{load_summary, shown_summary, summary_text}
+use Rattle.run_check.specs.declared.verdict.Verdict.{Verdict}
+use Rattle.run_check.specs.declared.verdict.Verdict.TheVariants as verdicts
+use Rattle.run_check.specs.Refusals.{IsTheScript, IsRefusedFor}
+use Rattle.run_check.specs.Verdicts.{IsVerdict, verdict_text}
 use Rattle.run_script.specs.declared.asked.Asked.{Asked}
 use Rattle.run_script.specs.declared.asked.Asked.TheVariants.{Step}
-use Rattle.run_script.specs.Refusals.{IsTheScript, IsRefusedFor}
+use Rattle.run_script.specs.declared.status.Status.{Status}
+use Rattle.run_script.specs.declared.status.Status.TheVariants.{Done, Refused, Unlawful}
 
 -- The report is that of a script done in the order of the file; where no reply and no mark tells of want of memory, it is
 -- the one report that this means.
@@ -78,3 +83,28 @@ WritesLoad count old new = IsLoaded count × Appends old new (summary_text (load
 -- a load was done, and the beginning of its summary was written
 abbrev pub WritesLoadFront : ℕ → Option (List ℕ) → Option (List ℕ) → Type 0
 WritesLoadFront count old new = IsLoaded count × AppendsFront old new (summary_text (load_summary count))
+
+-- JUDGING A REPORT
+
+-- the status that goes with a verdict
+abbrev pub status_of : Verdict → Status
+status_of verdicts.Lawful = Done
+status_of (verdicts.Broken rule) = Unlawful
+status_of _ = Refused
+
+-- the statuses that go with verdicts
+abbrev pub TellsVerdict : Status → Type 0
+TellsVerdict status = (status ≡ Done) ⊎ (status ≡ Refused) ⊎ (status ≡ Unlawful)
+
+-- the status is that of a verdict on these bytes, and the whole line that says it was written
+abbrev pub Says : Status → List ℕ → Option (List ℕ) → Option (List ℕ) → Type 0
+Says status bytes old new =
+    (verdict : Verdict) × IsVerdict bytes verdict × (status ≡ status_of verdict) × Appends old new (verdict_text verdict)
+
+-- the beginning of such a line was written
+abbrev pub SaysFront : List ℕ → Option (List ℕ) → Option (List ℕ) → Type 0
+SaysFront bytes old new = (verdict : Verdict) × IsVerdict bytes verdict × AppendsFront old new (verdict_text verdict)
+
+-- it is so of some bytes; where the source tells what was left, these are the bytes
+abbrev pub OfAll : Option (List ℕ) → (List ℕ → Type 0) → Type 0
+OfAll left P = (bytes : List ℕ) × IfSome left (λ all. all ≡ bytes) × P bytes

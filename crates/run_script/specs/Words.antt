@@ -22,9 +22,10 @@ rounds_asked (b ∷ bs) =
     let n = number_value (b ∷ bs) in
     if is_between 49 57 b && list_all is_digit bs && nat_le n MAX_LOAD then Some n else None
 
--- a word `step` or `run` alone, or the word `load` and a number of rounds after it
+-- a word `check`, `step` or `run` alone, or the word `load` and a number of rounds after it
 abbrev pub task_by : List ℕ × Option (List ℕ) → Option Task
-task_by (word, None) = option_map tasks.Script (asked_by word)
+task_by (word, None) =
+    if bytes_eq word (codes "check") then Some tasks.Check else option_map tasks.Script (asked_by word)
 task_by (word, Some number) =
     if bytes_eq word (codes "load") then option_map tasks.Load (rounds_asked number) else None
 

@@ -25,6 +25,8 @@ pub enum Task {
     Script(Asked),
     /// To run a load of this many rounds.
     Load { count: u32 },
+    /// To judge the report that stands behind a script in the source.
+    Check,
 }
 
 // How a script is done at the word, if it is one for that.
@@ -68,6 +70,7 @@ fn task_at(words: Words<'_>) -> Option<Task>
     ensures { result ≡ task_by (texts_of words.entry) }
 {
     match words.number {
+        None if words.word == "check" => Some(Task::Check),
         None => how_asked(words.word).map(|asked| Task::Script(asked)),
         Some(number) if words.word == "load" => rounds(number).map(|count| Task::Load { count }),
         Some(_) => None,

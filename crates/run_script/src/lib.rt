@@ -3,6 +3,8 @@
 #![tactic(auto)]
 
 mod asked;
+mod checking;
+mod front;
 mod reading;
 mod serving;
 mod status;

@@ -18,10 +18,12 @@ pub enum Status {
     WriteFault,
     /// Memory was refused. Nothing was written.
     NoMemory,
+    /// The report is not lawful, and the line with the first rule that it breaks was written.
+    Unlawful,
 }
 
 impl Status {
-    /// The exit code, 0 to 5.
+    /// The exit code, 0 to 6.
     pub fn code(self) -> u8
         ensures { result ≡ code_of self }
     {
@@ -32,15 +34,16 @@ impl Status {
             Status::ReadFault => 3,
             Status::WriteFault => 4,
             Status::NoMemory => 5,
+            Status::Unlawful => 6,
         }
     }
-    /// What is said on standard error; a run that is done or refused has said it to the sink.
+    /// What is said on standard error; what was done, refused or found unlawful was said to the sink.
     pub fn complaint(self) -> Option<&'static str>
         ensures { option_map (λ s. s.now) result ≡ complaint_of self }
     {
         match self {
-            Status::Done | Status::Refused => None,
-            Status::BadWords => Some("usage: fuzzy_run step, run or load N"),
+            Status::Done | Status::Refused | Status::Unlawful => None,
+            Status::BadWords => Some("usage: fuzzy_run step, run, check or load N"),
             Status::ReadFault => Some("fuzzy_run: the input failed"),
             Status::WriteFault => Some("fuzzy_run: the output failed"),
             Status::NoMemory => Some("fuzzy_run: out of memory"),

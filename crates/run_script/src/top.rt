@@ -1,5 +1,5 @@
 // The top call: from the words of a command line and the bytes of a script to the bytes of a report.
-ghost use Rattle.std.specs.Prelude.{◌≡◌, ◌≢◌, ◌<◌, ◌≤◌, ◌⊎◌, ℕ, map, None, Some, string_bytes};
+ghost use Rattle.std.specs.Prelude.{◌≡◌, ◌≢◌, ◌<◌, ◌≤◌, ◌⊎◌, ℕ, List, map, None, Some, string_bytes};
 ghost use Rattle.std.specs.Io.KnownBytes.{Appends, IsAtEnd};
 ghost use Rattle.fuzzy_io.specs.Causes.{Rose, ConsumesUpTo, AppendsFront};
 ghost use Rattle.std.specs.Prelude.{IfOk};
@@ -15,9 +15,13 @@ ghost use Rattle.run_script.specs.Words.{task_of};
 ghost use Rattle.run_script.specs.Refusals.{IsAScript};
 ghost use Rattle.run_script.specs.Reading.{LawsForReaders};
 ghost use Rattle.run_script.specs.Running.{CanRun};
+ghost use Rattle.run_check.specs.declared.verdict.Verdict.{Verdict};
+ghost use Rattle.run_check.specs.Verdicts.{IsVerdict};
 ghost use Rattle.run_script.specs.TopCall.{IsRunText, IsRefusalText, WritesWhole, WritesFront, Shows, ShowsFront, IsLoaded, WritesLoad, WritesLoadFront};
+ghost use Rattle.run_script.specs.TopCall.{status_of, TellsVerdict, OfAll, Says, SaysFront};
 
 use crate::asked::{Asked, Task, read_words};
+use crate::checking::{MAX_JUDGED, check_source};
 use crate::reading::laws_for_readers;
 use crate::serving::run_beside;
 use crate::status::Status;
@@ -26,6 +30,7 @@ use load_script::{found_memory, loads_come_to_their_summary, loads_fit, make, su
 use log_node::MAX_ROWS;
 use report_beside::print_beside;
 use report_text::{print, print_refusal};
+use run_check::one_verdict;
 use script_beside::{DealtScript, deal, parse_beside};
 use script_in_order::run_in_order;
 use script_meaning::scripts_stop_last;
@@ -63,7 +68,8 @@ fn do_script<K: Sink>(alloc: Global, script: Script, sink: &mut K) -> Status
     ensures write_fault { result ≡ Status.WriteFault → Rose (K.faults sink.old) (K.faults sink.new) }
     ensures front { result ≡ Status.WriteFault → ShowsFront Asked.Step script (K.holds sink.old) (K.holds sink.new) }
     ensures no_memory { result ≡ Status.NoMemory → sink.new ≡ sink.old }
-    ensures no_other { (result ≢ Status.BadWords) × (result ≢ Status.Refused) × (result ≢ Status.ReadFault) }
+    ensures no_other { (result ≢ Status.BadWords) × (result ≢ Status.Refused) × (result ≢ Status.ReadFault)
+        × (result ≢ Status.Unlawful) }
 {
     let ran = run_in_order(alloc, &script);
     // Not freed here: the process ends soon, and its end frees all at once.
@@ -105,7 +111,8 @@ fn do_dealt<K: Sink, G: Gate, R: Threads + Wait + Sync>(
     ensures front { result ≡ Status.WriteFault → (script : Script) → CanRun script dealt
         → ShowsFront Asked.Run script (K.holds sink.old) (K.holds sink.new) }
     ensures no_memory { result ≡ Status.NoMemory → sink.new ≡ sink.old }
-    ensures no_other { (result ≢ Status.BadWords) × (result ≢ Status.Refused) × (result ≢ Status.ReadFault) }
+    ensures no_other { (result ≢ Status.BadWords) × (result ≢ Status.Refused) × (result ≢ Status.ReadFault)
+        × (result ≢ Status.Unlawful) }
 {
     let threads = processors(rt);
     let report = match run_beside(rt, alloc, gate, dealt, threads) {
@@ -138,7 +145,7 @@ fn do_bytes<K: Sink, G: Gate, R: Threads + Wait + Sync>(
     ensures front { result ≡ Status.WriteFault
         → WritesFront asked (Some bytes.now) (K.holds sink.old) (K.holds sink.new) }
     ensures no_memory { result ≡ Status.NoMemory → sink.new ≡ sink.old }
-    ensures no_other { (result ≢ Status.BadWords) × (result ≢ Status.ReadFault) }
+    ensures no_other { (result ≢ Status.BadWords) × (result ≢ Status.ReadFault) × (result ≢ Status.Unlawful) }
 {
     rows_are_within_limits();
     scripts_stop_last();
@@ -177,7 +184,7 @@ fn perform<S: Source, K: Sink, G: Gate, R: Threads + Wait + Sync>(
     ensures read_fault_unwritten { result ≡ Status.ReadFault → sink.new ≡ sink.old }
     ensures no_memory { result ≡ Status.NoMemory → sink.new ≡ sink.old }
     ensures taken { ConsumesUpTo MAX_BYTES (S.left source.old) (S.left source.new) }
-    ensures no_other { result ≢ Status.BadWords }
+    ensures no_other { (result ≢ Status.BadWords) × (result ≢ Status.Unlawful) }
 {
     match read_all(alloc, source, MAX_BYTES) {
         Ok(bytes) => do_bytes(rt, alloc, asked, gate, bytes.as_slice(), sink),
@@ -237,9 +244,10 @@ fn do_load<K: Sink, G: Gate, R: Threads + Wait + Sync>(
     Status::Done
 }
 
-/// Does what the words ask: the commands of the script that the source is, with the report to the sink, or a load, with
-/// its summary to the sink. The words are those of the command line without the program's name; the gate stands between
-/// the steps of appends on threads. It may wait: on threads a client waits for the turns of columns.
+/// Does what the words ask: the commands of the script that the source is, with the report to the sink; a load, with its
+/// summary to the sink; or a check of the script and the report that the source is, with the verdict to the sink. The
+/// words are those of the command line without the program's name; the gate stands between the steps of appends on
+/// threads. It may wait: on threads a client waits for the turns of columns.
 pub fn run<S: Source, K: Sink, G: Gate, R: Threads + Wait + Sync>(
     alloc: Global,
     rt: &R,
@@ -261,7 +269,11 @@ pub fn run<S: Source, K: Sink, G: Gate, R: Threads + Wait + Sync>(
         → WritesLoad count (K.holds sink.old) (K.holds sink.new) }
     ensures load_alone { (count : ℕ) → task_of (map string_bytes words.now) ≡ Some (Task.Load count)
         → (source.new ≡ source.old) × (result ≢ Status.Refused) × (result ≢ Status.ReadFault) }
-    // What holds of each such report, for a reader.
+    // What was said of a script and its report: the line of the verdict, which goes with the status.
+    ensures judged { task_of (map string_bytes words.now) ≡ Some Task.Check → TellsVerdict result
+        → OfAll (S.left source.old) (λ bytes. Says result bytes (K.holds sink.old) (K.holds sink.new)) }
+    ensures unlawful { result ≡ Status.Unlawful → task_of (map string_bytes words.now) ≡ Some Task.Check }
+    // What holds of the report of each run, for a reader.
     ensures reads { LawsForReaders }
     // When each other answer comes. Memory alone may be refused at any time.
     ensures bad_words { result ≡ Status.BadWords → task_of (map string_bytes words.now) ≡ None }
@@ -271,25 +283,39 @@ pub fn run<S: Source, K: Sink, G: Gate, R: Threads + Wait + Sync>(
     ensures write_fault { result ≡ Status.WriteFault → Rose (K.faults sink.old) (K.faults sink.new) }
     // What it leaves then.
     ensures unread { task_of (map string_bytes words.now) ≡ None → source.new ≡ source.old }
-    ensures unwritten { result ≢ Status.Done → result ≢ Status.Refused → result ≢ Status.WriteFault
-        → sink.new ≡ sink.old }
+    ensures unwritten { result ≢ Status.Done → result ≢ Status.Refused → result ≢ Status.Unlawful
+        → result ≢ Status.WriteFault → sink.new ≡ sink.old }
     ensures front { (asked : Asked) → task_of (map string_bytes words.now) ≡ Some (Task.Script asked)
         → result ≡ Status.WriteFault
         → WritesFront asked (S.left source.old) (K.holds sink.old) (K.holds sink.new) }
     ensures load_front { (count : ℕ) → task_of (map string_bytes words.now) ≡ Some (Task.Load count)
         → result ≡ Status.WriteFault → WritesLoadFront count (K.holds sink.old) (K.holds sink.new) }
-    ensures taken { ConsumesUpTo MAX_BYTES (S.left source.old) (S.left source.new) }
-    // Every script is done, and every load: nothing but want of memory stands in the way.
+    ensures judged_front { task_of (map string_bytes words.now) ≡ Some Task.Check → result ≡ Status.WriteFault
+        → OfAll (S.left source.old) (λ bytes. SaysFront bytes (K.holds sink.old) (K.holds sink.new)) }
+    ensures taken { task_of (map string_bytes words.now) ≢ Some Task.Check
+        → ConsumesUpTo MAX_BYTES (S.left source.old) (S.left source.new) }
+    ensures judged_taken { task_of (map string_bytes words.now) ≡ Some Task.Check
+        → ConsumesUpTo MAX_JUDGED (S.left source.old) (S.left source.new) }
+    // Every script is done, every load, and every check: nothing but want of memory stands in the way.
     ensures complete { (asked : Asked) → task_of (map string_bytes words.now) ≡ Some (Task.Script asked)
         → (Rose (S.faults source.old) (S.faults source.new) → ⊥) → (Rose (K.faults sink.old) (K.faults sink.new) → ⊥)
         → IsAScript (S.left source.old) → (result ≡ Status.Done) ⊎ (result ≡ Status.NoMemory) }
     ensures load_complete { (count : ℕ) → task_of (map string_bytes words.now) ≡ Some (Task.Load count)
         → (Rose (K.faults sink.old) (K.faults sink.new) → ⊥) → (result ≡ Status.Done) ⊎ (result ≡ Status.NoMemory) }
+    ensures judged_complete { task_of (map string_bytes words.now) ≡ Some Task.Check
+        → (Rose (S.faults source.old) (S.faults source.new) → ⊥) → (Rose (K.faults sink.old) (K.faults sink.new) → ⊥)
+        → TellsVerdict result ⊎ (result ≡ Status.NoMemory) }
+    // The status is that of each verdict that the source's bytes have.
+    ensures judged_exact { (bytes : List ℕ) → (verdict : Verdict) → task_of (map string_bytes words.now) ≡ Some Task.Check
+        → S.left source.old ≡ Some bytes → IsVerdict bytes verdict → TellsVerdict result
+        → result ≡ status_of verdict }
 {
     laws_for_readers();
+    one_verdict();
     match read_words(alloc, words) {
         Ok(Some(Task::Script(asked))) => perform(rt, alloc, asked, gate, source, sink),
         Ok(Some(Task::Load { count })) => do_load(rt, alloc, gate, count, sink),
+        Ok(Some(Task::Check)) => check_source(alloc, source, sink),
         Ok(None) => Status::BadWords,
         Err(AllocError) => Status::NoMemory,
     }

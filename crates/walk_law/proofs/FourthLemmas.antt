@@ -413,6 +413,28 @@ module _ (walked : Walked) (count : ℕ) (own first : Sighted) where
         subst (λ (k : ℕ). slice_index new.seen k ≡ seen_past (slice_index first.seen k) (steps_untold walked own.client count k))
         (let e : n ≡ c = omega (arith, lt, ge) in e) at_here
 
+  -- over colours that have none
+  pub steps_on : (n m : ℕ) (behind : Sighted) → n ≤ m
+      → ((c : ℕ) → n ≤ c → c < m → steps_untold walked own.client count c ≡ []) → StepsSo walked count own first behind n
+      → StepsSo walked count own first behind m
+  steps_on n m behind le none so = record {
+    unseen = λ c lt. by_unseen c lt (cases_lt c n);
+    client = so.client;
+    region = so.region;
+    known = so.known;
+    done = λ c lt. by_done c lt (cases_lt c n);
+    left = λ c ge. so.left c (omega (arith, le, ge));
+  } where
+    by_unseen : (c : ℕ) → c < m → (c < n) ⊎ (n ≤ c) → All (λ p. slice_index own.seen c ≤ p) (steps_untold walked own.client count c)
+    by_unseen c lt (inl less) = so.unseen c less
+    by_unseen c lt (inr ge) =
+        subst (All (λ p. slice_index own.seen c ≤ p)) (sym (none c ge lt)) (All-nil (λ p. slice_index own.seen c ≤ p))
+
+    by_done : (c : ℕ) → c < m → (c < n) ⊎ (n ≤ c)
+        → slice_index behind.seen c ≡ seen_past (slice_index first.seen c) (steps_untold walked own.client count c)
+    by_done c lt (inl less) = so.done c less
+    by_done c lt (inr ge) = so.left c ge ∙ ap (seen_past (slice_index first.seen c)) (sym (none c ge lt))
+
   module _ (kept after : Kept) (untold : Untold) (s : Sees (caller_of walked.script own.client) kept own)
       (ids : count ≡ kept.ids) (left_out : LeavesOutSteps walked own.client count untold) where
     abbrev caller : Caller

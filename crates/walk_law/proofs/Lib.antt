@@ -16,7 +16,6 @@ mod EleventhLaws
 mod EndedRows
 mod EnteringLemmas
 mod FifthLaws
-mod FinalLemmas
 mod FirstLemmas
 mod FoundSteps
 mod FourthLemmas
@@ -54,10 +53,12 @@ mod RisingLemmas
 mod RowLemmas
 mod RowOrder
 mod RowPlaceLemmas
+mod RowSteps
 mod SameKeeping
 mod SayingLemmas
 mod ScanLemmas
 mod SeenAnswers
+mod SeenSteps
 mod SeventhLaws
 mod SeventhLemmas
 mod ShapeColours

@@ -139,6 +139,17 @@ module _ (replies : List ReplyLine) (kept : Kept) (own : ℕ) (counted : Counted
     reads = s.reads;
   }
 
+  -- behind those in more colours, of which these have none
+  pub made_on : (places : ℕ → List ℕ) (n m : ℕ) → n ≤ m → ((c : ℕ) → n ≤ c → c < m → places c ≡ [])
+      → IsCounted replies (with_made kept own (first_places n places)) counted
+      → IsCounted replies (with_made kept own (first_places m places)) counted
+  made_on places n m le none s =
+      made_same (first_places n places) (first_places m places) (λ c low. turn c (cases_lt c n) (cases_lt c m)) s where
+        turn : (c : ℕ) → (c < n) ⊎ (n ≤ c) → (c < m) ⊎ (m ≤ c) → first_places n places c ≡ first_places m places c
+        turn c (inl lt) more = first_in places n c lt ∙ sym (first_in places m c (omega (arith, lt, le)))
+        turn c (inr ge) (inl lt) = first_out places n c ge ∙ (sym (none c ge lt) ∙ sym (first_in places m c lt))
+        turn c (inr ge) (inr out) = first_out places n c ge ∙ sym (first_out places m c out)
+
   -- behind those in all colours, where there are none in others
   pub made_all : (places : ℕ → List ℕ) (n : ℕ) → ((c : ℕ) → n ≤ c → c < MAX_COLOURS → places c ≡ [])
       → IsCounted replies (with_made kept own (first_places n places)) counted

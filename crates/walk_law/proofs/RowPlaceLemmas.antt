@@ -1,7 +1,7 @@
 -- The places of rows: what a map has of them, and one row more.
 use Rattle.std.proofs.Common.{◌≡◌, ◌⊎◌, ℕ, ◌+◌, ◌<◌, Bool, true, false, ◌&&◌, ◌==◌, cond, List, [], ◌∷◌, length, drop, Option, Some, None, inl, inr, refl, ap, sym, ◌∙◌, arith, get_or}
 use Rattle.std.specs.Prelude.{slice_get}
-use Rattle.std.specs.Ordering.{is_eq}
+use Rattle.std.specs.Ordering.{is_eq, nat_cmp}
 use Rattle.std.specs.List.{find}
 use Rattle.std.specs.Map.{lookup}
 use Rattle.std.specs.Option.{option_map}
@@ -9,13 +9,20 @@ use Rattle.std.proofs.lemmas.Bool.{cases_Bool}
 use Rattle.std.proofs.lemmas.List.{drop_more, drop_all}
 use Rattle.std.proofs.lemmas.Option.{slice_get_read}
 use Rattle.log_node.specs.declared.ids.Id.{Id}
+use Rattle.log_node.specs.contracts.ids.IdOrd.TheImpl.{cmp-value as id-cmp}
 use Rattle.report_text.specs.declared.report.RowReport.{RowReport}
-use Rattle.walk_law.specs.contracts.finals.RowIdOrd.TheImpl.{cmp-value}
-use Rattle.walk_law.specs.declared.finals.RowId.{RowId}
+use Rattle.walk_law.specs.contracts.row_places.RowIdOrd.TheImpl.{cmp-value}
+use Rattle.walk_law.specs.declared.row_places.RowId.{RowId}
 use Rattle.walk_law.specs.declared.row_places.RowPlaces.{RowPlaces}
 use Rattle.walk_law.specs.PlaceTables.{row_with, same_row}
 use Rattle.walk_law.specs.RowPlaces.{place_in, row_at}
-use Rattle.walk_law.proofs.FinalLemmas.{row_same}
+use Rattle.walk_law.proofs.TableLemmas.{both_same, equal_is_same, same_number}
+
+-- rows stand as equal where they are one
+row_same : (a b : RowId) → is_eq (cmp-value.it a b) ≡ same_row b.region b.id a.region a.id
+row_same a b =
+    both_same (nat_cmp a.region b.region) (id-cmp.it a.id b.id)
+    ∙ rw (same_number a.region b.region, equal_is_same a.id b.id) refl
 
 pub place_found : (k : RowId) (es : List (RowId × ℕ))
     → lookup (λ e. is_eq (cmp-value.it k e)) es

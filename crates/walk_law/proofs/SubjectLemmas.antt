@@ -19,8 +19,8 @@ use Rattle.lawful_run.specs.Callers.{commands_of}
 use Rattle.column_track.specs.Tracks.{Tracked}
 use Rattle.run_rules.specs.Telling.{journal_among}
 use Rattle.walk_law.specs.declared.column_places.ColumnPlaces.{ColumnPlaces}
-use Rattle.walk_law.specs.declared.finals.Finals.{Finals}
 use Rattle.walk_law.specs.declared.printed.Printed.{Printed}
+use Rattle.walk_law.specs.declared.row_places.RowPlaces.{RowPlaces}
 use Rattle.walk_law.specs.Behind.{HasColumn}
 use Rattle.walk_law.specs.Columns.{AreTracked}
 use Rattle.walk_law.specs.PlaceTables.{AreOfClients, is_asked_by, numbers_where, places_at}
@@ -104,11 +104,11 @@ few_regions script fits = by (script.version == 2) fits.shape.few_regions where
 
 -- what is kept true, of what contracts see
 pub seen : (walked : Walked) (script : Script) (report : Report) (tracks : List Tracked) (commands : List (List ℕ))
-    (places : List ColumnPlaces) (printed : Printed) (finals : Finals) → record { script = script; report = report } ≡ walked
-    → IsSubject script report tracks commands places printed finals
-    → IsSubject walked.script walked.report tracks commands places printed finals
-seen walked script report tracks commands places printed finals is kept =
-    subst (λ (w : Walked). IsSubject w.script w.report tracks commands places printed finals) is kept
+    (places : List ColumnPlaces) (printed : Printed) (rows : RowPlaces) → record { script = script; report = report } ≡ walked
+    → IsSubject script report tracks commands places printed rows
+    → IsSubject walked.script walked.report tracks commands places printed rows
+seen walked script report tracks commands places printed rows is kept =
+    subst (λ (w : Walked). IsSubject w.script w.report tracks commands places printed rows) is kept
 
 module _ (script : Script) (report : Report) (tracks : List Tracked) (may : MayWalk script report tracks) where
   abbrev Clients : ℕ

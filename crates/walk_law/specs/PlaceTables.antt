@@ -11,8 +11,6 @@ use Rattle.col_core.specs.Log.{places_of}
 use Rattle.script_text.specs.declared.script.Command.{Command}
 use Rattle.report_text.specs.declared.report.RowReport.{RowReport}
 use Rattle.run_rules.specs.Telling.{is_step_of}
-use Rattle.walk_law.specs.declared.finals.Finals.{Finals}
-use Rattle.walk_law.specs.declared.finals.RowId.{RowId}
 use Rattle.walk_law.specs.declared.printed.Print.{Print}
 use Rattle.walk_law.specs.declared.printed.Printed.{Printed}
 use Rattle.walk_law.specs.declared.step_table.StepTable.{StepTable}
@@ -98,17 +96,3 @@ row_with region id rows = find (λ (r : RowReport). same_row region id r.region 
 abbrev pub final_of : Option RowReport → ℕ
 final_of None = 0
 final_of (Some r) = final_number r.last
-
--- a number that is kept; 0 where none is
-abbrev pub number_or : Option (RowId × ℕ) → ℕ
-number_or None = 0
-number_or (Some found) = found.1
-
--- the number that is kept for a row
-abbrev pub final_in : Finals → ℕ → Id → ℕ
-final_in finals region id =
-    number_or (find (λ (e : RowId × ℕ). same_row e.0.region e.0.id region id) finals.by_row.entries)
-
--- those of the first row of each region and id
-abbrev pub AreFinals : List RowReport → Finals → Type 0
-AreFinals rows finals = (region : ℕ) (id : Id) → final_in finals region id ≡ final_of (row_with region id rows)

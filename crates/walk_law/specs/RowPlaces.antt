@@ -4,7 +4,7 @@ use Rattle.std.specs.List.{find}
 use Rattle.std.specs.Option.{option_map}
 use Rattle.log_node.specs.declared.ids.Id.{Id}
 use Rattle.report_text.specs.declared.report.RowReport.{RowReport}
-use Rattle.walk_law.specs.declared.finals.RowId.{RowId}
+use Rattle.walk_law.specs.declared.row_places.RowId.{RowId}
 use Rattle.walk_law.specs.declared.row_places.RowPlaces.{RowPlaces}
 use Rattle.walk_law.specs.PlaceTables.{row_with, same_row}
 

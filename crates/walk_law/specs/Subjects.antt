@@ -7,9 +7,10 @@ use Rattle.report_text.specs.declared.report.ColumnReport.{ColumnReport}
 use Rattle.run_rules.specs.Telling.{is_among, journal_among, places_shown}
 use Rattle.column_track.specs.Tracks.{Tracked}
 use Rattle.walk_law.specs.declared.column_places.ColumnPlaces.{ColumnPlaces}
-use Rattle.walk_law.specs.declared.finals.Finals.{Finals}
 use Rattle.walk_law.specs.declared.printed.Printed.{Printed}
-use Rattle.walk_law.specs.PlaceTables.{AreFinals, AreOfClients, AreOfMakers, AreSteps, is_printed}
+use Rattle.walk_law.specs.declared.row_places.RowPlaces.{RowPlaces}
+use Rattle.walk_law.specs.PlaceTables.{AreOfClients, AreOfMakers, AreSteps, is_printed}
+use Rattle.walk_law.specs.RowPlaces.{AreRowPlaces}
 use Rattle.walk_law.specs.Walking.{MayWalk}
 
 -- the places of own events of a journal, by client, and of the own steps of each id
@@ -36,9 +37,9 @@ ArePrints script report table = (client : ℕ) → client < length script.shape.
 
 -- what is kept true of what is looked up
 pub record IsSubject (script : Script) (report : Report) (tracks : List Tracked) (commands : List (List ℕ))
-    (places : List ColumnPlaces) (printed : Printed) (finals : Finals) : Type 0 where
+    (places : List ColumnPlaces) (printed : Printed) (rows : RowPlaces) : Type 0 where
   pub may : MayWalk script report tracks
   pub commands_are : AreOfClients (length script.shape.homes) script.commands commands
   pub places_are : AreAllPlaces (length script.shape.homes) report.columns places
   pub printed_are : ArePrints script report printed
-  pub finals_are : AreFinals report.rows finals
+  pub rows_are : AreRowPlaces report.rows rows

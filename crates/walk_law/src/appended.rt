@@ -1,18 +1,20 @@
 // What a client keeps goes on behind appends.
-ghost use Rattle.std.specs.Prelude.{◌≡◌, ◌+◌, ◌<◌, ◌≤◌, ◌^◌, List, OnOk, length};
+ghost use Rattle.std.specs.Prelude.{◌≡◌, ◌+◌, ◌<◌, ◌≤◌, ◌^◌, List, OnOk, Some, length};
 ghost use Rattle.col_core.specs.Keeping.{Kept, with_made};
 ghost use Rattle.lawful_run.specs.Callers.{caller_of};
 ghost use Rattle.report_text.specs.declared.report.ReplyLine.{ReplyLine};
+ghost use Rattle.report_text.specs.declared.report.RowReport.{RowReport};
 ghost use Rattle.run_rules.specs.Told.{Untold, is_several, kept_after_append, kept_after_row, kept_after_stop, kept_where, stamp_told};
 ghost use Rattle.run_rules.specs.Telling.{replies_to};
 ghost use Rattle.walk_law.specs.Behind.{LeavesOutSteps, steps_untold};
 ghost use Rattle.walk_law.specs.Keepings.{IsCounted, KeepsCount};
+ghost use Rattle.walk_law.specs.PlaceTables.{row_with};
 ghost use Rattle.walk_law.specs.Walking.{HasFew, log_walked};
 
 use crate::going_on::events_until;
 use crate::keeping::Keeping;
 use crate::subject::Subject;
-use log_node::Id;
+use log_node::{ColourMark, Id};
 use report_text::PointPiece;
 use script_text::What;
 use std::alloc::{AllocError, Global};
@@ -41,6 +43,31 @@ impl Keeping {
         }
     }
 
+    // With the own steps of the id of a row made: they stand in the colours of its marks alone.
+    fn make_steps_of(
+        &mut self,
+        alloc: Global,
+        subject: &Subject<'_>,
+        client: u8,
+        count: u64,
+        marks: &[ColourMark],
+    ) -> Result<(), AllocError>
+        requires walker { client < length subject.now.report.clients }
+        requires row { (r : RowReport) × (row_with (caller_of subject.now.script client).own (record { client = client; count = count })
+            subject.now.report.rows ≡ Some r) × (marks.now ≡ r.marks) }
+        ensures kept { (replies : List ReplyLine) (kept : Kept) → IsCounted replies kept self.old → OnOk result (IsCounted replies
+            (with_made kept (caller_of subject.now.script client).own (steps_untold subject.now client count)) self.new) }
+        ensures count { OnOk result (KeepsCount self.old self.new) }
+    {
+        subject.agrees();
+        let own = subject.own(client);
+        for mark in marks {
+            let places = subject.steps(alloc, client, mark.colour, count)?;
+            self.places(own, mark.colour, places.as_slice())?;
+        }
+        Ok(())
+    }
+
     // With the own steps of its next id made.
     fn make_steps(
         &mut self,
@@ -56,11 +83,10 @@ impl Keeping {
         subject.agrees();
         let own = subject.own(client);
         let count = self.ids();
-        for colour in 0..subject.script().shape.colours {
-            let places = subject.steps(alloc, client, colour, count)?;
-            self.places(own, colour, places.as_slice())?;
+        match subject.row(own, Id { client, count }) {
+            Some(row) => self.make_steps_of(alloc, subject, client, count, row.marks.as_slice()),
+            None => Ok(()),
         }
-        Ok(())
     }
 
     // Behind an append that began a row, and does not stand.

@@ -1,5 +1,5 @@
 // What a client keeps, counted up.
-ghost use Rattle.std.specs.Prelude.{◌≡◌, ◌+◌, ◌<◌, ◌^◌, ◌++◌, List, IfOk, OnOk, Option, Some, None, length, slice_get};
+ghost use Rattle.std.specs.Prelude.{◌≡◌, ◌+◌, ◌<◌, ◌^◌, ◌++◌, ℕ, List, IfOk, OnOk, Option, Some, None, length, slice_get, slice_index};
 ghost use Rattle.log_node.specs.declared.forms.Version.{Version};
 ghost use Rattle.col_core.specs.Keeping.{Kept, kept_after_look, nothing_kept, seen_past, updated, updated_at, with_floor, with_read};
 ghost use Rattle.report_text.specs.declared.report.ReplyLine.{ReplyLine};
@@ -103,11 +103,29 @@ impl Keeping {
         self.seen[cell(region, colour)]
     }
 
+    /// The same of each column of a region, by colour.
+    pub(crate) fn seen_in(&self, region: u8) -> &[u128]
+        requires { region < MAX_REGIONS }
+        ensures many { length result.now ≡ MAX_COLOURS }
+        ensures each { (colour : ℕ) → colour < MAX_COLOURS → slice_index result.now colour ≡ seen_at self.now region colour }
+    {
+        let from = cell(region, 0);
+        &self.seen[from..from + MAX_COLOURS as usize]
+    }
+
     /// How many nodes it knows to stand in its region's line of a colour.
     pub fn known(&self, colour: u8) -> u128
         ensures { result ≡ known_at self.now colour }
     {
         self.known[colour as usize]
+    }
+
+    /// The same of each colour that a log can have.
+    pub(crate) fn known_in_all(&self) -> &[u128]
+        ensures many { length result.now ≡ MAX_COLOURS }
+        ensures each { (colour : ℕ) → colour < MAX_COLOURS → slice_index result.now colour ≡ known_at self.now colour }
+    {
+        &self.known[..MAX_COLOURS as usize]
     }
 
     /// The places of the events of a column that its commands made, in their order.

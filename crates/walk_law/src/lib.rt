@@ -12,7 +12,6 @@ mod could_say;
 mod eleventh;
 mod entering;
 mod fifth;
-mod finals;
 mod first;
 mod fourth;
 mod fronts;

@@ -1,8 +1,9 @@
 // What a client has seen of its region's columns, from part to part of an answer.
-ghost use Rattle.std.specs.Prelude.{◌≡◌, ◌≢◌, ◌+◌, ◌<◌, ◌≤◌, ℕ, IfOk, None, length, slice_index, take};
+ghost use Rattle.std.specs.Prelude.{◌≡◌, ◌≢◌, ◌+◌, ◌<◌, ◌≤◌, ℕ, IfOk, None, Some, length, slice_index, take};
 ghost use Rattle.std.specs.List.{All};
 ghost use Rattle.col_core.specs.History.{line};
 ghost use Rattle.col_core.specs.Keeping.{Kept, kept_after_look, kept_after_point, kept_after_single, seen_after, seen_past, updated, with_made};
+ghost use Rattle.report_text.specs.declared.report.RowReport.{RowReport};
 ghost use Rattle.lawful_run.specs.Appends.{kept_after_points};
 ghost use Rattle.lawful_run.specs.Callers.{Caller, caller_of};
 ghost use Rattle.lawful_run.specs.Reads.{events_until, kept_after_piece, kept_after_place};
@@ -12,6 +13,7 @@ ghost use Rattle.run_rules.specs.Naming.{IsRaise, NamesAppend, NamesLook, NamesP
 ghost use Rattle.walk_law.specs.Behind.{LeavesOutSteps, steps_untold};
 ghost use Rattle.walk_law.specs.Fourth.{AndThen, ArePointsLow, AreRaisesLow, AreSyncsLow, Sees};
 ghost use Rattle.walk_law.specs.Keepings.{known_at, seen_at};
+ghost use Rattle.walk_law.specs.PlaceTables.{row_with};
 ghost use Rattle.walk_law.specs.Walking.{journal_walked, log_walked};
 
 use crate::going_on::events_until;
@@ -19,7 +21,7 @@ use crate::keeping::Keeping;
 use crate::made::seen_past;
 use crate::naming::{Kind, are_unseen, is_look, is_named};
 use crate::subject::Subject;
-use log_node::{At, MAX_COLOURS, MAX_REGIONS};
+use log_node::{At, ColourMark, Id, MAX_COLOURS, MAX_REGIONS};
 use report_text::{PointPiece, RaisePiece, SyncPiece};
 use std::alloc::{AllocError, Global};
 use std::marker::Model;
@@ -72,10 +74,8 @@ impl OwnSeen {
     {
         let mut seen = [0; COLOURS];
         let mut known = [0; COLOURS];
-        for colour in 0..MAX_COLOURS {
-            seen[colour as usize] = keeping.seen(region, colour);
-            known[colour as usize] = keeping.known(colour);
-        }
+        seen.as_mut_slice().copy_from_slice(keeping.seen_in(region));
+        known.as_mut_slice().copy_from_slice(keeping.known_in_all());
         OwnSeen {
             client,
             region,
@@ -261,6 +261,38 @@ impl OwnSeen {
         true
     }
 
+    // Whether no own step of the id of a row that no reply prints was seen before; where none was, the other sees them. They stand
+    // in the colours of its marks alone.
+    fn names_steps_of(
+        &self,
+        alloc: Global,
+        subject: &Subject<'_>,
+        count: u64,
+        marks: &[ColourMark],
+        behind: &mut OwnSeen,
+    ) -> Result<bool, AllocError>
+        requires client { self.now.client < length subject.now.report.clients }
+        requires row { (r : RowReport) × (row_with (caller_of subject.now.script self.now.client).own
+            (record { client = self.now.client; count = count }) subject.now.report.rows ≡ Some r) × (marks.now ≡ r.marks) }
+        ensures { (kept after : Kept) (untold : Untold) → Sees (caller_of subject.now.script self.now.client) kept self.now
+            → Sees (caller_of subject.now.script self.now.client) after behind.old
+            → count ≡ kept.ids → LeavesOutSteps subject.now self.now.client count untold
+            → IfOk result (λ b. AndThen b
+            (NamesSteps (log_walked subject.now) (caller_of subject.now.script self.now.client) kept untold.places)
+            (Sees (caller_of subject.now.script self.now.client)
+            (with_made after (caller_of subject.now.script self.now.client).own untold.places) behind.new)) }
+    {
+        subject.agrees();
+        for mark in marks {
+            let steps = subject.steps(alloc, self.client, mark.colour, count)?;
+            if !are_unseen(steps.as_slice(), self.seen(mark.colour)) {
+                return Ok(false);
+            }
+            behind.see_past(mark.colour, steps.as_slice());
+        }
+        Ok(true)
+    }
+
     /// Whether no own step of the id of this count that no reply prints was seen before; where none was, the other sees them.
     pub(crate) fn names_steps(
         &self,
@@ -279,14 +311,17 @@ impl OwnSeen {
             (with_made after (caller_of subject.now.script self.now.client).own untold.places) behind.new)) }
     {
         subject.agrees();
-        for colour in 0..subject.script().shape.colours {
-            let steps = subject.steps(alloc, self.client, colour, count)?;
-            if !are_unseen(steps.as_slice(), self.seen(colour)) {
-                return Ok(false);
+        let own = subject.own(self.client);
+        let id = Id {
+            client: self.client,
+            count,
+        };
+        match subject.row(own, id) {
+            Some(row) => {
+                self.names_steps_of(alloc, subject, count, row.marks.as_slice(), behind)
             }
-            behind.see_past(colour, steps.as_slice());
+            None => Ok(true),
         }
-        Ok(true)
     }
 
     /// Whether an append that stands names what is there; where it does, goes on behind it. The count is that of its id.

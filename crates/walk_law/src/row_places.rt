@@ -5,11 +5,17 @@ ghost use Rattle.log_node.specs.declared.ids.Id.{Id as NodeId};
 ghost use Rattle.walk_law.specs.PlaceTables.{same_row};
 ghost use Rattle.walk_law.specs.RowPlaces.{AreRowPlaces, place_in, row_at};
 
-use crate::finals::RowId;
 use log_node::Id;
 use report_text::RowReport;
 use std::alloc::{AllocError, Global};
 use std::collections::BTreeMap;
+
+/// A row by its region and its id.
+#[derive(Clone, Copy, Debug, PartialEq, Eq, PartialOrd, Ord)]
+pub(crate) struct RowId {
+    region: u8,
+    id: Id,
+}
 
 /// At which place each row stands among all, by its region and its id.
 #[derive(Drop)]

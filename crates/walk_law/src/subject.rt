@@ -1,5 +1,6 @@
 // What a walk over a report's commands looks up.
 ghost use Rattle.std.specs.Prelude.{◌≡◌, ◌<◌, ◌^◌, IfOk, List, Some, length, slice_get};
+ghost use Rattle.std.specs.Option.{option_copied};
 ghost use Rattle.lawful_run.specs.Callers.{caller_of, commands_of};
 ghost use Rattle.run_rules.specs.Told.{stamp_of};
 ghost use Rattle.run_rules.specs.Telling.{replies_to};
@@ -12,13 +13,13 @@ ghost use Rattle.column_track.specs.Tracks.{Tracked};
 
 use crate::column_places::{ColumnPlaces, places_of_columns};
 use crate::copies::column_place;
-use crate::finals::Finals;
 use crate::place_lists::{PlaceLists, commands_by_client};
 use crate::printed::Printed;
+use crate::row_places::RowPlaces;
 use col_core::Entry;
 use column_track::Track;
-use log_node::{Id, ListOf};
-use report_text::{ReplyLine, Report};
+use log_node::{Id, ListOf, Outcome};
+use report_text::{ReplyLine, Report, RowReport};
 use script_text::{Command, Script};
 use std::alloc::{AllocError, Global};
 use std::marker::Model;
@@ -33,7 +34,7 @@ pub struct Subject<'r> {
     commands: PlaceLists,
     places: Vec<ColumnPlaces>,
     printed: Printed,
-    finals: Finals,
+    rows: RowPlaces,
 }
 
 impl<'r> Model for Subject<'r> {
@@ -44,7 +45,7 @@ impl<'r> Model for Subject<'r> {
 
     ghost view = { λ s. record { script = s.script.now; report = s.report.now } };
 
-    ghost invariant = { λ s. IsSubject s.script.now s.report.now s.tracks.now s.commands s.places.items s.printed s.finals };
+    ghost invariant = { λ s. IsSubject s.script.now s.report.now s.tracks.now s.commands s.places.items s.printed s.rows };
 }
 
 impl<'r> Subject<'r> {
@@ -62,7 +63,7 @@ impl<'r> Subject<'r> {
         let commands = commands_by_client(alloc, clients, script.commands.as_slice())?;
         let places = places_of_columns(alloc, clients, report.columns.as_slice())?;
         let printed = Printed::of_report(alloc, script, &commands, report)?;
-        let finals = Finals::of_rows(alloc, report.rows.as_slice())?;
+        let rows = RowPlaces::of_rows(alloc, report.rows.as_slice())?;
         Ok(Subject {
             script,
             report,
@@ -70,7 +71,7 @@ impl<'r> Subject<'r> {
             commands,
             places,
             printed,
-            finals,
+            rows,
         })
     }
 
@@ -92,7 +93,7 @@ impl<'r> Subject<'r> {
     pub fn tracks(&self) -> &'r [Track]
         ensures { MayWalk self.now.script self.now.report result.now }
     {
-        let _may = &self.finals;
+        let _may = &self.rows;
         self.tracks
     }
 
@@ -101,14 +102,14 @@ impl<'r> Subject<'r> {
         ensures may { (tracks : List Tracked) × MayWalk self.now.script self.now.report tracks }
         ensures clients { length self.now.report.clients ≡ length self.now.script.shape.homes }
     {
-        let _may = &self.finals;
+        let _may = &self.rows;
     }
 
     /// How many clients there are.
     pub fn clients(&self) -> u8
         ensures { result ≡ length self.now.report.clients }
     {
-        let _may = &self.finals;
+        let _may = &self.rows;
         self.report.clients.len() as u8
     }
 
@@ -118,7 +119,7 @@ impl<'r> Subject<'r> {
         ensures own { result ≡ (caller_of self.now.script client).own }
         ensures within { result < self.now.script.shape.regions }
     {
-        let _may = &self.finals;
+        let _may = &self.rows;
         self.script.shape.homes.as_slice()[client as usize]
     }
 
@@ -155,7 +156,7 @@ impl<'r> Subject<'r> {
         requires { IsStepOf self.now client place }
         ensures { slice_get (replies_to self.now.report client) place ≡ Some result.now }
     {
-        let _may = &self.finals;
+        let _may = &self.rows;
         &self.replies(client)[place]
     }
 
@@ -182,7 +183,7 @@ impl<'r> Subject<'r> {
     pub fn journal(&self, region: u8, colour: u8) -> &'r [Entry]
         ensures { result.now ≡ journal_walked self.now region colour }
     {
-        let _may = &self.finals;
+        let _may = &self.rows;
         match self.column(region, colour) {
             Some(at) => self.report.columns.as_slice()[at].journal.as_slice(),
             None => &[],
@@ -197,7 +198,7 @@ impl<'r> Subject<'r> {
         ensures regions { result.now.regions ≡ self.now.script.shape.regions }
         ensures journal { result.now.journal ≡ journal_walked self.now region colour }
     {
-        let _may = &self.finals;
+        let _may = &self.rows;
         &self.tracks[column_place(self.script.shape.colours, region, colour)]
     }
 
@@ -243,11 +244,24 @@ impl<'r> Subject<'r> {
         Ok(places)
     }
 
+    /// A region's row with this id, where there is one.
+    pub(crate) fn row(&self, region: u8, id: Id) -> Option<&'r RowReport>
+        ensures { option_copied result ≡ row_with region id self.now.report.rows }
+    {
+        self.rows.row(self.report.rows.as_slice(), region, id)
+    }
+
     /// The final number of a region's row with this id; 0 where there is none, or it is not final.
     pub fn final_number(&self, region: u8, id: Id) -> u64
         ensures { result ≡ final_of (row_with region id self.now.report.rows) }
     {
-        self.finals.number(region, id)
+        match self.row(region, id) {
+            Some(row) => match row.last {
+                Outcome::Final(number) => number,
+                Outcome::Open | Outcome::Gone(_) => 0,
+            },
+            None => 0,
+        }
     }
 
     /// The stamp of the event at a place of a column; 0 where there is none.

@@ -23,6 +23,13 @@ column r y
 = clock 0 line - queue - cut 0 base 0
 ";
 
+/// What is written at each word.
+const WRITTEN: [(&str, &[u8]); 3] = [
+    ("step", REPORT),
+    ("run", REPORT),
+    ("check", b"refused: report: missing\n"),
+];
+
 // In how many pieces of 7 bytes these are read and written.
 fn pieces(bytes: &[u8]) -> usize {
     bytes.len().div_ceil(7)
@@ -31,7 +38,7 @@ fn pieces(bytes: &[u8]) -> usize {
 #[test]
 fn whichever_read_fails_nothing_is_written(rt: HostRuntime) -> Result<(), Fail> {
     let script = script_of(rt.alloc(), ONE_REGION, LINES)?;
-    for word in ["step", "run"] {
+    for word in ["step", "run", "check"] {
         // The last read finds the end.
         for number in 0..=pieces(script.as_bytes()) {
             let failing = [number as u64];
@@ -46,12 +53,12 @@ fn whichever_read_fails_nothing_is_written(rt: HostRuntime) -> Result<(), Fail> 
 #[test]
 fn whichever_write_fails_what_went_before_is_written(rt: HostRuntime) -> Result<(), Fail> {
     let script = script_of(rt.alloc(), ONE_REGION, LINES)?;
-    for word in ["step", "run"] {
-        for number in 0..pieces(REPORT) {
+    for (word, text) in WRITTEN {
+        for number in 0..pieces(text) {
             let failing = [number as u64];
             let (status, sink) = run_over(rt.alloc(), &rt, word, script.as_bytes(), &[], &failing)?;
             assert_eq!(rt; status, Status::WriteFault, "{number}");
-            assert_eq!(rt; Some(sink.bytes()), REPORT.get(..number.wrapping_mul(7)));
+            assert_eq!(rt; Some(sink.bytes()), text.get(..number.wrapping_mul(7)));
         }
     }
     Ok(())
@@ -71,7 +78,7 @@ fn run_without_end<R: Threads + Wait + Sync>(
 
 #[test]
 fn a_source_without_end_is_too_long(rt: HostRuntime) -> Result<(), Fail> {
-    for word in ["step", "run"] {
+    for word in ["step", "run", "check"] {
         let words = vec![in rt.alloc(); String::from_str(rt.alloc(), word)?]?;
         let (status, sink) = run_without_end(rt.alloc(), &rt, &words)?;
         assert_eq!(rt; status, Status::Refused);

@@ -17,7 +17,7 @@ const LOADS: [(&str, &str); 3] = [
 ];
 
 /// Words that ask for nothing.
-const WRONG: [&[&str]; 17] = [
+const WRONG: [&[&str]; 19] = [
     &[],
     &["fly"],
     &["runs"],
@@ -35,6 +35,8 @@ const WRONG: [&[&str]; 17] = [
     &["load", "99999999999"],
     &["load", "1", "1"],
     &["step", "1"],
+    &["checks"],
+    &["check", "1"],
 ];
 
 /// Counts how often it is passed.
@@ -50,7 +52,7 @@ impl Gate for Counting {
 }
 
 /// Does what the words ask over a source and a sink of which these writes fail.
-fn ask<R: Threads + Wait + Sync, S: Source, G: Gate>(
+pub fn ask<R: Threads + Wait + Sync, S: Source, G: Gate>(
     alloc: Global,
     rt: &R,
     asked: &[&str],

@@ -95,7 +95,7 @@ fn widest(alloc: Global, lines: &str) -> Result<String, AllocError> {
 }
 
 /// How often the bytes have this text.
-fn count_in(bytes: &[u8], text: &[u8]) -> usize {
+pub fn count_in(bytes: &[u8], text: &[u8]) -> usize {
     memmem::find_iter(bytes, text).count()
 }
 

@@ -1,40 +1,36 @@
-use Rattle.std.proofs.Common.{◌∙◌, ℕ, List, ap, arith, inr, rules, subst}
-use Rattle.col_core.specs.Keeping.{Kept, with_made}
+use Rattle.std.proofs.Common.{◌≡◌, ◌∙◌, ℕ, subst, sym}
+use Rattle.std.specs.Prelude.{OnOk, Some, None}
+use Rattle.log_node.specs.declared.ids.Id.{Id}
+use Rattle.col_core.specs.Keeping.{with_made}
 use Rattle.lawful_run.specs.Callers.{caller_of}
-use Rattle.lawful_run.specs.Moves.{with_places}
-use Rattle.script_text.specs.declared.script.Script.{Script}
 use Rattle.walk_law.specs.Behind.{steps_untold}
 use Rattle.walk_law.specs.Keepings.{IsCounted}
-use Rattle.walk_law.proofs.BehindLemmas.{steps_none}
-use Rattle.walk_law.proofs.MadeLemmas.{first_places, made_all, made_more}
-use Rattle.walk_law.proofs.SubjectLemmas.{column_none}
+use Rattle.walk_law.specs.PlaceTables.{row_with}
+use Rattle.walk_law.proofs.RowSteps.{none_made}
 use Rattle.walk_law.proofs.keeping.Keeping.make_steps.Goals as goal
 
-pub loop-colour-preserved : goal.loop-colour-preserved
-loop-colour-preserved c = record {
-  kept = λ replies kept s.
-      let walked = c.args.subject.now in
-      let own = (caller_of walked.script c.args.client).own in
-      let places = steps_untold walked c.args.client kept.ids in
-      let new = c.places-in-loop-colour.new.self in
-      let before : Kept = with_made kept own (first_places c.loop-colour.colour places) in
-      let there = c.in_ok-places-2.ensures.kept replies before (c.loop-colour.invariant.kept replies kept s) in
-      let listed = c.as_slice.ensures ∙ (c.in_ok-places.ensures
-      ∙ ap (λ (n : ℕ). steps_untold walked c.args.client n c.loop-colour.colour) (c.ids-count.ensures ∙ s.ids)) in
-      made_more replies kept own new places c.loop-colour.colour
-      (subst (λ (l : List ℕ). IsCounted replies (with_places before own c.loop-colour.colour l) new) listed
-      (subst (λ (o : ℕ). IsCounted replies (with_places before o c.loop-colour.colour c.as_slice.result.now) new) c.own-own.ensures.own there));
-  count = search rules;
-}
+pub make_steps_of-requires-clause-row : goal.make_steps_of-requires-clause-row
+make_steps_of-requires-clause-row c =
+    let walked = c.args.subject.now in
+    let id : Id = record { client = c.args.client; count = c.ids-count.result } in (
+      c.in-Some.row.now,
+      subst (λ (n : ℕ). row_with n id walked.report.rows ≡ Some c.in-Some.row.now) c.own-own.ensures.own (sym c.in-Some.ensures),
+      c.as_slice.ensures,
+    )
 
-pub returns-clause-kept : goal.returns-clause-kept
-returns-clause-kept c replies kept s =
+pub returns-in-Some-clause-kept : goal.returns-in-Some-clause-kept
+returns-in-Some-clause-kept c = λ replies kept s.
+    let walked = c.args.subject.now in
+    subst (λ (n : ℕ). OnOk c.make_steps_of.result (IsCounted replies (with_made kept (caller_of walked.script c.args.client).own
+    (steps_untold walked c.args.client n)) c.make_steps_of.new.self)) (c.ids-count.ensures ∙ s.ids)
+    (c.make_steps_of.ensures.kept replies kept s)
+
+pub returns-in-None-clause-kept : goal.returns-in-None-clause-kept
+returns-in-None-clause-kept c = λ replies kept s.
     let walked = c.args.subject.now in
     let may = c.agrees.ensures.may in
-    let own = (caller_of walked.script c.args.client).own in
-    let ge = c.loop-colour-test.false in
-    let end = ap (λ (s : Script). s.shape.colours) c.script.ensures in
-    made_all replies kept own c.loop-colour.self (steps_untold walked c.args.client kept.ids) c.loop-colour.colour
-    (λ k le low. steps_none walked c.args.client kept.ids k
-    (column_none walked.script walked.report may.0 may.1 own k (inr (omega (arith, ge, end, le)))))
-    (c.loop-colour.invariant.kept replies kept s)
+    let none = subst (λ (n : ℕ). row_with n (record { client = c.args.client; count = kept.ids }) walked.report.rows ≡ None)
+    c.own-own.ensures.own
+    (subst (λ (n : ℕ). row_with c.own-own.result (record { client = c.args.client; count = n }) walked.report.rows ≡ None)
+    (c.ids-count.ensures ∙ s.ids) (sym c.in-None.ensures)) in
+    none_made walked may.0 may.1 c.args.client c.requires kept.ids none replies kept c.args.self.now s

@@ -9,7 +9,7 @@ use Rattle.walk_law.proofs.subject.Subject.command.Goals as goal
 pub offset_bounds-places-place : goal.offset_bounds-places-place
 offset_bounds-places-place c =
     let inv = seen c.args.self.now c.self.inside.script.now c.self.inside.report.now c.self.inside.tracks.now c.self.inside.commands
-    c.self.inside.places.items c.self.inside.printed c.self.inside.finals c.self.view_is c.self.invariant in
+    c.self.inside.places.items c.self.inside.printed c.self.inside.rows c.self.view_is c.self.invariant in
     let of = commands_count c.args.self.now.script c.args.self.now.report c.self.inside.tracks.now inv.may c.self.inside.commands
     inv.commands_are c.args.client c.requires.walker c.places.result.now c.places.ensures in
     let few = commands_few c.args.self.now.script c.args.self.now.report c.self.inside.tracks.now inv.may c.self.inside.commands
@@ -20,7 +20,7 @@ offset_bounds-places-place c =
 pub bounds-places-place : goal.bounds-places-place
 bounds-places-place c =
     let inv = seen c.args.self.now c.self.inside.script.now c.self.inside.report.now c.self.inside.tracks.now c.self.inside.commands
-    c.self.inside.places.items c.self.inside.printed c.self.inside.finals c.self.view_is c.self.invariant in
+    c.self.inside.places.items c.self.inside.printed c.self.inside.rows c.self.view_is c.self.invariant in
     let of = commands_count c.args.self.now.script c.args.self.now.report c.self.inside.tracks.now inv.may c.self.inside.commands
     inv.commands_are c.args.client c.requires.walker c.places.result.now c.places.ensures in
     let there = c.requires.there in
@@ -29,7 +29,7 @@ bounds-places-place c =
 pub offset_bounds-as_slice-at : goal.offset_bounds-as_slice-at
 offset_bounds-as_slice-at c =
     let inv = seen c.args.self.now c.self.inside.script.now c.self.inside.report.now c.self.inside.tracks.now c.self.inside.commands
-    c.self.inside.places.items c.self.inside.printed c.self.inside.finals c.self.view_is c.self.invariant in
+    c.self.inside.places.items c.self.inside.printed c.self.inside.rows c.self.view_is c.self.invariant in
     let at = command_at c.args.self.now.script c.args.self.now.report c.self.inside.tracks.now inv.may c.self.inside.commands
     inv.commands_are c.args.client c.requires.walker c.places.result.now c.places.ensures c.args.place c.requires.there 0 in
     let within = slice_get_within c.args.self.now.script.commands (slice_index_or c.places.result.now c.args.place 0) at.0 at.1 in
@@ -39,7 +39,7 @@ offset_bounds-as_slice-at c =
 pub bounds-as_slice-at : goal.bounds-as_slice-at
 bounds-as_slice-at c =
     let inv = seen c.args.self.now c.self.inside.script.now c.self.inside.report.now c.self.inside.tracks.now c.self.inside.commands
-    c.self.inside.places.items c.self.inside.printed c.self.inside.finals c.self.view_is c.self.invariant in
+    c.self.inside.places.items c.self.inside.printed c.self.inside.rows c.self.view_is c.self.invariant in
     let at = command_at c.args.self.now.script c.args.self.now.report c.self.inside.tracks.now inv.may c.self.inside.commands
     inv.commands_are c.args.client c.requires.walker c.places.result.now c.places.ensures c.args.place c.requires.there 0 in
     let within = slice_get_within c.args.self.now.script.commands (slice_index_or c.places.result.now c.args.place 0) at.0 at.1 in
@@ -50,7 +50,7 @@ bounds-as_slice-at c =
 pub returns : goal.returns
 returns c =
     let inv = seen c.args.self.now c.self.inside.script.now c.self.inside.report.now c.self.inside.tracks.now c.self.inside.commands
-    c.self.inside.places.items c.self.inside.printed c.self.inside.finals c.self.view_is c.self.invariant in
+    c.self.inside.places.items c.self.inside.printed c.self.inside.rows c.self.view_is c.self.invariant in
     let at = command_at c.args.self.now.script c.args.self.now.report c.self.inside.tracks.now inv.may c.self.inside.commands
     inv.commands_are c.args.client c.requires.walker c.places.result.now c.places.ensures c.args.place c.requires.there 0 in
     let commands = subst (λ (w : Walked). c.as_slice.result.now ≡ w.script.commands) c.self.view_is c.as_slice.ensures in

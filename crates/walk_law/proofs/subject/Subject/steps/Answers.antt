@@ -14,7 +14,7 @@ printed_is : (c : goal.Joined-not-has) → c.has.result ≡ is_among (get_or c.a
     (places_printed c.args.self.now c.args.client c.own-own.result c.args.colour)
 printed_is c =
     let inv = seen c.args.self.now c.self.inside.script.now c.self.inside.report.now c.self.inside.tracks.now c.self.inside.commands
-    c.self.inside.places.items c.self.inside.printed c.self.inside.finals c.self.view_is c.self.invariant in
+    c.self.inside.places.items c.self.inside.printed c.self.inside.rows c.self.view_is c.self.invariant in
     let many = clients_many c.args.self.now.script c.args.self.now.report c.self.inside.tracks.now inv.may in
     let walker = c.requires in
     c.has.ensures

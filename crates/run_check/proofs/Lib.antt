@@ -1,0 +1,3 @@
+mod OneVerdict
+mod StartLemmas
+mod VerdictLemmas
