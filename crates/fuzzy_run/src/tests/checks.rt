@@ -120,6 +120,229 @@ column r x
     ),
 ];
 
+/// Scripts with reports behind them that break a rule, and which. (The second, the sixth and the ninth are broken above.)
+const BROKEN: [(&str, &str); 11] = [
+    // A command without a reply.
+    (
+        "fuzzylog 1
+regions e
+colours x
+client a e
+begin
+a sync x
+report 1
+client a
+column e x
+= clock 0 line - queue - cut 0 base 0
+",
+        "broken L1\n",
+    ),
+    // A proposal whose row has no mark for it.
+    (
+        "fuzzylog 1
+regions e
+colours x y
+rows 1
+client a e
+client b e
+begin
+a append x,y s
+report 1
+client a
+8 append ok 1 row 0 x!0@0 y!0@0
+client b
+row e a.0 a.0 x=- y=1 open
+column e x
+0 a propose a.0 floor 0 wants 0 stamp 1
+1 a settle a.0 final 1
+= clock 1 line a.0:1 queue - cut 1 base 0
+column e y
+0 a propose a.0 floor 0 wants 0 stamp 1
+1 a settle a.0 final 1
+= clock 1 line a.0:1 queue - cut 1 base 0
+",
+        "broken L3\n",
+    ),
+    // One event is named by two trims.
+    (
+        "fuzzylog 1
+regions e
+colours x
+client a e
+begin
+a trim x
+a trim x
+report 1
+client a
+6 trim ok !0 base 0
+7 trim ok !0 base 0
+column e x
+0 a trim 0
+= clock 0 line - queue - cut 0 base 0
+",
+        "broken L4\n",
+    ),
+    // A node without the floor of its client.
+    (
+        "fuzzylog 1
+regions e
+colours x
+client a e
+begin
+a append x s
+a append x s
+report 1
+client a
+6 append ok 1 x!0@0
+7 append ok 2 x!1@1
+column e x
+0 a single a.0 floor 0 wants 0 stamp 1
+1 a single a.1 floor 0 wants 0 stamp 2
+= clock 2 line a.0:1,a.1:2 queue - cut 2 base 0
+",
+        "broken L5\n",
+    ),
+    // A stopped append that goes on.
+    (
+        "fuzzylog 1
+regions e
+colours x y
+rows 1
+client a e
+client b e
+begin
+a stop 1 x,y s
+report 1
+client a
+8 stop stopped 1
+client b
+row e a.0 a.0 x=1 y=- open
+column e x
+0 a propose a.0 floor 0 wants 0 stamp 1
+= clock 1 line - queue a.0:1? cut 0 base 0
+column e y
+= clock 0 line - queue - cut 0 base 0
+",
+        "broken L7\n",
+    ),
+    // What was helped is left open.
+    (
+        "fuzzylog 1
+regions e
+colours x y
+rows 1
+client a e
+client b e
+begin
+a stop 2 x,y s
+b append y t
+report 1
+client a
+8 stop stopped 2
+client b
+9 append ok 1 y!0@0
+row e a.0 a.0 x=1 y=2 open
+column e x
+0 a propose a.0 floor 0 wants 0 stamp 1
+= clock 1 line - queue a.0:1? cut 0 base 0
+column e y
+0 b single b.0 floor 0 wants 0 stamp 1
+1 b propose a.0 floor 0 wants 0 stamp 2
+= clock 2 line b.0:1 queue a.0:2? cut 1 base 0
+",
+        "broken L8\n",
+    ),
+    // A value from an empty queue.
+    (
+        "fuzzylog 1
+regions e
+colours x
+client a e
+queue o e x
+begin
+a deq o
+report 1
+client a
+7 deq ok v x!0@0 x?1/1
+column e x
+0 a single a.0 floor 0 wants 0 stamp 1
+= clock 1 line a.0:1 queue - cut 1 base 0
+",
+        "broken L10\n",
+    ),
+    // A client that is at home is refused.
+    (
+        "fuzzylog 1
+regions e
+colours x
+client a e
+map o e x
+begin
+a put o k v
+report 1
+client a
+7 put nothome e
+column e x
+= clock 0 line - queue - cut 0 base 0
+",
+        "broken L11\n",
+    ),
+    // An append that may only stand next, behind what its client has not read.
+    (
+        "fuzzylog 2
+regions e
+colours x
+client a e
+begin
+a append x s
+a only x t
+report 2
+client a
+6 append ok 1 x!0@0
+7 only ok 2 x!1@1
+column e x
+0 a single a.0 floor 0 wants 0 stamp 1
+1 a single a.1 floor 1 wants 0 stamp 2
+= clock 2 line a.0:1,a.1:2 queue - cut 2 base 0
+",
+        "broken L12\n",
+    ),
+    // A path that is not there is listed.
+    (
+        "fuzzylog 2
+regions e
+colours x
+client a e
+tree o e x
+begin
+a ls o /d
+report 2
+client a
+7 ls ok 0 - x?0 x?0/0
+column e x
+= clock 0 line - queue - cut 0 base 0
+",
+        "broken L13\n",
+    ),
+    // A peek that waits for nothing.
+    (
+        "fuzzylog 2
+regions e
+colours x
+client a e
+parts o e x
+begin
+a peek o k
+report 2
+client a
+7 peek undecided 1 x?0/0
+column e x
+= clock 0 line - queue - cut 0 base 0
+",
+        "broken L14\n",
+    ),
+];
+
 /// The first replies among the rows that hide what was done, and what is said of these rows' reports.
 const HIDING: [(&str, &str); 7] = [
     (
@@ -192,6 +415,21 @@ fn a_report_is_judged(rt: HostRuntime) -> Result<(), Fail> {
             "check",
             text.as_bytes(),
             status,
+            said.as_bytes(),
+        )?;
+    }
+    Ok(())
+}
+
+#[test]
+fn the_first_rule_that_is_broken_is_told(rt: HostRuntime) -> Result<(), Fail> {
+    for (text, said) in BROKEN {
+        leaves(
+            rt.alloc(),
+            &rt,
+            "check",
+            text.as_bytes(),
+            Status::Unlawful,
             said.as_bytes(),
         )?;
     }
