@@ -1,6 +1,8 @@
 use Rattle.std.proofs.Common.{◌≡◌, ◌∙◌, ◌++◌, ◌∷◌, [], List, ap, append-nil, append_assoc, map, sym}
 use Rattle.log_node.specs.declared.node.Node.{Node}
 use Rattle.report_text.specs.declared.report.Report.{Report}
+use Rattle.run_rules.specs.Computing.{any_decisions, finds_of}
+use Rattle.run_rules.specs.Nodes.{nodes_with}
 use Rattle.object_law.specs.AccountTables.{as_shown}
 use Rattle.object_law.specs.NodeTables.{nodes_at}
 use Rattle.object_law.proofs.AccountLemmas.{lists_none, lists_shown}
@@ -10,7 +12,7 @@ use Rattle.object_law.proofs.account_tables.show.Goals as goal
 pub loop-list-init : goal.loop-list-init
 loop-list-init c =
     ap (λ (l : List (List Node)). l ++ map (as_shown c.args.texts.now) c.into_iter-list-iterator.result.rest.items)
-    (lists_none c.in_ok-table.field-0 c.in_ok-table.ensures.many)
+    (lists_none _ c.in_ok-table.ensures.many)
 
 pub loop-list-preserved : goal.loop-list-preserved
 loop-list-preserved c =
@@ -24,7 +26,9 @@ loop-list-preserved c =
 
 pub returns : goal.returns
 returns c = λ client.
+    let walked = c.args.subject.now in
     let shown = as_shown c.args.texts.now in
+    let found = nodes_with walked.script walked.report (finds_of walked.script walked.report) any_decisions client in
     let none = none_left c.loop-list.list-iterator.rest.items (sym c.loop-list.list-iterator.rest.ok.0 ∙ c.in-None.ensures.steps.0) in
     let all : c.loop-list.table ≡ map shown c.args.nodes =
     sym (append-nil c.loop-list.table)
@@ -34,4 +38,4 @@ returns c = λ client.
     ap (λ (t : List (List Node)). nodes_at t client) all
     ∙ (lists_shown c.args.texts.now c.args.nodes client
     ∙ (ap shown (c.requires.nodes client)
-    ∙ ap (λ (report : Report). as_shown report _) c.requires.texts))
+    ∙ ap (λ (report : Report). as_shown report found) c.requires.texts))
