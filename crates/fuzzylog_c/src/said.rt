@@ -20,7 +20,7 @@ pub struct Said {
 }
 
 // The numbers of a verdict.
-fn said(verdict: Verdict) -> Said
+fn numbers_of(verdict: Verdict) -> Said
     ensures { IsTold verdict result.kind result.number }
 {
     let (kind, number) = match verdict {
@@ -43,7 +43,7 @@ pub extern "C" fn fuzzylog_check(alloc: Global, script: &[u8], report: &[u8]) ->
         × IsTold verdict result.kind result.number) }
 {
     match check_texts(alloc, script, report) {
-        Ok(verdict) => said(verdict),
+        Ok(verdict) => numbers_of(verdict),
         Err(_) => Said { kind: 6, number: 0 },
     }
 }
