@@ -206,6 +206,13 @@ def made_by(script, report):
     return made
 
 
+def helps_for_running(script, report):
+    """The events by which an append was completed whose client had not stopped, by another one."""
+    made = made_by(script, report)
+    left = {made[number] for number, reply in report.replies.items() if reply.word == "stop" and number in made}
+    return [event for _, event in report.events() if event.is_help() and event.id not in left]
+
+
 def named_by(script, report):
     """The line of the command whose reply names an event, by region, colour and place."""
     named = {}
